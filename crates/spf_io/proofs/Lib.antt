@@ -1,0 +1,5 @@
+pub mod Counts
+pub mod Each
+pub mod Exact
+pub mod Many
+pub mod Reading

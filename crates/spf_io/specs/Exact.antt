@@ -1,0 +1,6 @@
+-- An equality test that decides `≡`.
+use Rattle.std.specs.Prelude.{◌≡◌, Bool}
+use Rattle.std.specs.Bool.{Decides}
+
+abbrev pub IsExact : (A : Type 0) → (A → A → Bool) → Type 0
+IsExact A E = (a b : A) → Decides (E a b) (a ≡ b)

@@ -1,0 +1,4 @@
+pub mod Rule
+pub mod Exact
+pub mod Outside
+pub mod formers
