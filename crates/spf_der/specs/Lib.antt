@@ -7,4 +7,5 @@ pub mod Error
 pub mod Certificate
 pub mod Read
 pub mod Extensions
+pub mod Names
 pub mod Key

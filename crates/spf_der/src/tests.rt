@@ -119,7 +119,7 @@ fn certificate_writer(rt: HostRuntime) -> Result<(), Fail> {
     assert_eq!(rt; read_basic_constraints(constraints), Some(false));
     let names = view.extension_unique(&SUBJECT_ALT_NAME)?.ok_or("names")?;
     let mut uris = read_san_uri_views(names).ok_or("unreadable")?;
-    assert!(rt; uris.next_uri() == Some(URI.as_bytes()));
+    assert!(rt; uris.next_uri() == Some(URI));
     assert!(rt; uris.next_uri().is_none());
     Ok(())
 }

@@ -21,7 +21,8 @@ pub const GENERALIZED_TIME: u8 = 0x18;
 pub const SEQUENCE: u8 = 0x30;
 
 fn one(bytes: &[u8]) -> Option<(usize, &[u8])>
-    ensures { option_map (λ x. (x.0, x.1.now)) result ≡ one_octet bytes.now }
+    ensures exact { option_map (λ x. (x.0, x.1.now)) result ≡ one_octet bytes.now }
+    ensures front { IfSome result (λ x. length x.1.now ≤ length bytes.now) }
 {
     match bytes {
         [a, rest @ ..] if *a >= 128 => Some((*a as usize, rest)),
@@ -30,7 +31,8 @@ fn one(bytes: &[u8]) -> Option<(usize, &[u8])>
 }
 
 fn two(bytes: &[u8]) -> Option<(usize, &[u8])>
-    ensures { option_map (λ x. (x.0, x.1.now)) result ≡ two_octets bytes.now }
+    ensures exact { option_map (λ x. (x.0, x.1.now)) result ≡ two_octets bytes.now }
+    ensures front { IfSome result (λ x. length x.1.now ≤ length bytes.now) }
 {
     match bytes {
         [a, b, rest @ ..] if *a != 0 => Some((*a as usize * 256 + *b as usize, rest)),
@@ -39,7 +41,8 @@ fn two(bytes: &[u8]) -> Option<(usize, &[u8])>
 }
 
 fn three(bytes: &[u8]) -> Option<(usize, &[u8])>
-    ensures { option_map (λ x. (x.0, x.1.now)) result ≡ three_octets bytes.now }
+    ensures exact { option_map (λ x. (x.0, x.1.now)) result ≡ three_octets bytes.now }
+    ensures front { IfSome result (λ x. length x.1.now ≤ length bytes.now) }
 {
     match bytes {
         [a, b, c, rest @ ..] if *a != 0 => Some((
@@ -51,7 +54,8 @@ fn three(bytes: &[u8]) -> Option<(usize, &[u8])>
 }
 
 fn four(bytes: &[u8]) -> Option<(usize, &[u8])>
-    ensures { option_map (λ x. (x.0, x.1.now)) result ≡ four_octets bytes.now }
+    ensures exact { option_map (λ x. (x.0, x.1.now)) result ≡ four_octets bytes.now }
+    ensures front { IfSome result (λ x. length x.1.now ≤ length bytes.now) }
 {
     match bytes {
         [a, b, c, d, rest @ ..] if *a != 0 => Some((
@@ -65,7 +69,8 @@ fn four(bytes: &[u8]) -> Option<(usize, &[u8])>
 /// A length of 128 or more, after its first octet, and what follows it.
 #[tactic(auto, unfolding(crate::specs::Value::long_length_at))]
 fn long_length(first: u8, rest: &[u8]) -> Option<(usize, &[u8])>
-    ensures { option_map (λ x. (x.0, x.1.now)) result ≡ long_length_at first rest.now }
+    ensures exact { option_map (λ x. (x.0, x.1.now)) result ≡ long_length_at first rest.now }
+    ensures front { IfSome result (λ x. length x.1.now ≤ length rest.now) }
 {
     match first {
         0x81 => one(rest),
@@ -80,7 +85,8 @@ fn long_length(first: u8, rest: &[u8]) -> Option<(usize, &[u8])>
 #[inline]
 #[tactic(auto, unfolding(crate::specs::Value::length_at))]
 fn length_prefix(bytes: &[u8]) -> Option<(usize, &[u8])>
-    ensures { option_map (λ x. (x.0, x.1.now)) result ≡ length_at bytes.now }
+    ensures exact { option_map (λ x. (x.0, x.1.now)) result ≡ length_at bytes.now }
+    ensures shorter { IfSome result (λ x. length x.1.now < length bytes.now) }
 {
     let (first, rest) = bytes.split_first()?;
     if *first < 128 {
@@ -93,7 +99,8 @@ fn length_prefix(bytes: &[u8]) -> Option<(usize, &[u8])>
 #[inline]
 #[tactic(auto, unfolding(crate::specs::Value::contents_at))]
 pub fn contents(bytes: &[u8]) -> Option<(&[u8], &[u8])>
-    ensures { seen_two result ≡ contents_at bytes.now }
+    ensures exact { seen_two result ≡ contents_at bytes.now }
+    ensures shorter { IfSome result (λ x. length x.1.now < length bytes.now) }
 {
     let (length, rest) = length_prefix(bytes)?;
     if rest.len() < length {
@@ -107,7 +114,8 @@ pub fn contents(bytes: &[u8]) -> Option<(&[u8], &[u8])>
 #[inline]
 #[tactic(auto, unfolding(crate::specs::Value::value_at))]
 pub fn value(bytes: &[u8]) -> Option<(u8, &[u8], &[u8])>
-    ensures { seen_value result ≡ value_at bytes.now }
+    ensures exact { seen_value result ≡ value_at bytes.now }
+    ensures shorter { IfSome result (λ x. length x.2.now < length bytes.now) }
 {
     let (tag, rest) = bytes.split_first()?;
     if *tag & 0x1f == 0x1f {
@@ -121,7 +129,8 @@ pub fn value(bytes: &[u8]) -> Option<(u8, &[u8], &[u8])>
 #[inline]
 #[tactic(auto, unfolding(crate::specs::Value::tagged_at))]
 pub fn tagged(tag: u8, bytes: &[u8]) -> Option<(&[u8], &[u8])>
-    ensures { seen_two result ≡ tagged_at tag bytes.now }
+    ensures exact { seen_two result ≡ tagged_at tag bytes.now }
+    ensures shorter { IfSome result (λ x. length x.1.now < length bytes.now) }
 {
     let (first, rest) = bytes.split_first()?;
     if *first != tag {
