@@ -1,1 +1,4 @@
 pub mod Days
+pub mod Steps
+pub mod Shorter
+pub mod NameWalk

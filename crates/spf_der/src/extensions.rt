@@ -98,7 +98,7 @@ fn name_parts(tag: u8, contents: &[u8]) -> Option<Option<&str>>
 
 /// The name at the front (section 4.2.1.6): its URI if it is one, and what follows it.
 #[inline]
-#[tactic(auto, unfolding(crate::specs::Extensions::name_at))]
+#[tactic(auto, unfolding(crate::specs::Names::name_at))]
 fn name(bytes: &[u8]) -> Option<(Option<&str>, &[u8])>
     ensures exact { option_map (λ x. (seen x.0, x.1.now)) result ≡ name_at bytes.now }
     ensures shorter { IfSome result (λ x. length x.1.now < length bytes.now) }
@@ -129,10 +129,10 @@ fn first_uri(names: &[u8]) -> Option<(&str, &[u8])>
     let mut rest = names;
     while !rest.is_empty() {
         let (uri, after) = name(rest)?;
-        if let Some(uri) = uri {
-            return Some((uri, after));
+        match uri {
+            Some(uri) => return Some((uri, after)),
+            None => rest = after,
         }
-        rest = after;
     }
     None
 }
