@@ -2,3 +2,4 @@ pub mod Days
 pub mod Steps
 pub mod Shorter
 pub mod NameWalk
+pub mod Unique

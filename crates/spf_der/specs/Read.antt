@@ -1,5 +1,5 @@
 -- What is read of a certificate, or why none is.
-use Rattle.std.specs.Prelude.{◌≡◌, ℕ, ◌-◌, List, [], ◌∷◌, length, filter, Option, Some, None, Result, Ok, Err}
+use Rattle.std.specs.Prelude.{ℕ, ◌+◌, ◌-◌, List, [], ◌∷◌, length, Bool, false, Option, Some, None, Result, Ok, Err, if◌then◌else◌}
 use Rattle.std.specs.Str.{bytes_eq}
 use Rattle.spf_io.specs.Rule.{◌>>=◌, many}
 use Rattle.spf_der.specs.Certificate.{certificate_at, extension_at}
@@ -26,16 +26,32 @@ certificate_rule der = do
   extensions ← extensions_rule kept.1
   Ok (record { expiry = kept.0; extensions = extensions }, length der - length kept.2)
 
--- the extensions with that identifier
-abbrev pub with_oid : List ℕ → List ExtensionPart → List ExtensionPart
-with_oid oid extensions = filter (λ (e : ExtensionPart). bytes_eq e.oid oid) extensions
+-- at most one
+abbrev pub only_one : {A : Type 0} → List A → Result (Option A) X509ParseKind
+only_one [] = Ok None
+only_one (x ∷ []) = Ok (Some x)
+only_one (x ∷ y ∷ xs) = Err DuplicateExtensions
 
--- at most one of them
-abbrev pub at_most_one : List ExtensionPart → Result (Option (List ℕ)) X509ParseKind
-at_most_one [] = Ok None
-at_most_one (e ∷ []) = Ok (Some e.contents)
-at_most_one _ = Err DuplicateExtensions
+-- the contents of the extensions with that identifier
+abbrev pub contents_with : List ℕ → List ExtensionPart → List (List ℕ)
+contents_with oid [] = []
+contents_with oid (e ∷ extensions) =
+    if bytes_eq e.oid oid then e.contents ∷ contents_with oid extensions else contents_with oid extensions
 
--- the contents of the extension with that identifier, if there is one, and no second
+-- their places, counted from n
+abbrev pub places_with : List ℕ → ℕ → List ExtensionPart → List ℕ
+places_with oid n [] = []
+places_with oid n (e ∷ extensions) =
+    if bytes_eq e.oid oid then n ∷ places_with oid (n + 1) extensions else places_with oid (n + 1) extensions
+
+-- the contents of the one extension with that identifier, if there is one
 abbrev pub unique_rule : List ℕ → List ExtensionPart → Result (Option (List ℕ)) X509ParseKind
-unique_rule oid extensions = at_most_one (with_oid oid extensions)
+unique_rule oid extensions = only_one (contents_with oid extensions)
+
+-- its place
+abbrev pub place_rule : List ℕ → List ExtensionPart → Result (Option ℕ) X509ParseKind
+place_rule oid extensions = only_one (places_with oid 0 extensions)
+
+-- memory plays no part
+abbrev pub never : X509ParseKind → Bool
+never _ = false

@@ -5,7 +5,7 @@ ghost use Rattle.spf_io.specs.Rule.{Gives};
 ghost use Rattle.spf_der.specs.Certificate.{after_issuer_at, after_public_key_at, after_unique_id_at, after_version_at, certificate_at, ends, extension_at, extension_text_at, is_version, tbs_of, validity_at};
 ghost use Rattle.spf_der.specs.Error.{is_memory};
 ghost use Rattle.spf_der.specs.Part.{plain};
-ghost use Rattle.spf_der.specs.Read.{certificate_rule, extensions_rule, unique_rule};
+ghost use Rattle.spf_der.specs.Read.{certificate_rule, extensions_rule, never, place_rule, unique_rule};
 ghost use Rattle.spf_der.specs.Value.{seen};
 
 use crate::error::{CertReadError, X509ParseError, X509ParseKind};
@@ -201,6 +201,25 @@ fn extensions<'a>(alloc: Global, text: &'a [u8]) -> Result<Vec<ExtensionView<'a>
     Ok(found)
 }
 
+/// The contents of the extension with that identifier, if there is one.
+fn unique_contents<'a>(
+    extensions: &[ExtensionView<'a>],
+    oid: &[u8],
+) -> Result<Option<&'a [u8]>, X509ParseError>
+    ensures { Gives never seen result (unique_rule oid.now (map plain extensions.now)) }
+{
+    let mut found = None;
+    for extension in extensions {
+        if extension.oid == oid {
+            if found.is_some() {
+                return Err(X509ParseError::new(X509ParseKind::DuplicateExtensions));
+            }
+            found = Some(extension.contents);
+        }
+    }
+    Ok(found)
+}
+
 /// What is kept of a certificate, as slices of what was read.
 #[derive(Debug, Drop)]
 pub struct CertView<'a> {
@@ -235,17 +254,10 @@ impl<'a> CertView<'a> {
     }
 
     /// The contents of the extension with that identifier, if there is one.
-    pub fn extension_unique(&self, oid: &[u8]) -> Result<Option<&'a [u8]>, X509ParseError> {
-        let mut found = None;
-        for extension in self.extensions.as_slice() {
-            if extension.oid == oid {
-                if found.is_some() {
-                    return Err(X509ParseError::new(X509ParseKind::DuplicateExtensions));
-                }
-                found = Some(extension.contents);
-            }
-        }
-        Ok(found)
+    pub fn extension_unique(&self, oid: &[u8]) -> Result<Option<&'a [u8]>, X509ParseError>
+        ensures { Gives never seen result (unique_rule oid.now self.now.extensions) }
+    {
+        unique_contents(self.extensions.as_slice(), oid)
     }
 }
 
@@ -327,9 +339,18 @@ pub fn read_certificate(alloc: Global, der: &[u8]) -> Result<(CertParts, usize),
 }
 
 /// The place of the extension with that identifier, if there is one.
-pub fn extension_unique(parts: &CertParts, oid: &[u8]) -> Result<Option<usize>, X509ParseError> {
+pub fn extension_unique(parts: &CertParts, oid: &[u8]) -> Result<Option<usize>, X509ParseError>
+    ensures { Gives never (λ o. o) result (place_rule oid.now parts.now.extensions) }
+{
+    unique_place(parts.extensions.as_slice(), oid)
+}
+
+/// The same, in a list of extensions.
+fn unique_place(extensions: &[ExtensionPart], oid: &[u8]) -> Result<Option<usize>, X509ParseError>
+    ensures { Gives never (λ o. o) result (place_rule oid.now extensions.now) }
+{
     let mut found = None;
-    for (place, extension) in parts.extensions.iter().enumerate() {
+    for (place, extension) in extensions.iter().enumerate() {
         if extension.oid.as_slice() == oid {
             if found.is_some() {
                 return Err(X509ParseError::new(X509ParseKind::DuplicateExtensions));

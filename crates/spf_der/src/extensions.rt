@@ -169,7 +169,11 @@ pub fn read_san_uri_views<'a>(contents: &'a [u8]) -> Option<SanUris<'a>>
     ensures { result ≡ san_uris_of contents.now }
 {
     let names = whole(SEQUENCE, contents)?;
-    if are_names(names) { Some(SanUris { rest: names }) } else { None }
+    if are_names(names) {
+        Some(SanUris { rest: names })
+    } else {
+        None
+    }
 }
 
 /// Copies of the URIs that are left.
