@@ -1,10 +1,10 @@
 -- The rules of trust domains and SPIFFE IDs, in order (SPIFFE-ID section 2).
-use Rattle.std.specs.Prelude.{ℕ, Bool, true, false, ◌||◌, not, List, [], ◌∷◌, length, take, drop, Result, Ok, Err, nat_lt, ◌==◌, nat_eq, if◌then◌else◌, codes}
+use Rattle.std.specs.Prelude.{◌≡◌, ℕ, Bool, true, false, ◌||◌, not, List, [], ◌∷◌, length, take, drop, Result, Ok, Err, nat_lt, ◌==◌, nat_eq, if◌then◌else◌, codes}
 use Rattle.std.specs.Char.{is_ascii_digit, is_ascii_lowercase, is_ascii_alphanumeric}
 use Rattle.std.specs.List.{flat_map, slice_split, list_all, starts_with}
 use Rattle.std.specs.Str.{bytes_eq, str_eq_ignore_ascii_case}
 use Rattle.spf_io.specs.Rule.{◌>>=◌}
-use Rattle.spf_id.specs.Id.{Id}
+use Rattle.spf_id.specs.Id.{Id, id_text}
 use Rattle.spf_id.specs.declared.error.SpiffeIdError.{SpiffeIdError}
 use Rattle.spf_id.specs.declared.error.SpiffeIdError.TheVariants.{Empty, TooLong, WrongScheme, MissingTrustDomain, TrustDomainTooLong, BadTrustDomainChar, EmptySegment, DotSegment, BadPathChar, TrailingSlash, OutOfMemory}
 
@@ -49,6 +49,11 @@ segments_rule (segment ∷ next ∷ others) = segment_rule EmptySegment segment 
 abbrev pub path_of : List (List ℕ) → List ℕ
 path_of segments = flat_map (λ segment. 47 ∷ segment) segments
 
+-- the segments of a path, which is empty or begins with `/`
+abbrev pub segments_of : List ℕ → List (List ℕ)
+segments_of [] = []
+segments_of (slash ∷ text) = slice_split is_slash text
+
 -- the parts between slashes: a trust domain, and the segments of a path
 unfoldable pub parts_rule : List (List ℕ) → Result Id SpiffeIdError
 parts_rule [] = Err MissingTrustDomain
@@ -63,6 +68,11 @@ id_rule text =
     else (if nat_lt 2048 (length text) then Err TooLong
     else (if not (starts_with nat_eq text (codes "spiffe://")) then Err WrongScheme
     else parts_rule (slice_split is_slash (drop 9 text))))
+
+-- the text of an ID that breaks no rule
+pub record IsTextOf (id : Id) (t : List ℕ) : Type 0 where
+  pub text : t ≡ id_text id
+  pub rule : id_rule t ≡ Ok id
 
 -- whether `:/` stands somewhere in a text
 abbrev pub holds_colon_slash : List ℕ → Bool

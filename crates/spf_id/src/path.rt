@@ -1,6 +1,6 @@
 ghost use Rattle.std.specs.Prelude.{◌≡◌};
 ghost use Rattle.std.specs.List.{list_all, slice_split};
-ghost use Rattle.spf_id.specs.Rule.{is_slash, is_path_octet, segment_rule, segments_rule};
+ghost use Rattle.spf_id.specs.Rule.{is_slash, is_path_octet, segment_rule, segments_of, segments_rule};
 
 use crate::error::SpiffeIdError;
 use crate::separator::cut;
@@ -35,7 +35,7 @@ fn check_segment(empty: SpiffeIdError, segment: &[u8]) -> Result<(), SpiffeIdErr
 }
 
 /// Whether a segment between slashes breaks a rule, and which is the first.
-pub(crate) fn check_segments(segments: &[u8]) -> Result<(), SpiffeIdError>
+fn check_segments(segments: &[u8]) -> Result<(), SpiffeIdError>
     ensures { result ≡ segments_rule (slice_split is_slash segments.now) }
 {
     let mut rest = segments;
@@ -48,5 +48,15 @@ pub(crate) fn check_segments(segments: &[u8]) -> Result<(), SpiffeIdError>
                 rest = after;
             }
         }
+    }
+}
+
+/// Whether a path, which is empty or begins with a slash, breaks a rule, and which.
+pub(crate) fn check_path(path: &[u8]) -> Result<(), SpiffeIdError>
+    ensures { result ≡ segments_rule (segments_of path.now) }
+{
+    match path {
+        [] => Ok(()),
+        [_, segments @ ..] => check_segments(segments),
     }
 }

@@ -1,11 +1,11 @@
 ghost use Rattle.std.specs.Prelude.{◌≡◌, drop, length, IfOk, MatchResult};
-ghost use Rattle.std.specs.List.{before_first};
+ghost use Rattle.std.specs.List.{before_first, slice_split};
 ghost use Rattle.spf_io.specs.Rule.{Gives};
 ghost use Rattle.spf_id.specs.Id.{Id, id_text};
-ghost use Rattle.spf_id.specs.Rule.{is_memory, is_slash, id_rule, has_spiffe_scheme};
+ghost use Rattle.spf_id.specs.Rule.{is_memory, is_slash, parts_rule, id_rule, has_spiffe_scheme};
 
 use crate::error::SpiffeIdError;
-use crate::path::check_segments;
+use crate::path::check_path;
 use crate::trust_domain::{TrustDomain, check_domain};
 use memchr::memchr;
 use spf_io::{OutOfMemory, Text};
@@ -21,23 +21,22 @@ pub struct SpiffeId {
 }
 
 impl Model for SpiffeId {
-    ghost use Rattle.std.specs.Prelude.{◌≡◌, ◌+◌, Ok, drop, length};
+    ghost use Rattle.std.specs.Prelude.{◌+◌, drop, length};
     ghost use Rattle.spf_id.specs.Id.{Id, id_text};
 
     ghost Value = { Id };
 
-    ghost use Rattle.spf_id.specs.Rule.{id_rule};
+    ghost use Rattle.spf_id.specs.Rule.{IsTextOf};
 
     ghost view = { λ a. record { domain = a.domain; path = drop (9 + length a.domain) a.text } };
 
-    ghost invariant = { λ a. id_rule a.text ≡ Ok (record { domain = a.domain; path = drop (9 + length a.domain) a.text }) };
+    ghost invariant = { λ a. IsTextOf (record { domain = a.domain; path = drop (9 + length a.domain) a.text }) a.text };
 
     ghost inverse = { λ v. record { text = id_text v; domain = v.domain } };
 
     ghost use Rattle.std.proofs.Common.{sym};
-    ghost use Rattle.spf_id.proofs.Ids.{text_of_rule};
 
-    ghost inverse_ok = { λ a h. (λ i. record { text = sym (text_of_rule _ _ h) i; domain = a.domain }) };
+    ghost inverse_ok = { λ a h. (λ i. record { text = sym h.text i; domain = a.domain }) };
 }
 
 /// What stands before the first slash, and the rest, which is empty or begins with it.
@@ -51,10 +50,28 @@ fn halves(text: &str) -> (&str, &str)
     }
 }
 
+/// The trust domain and the path in what follows the scheme, or the first broken rule.
+#[tactic(auto, using(crate::proofs::Parts::parts_by_halves))]
+fn parts_after_scheme(rest: &str) -> Result<(&str, &str), SpiffeIdError>
+    ensures { MatchResult result
+        (λ p. parts_rule (slice_split is_slash rest.now) ≡ Ok (record { domain = p.0.now; path = p.1.now }))
+        (λ e. parts_rule (slice_split is_slash rest.now) ≡ Err e) }
+{
+    let (domain, path) = halves(rest);
+    if domain.is_empty() {
+        return Err(SpiffeIdError::MissingTrustDomain);
+    }
+    check_domain(domain.as_bytes())?;
+    check_path(path.as_bytes())?;
+    Ok((domain, path))
+}
+
 /// The trust domain and the path of an ID, or the first broken rule.
-#[tactic(auto, unfolding(crate::specs::Rule::id_rule, crate::specs::Rule::parts_rule))]
+#[tactic(auto, unfolding(crate::specs::Rule::id_rule))]
 pub(crate) fn parts(text: &str) -> Result<(&str, &str), SpiffeIdError>
-    ensures { MatchResult result (λ p. id_rule text.now ≡ Ok (record { domain = p.0.now; path = p.1.now })) (λ e. id_rule text.now ≡ Err e) }
+    ensures { MatchResult result
+        (λ p. id_rule text.now ≡ Ok (record { domain = p.0.now; path = p.1.now }))
+        (λ e. id_rule text.now ≡ Err e) }
 {
     if text.is_empty() {
         return Err(SpiffeIdError::Empty);
@@ -62,18 +79,10 @@ pub(crate) fn parts(text: &str) -> Result<(&str, &str), SpiffeIdError>
     if text.len() > 2048 {
         return Err(SpiffeIdError::TooLong);
     }
-    let Some(rest) = text.strip_prefix("spiffe://") else {
-        return Err(SpiffeIdError::WrongScheme);
-    };
-    let (domain, path) = halves(rest);
-    if domain.is_empty() {
-        return Err(SpiffeIdError::MissingTrustDomain);
+    match text.strip_prefix("spiffe://") {
+        None => Err(SpiffeIdError::WrongScheme),
+        Some(rest) => parts_after_scheme(rest),
     }
-    check_domain(domain.as_bytes())?;
-    if let [_, segments @ ..] = path.as_bytes() {
-        check_segments(segments)?;
-    }
-    Ok((domain, path))
 }
 
 /// Whether a URI begins with `spiffe:`, ASCII case apart.
