@@ -142,7 +142,7 @@ fn tbs_certificate(bytes: &[u8]) -> Option<(i64, &[u8])>
 #[tactic(auto, unfolding(crate::specs::Certificate::certificate_at))]
 fn certificate(der: &[u8]) -> Option<(i64, &[u8], &[u8])>
     ensures exact { option_map (λ x. (x.0, x.1.now, x.2.now)) result ≡ certificate_at der.now }
-    ensures front { IfSome result (λ x. length x.2.now ≤ length der.now) }
+    ensures front { IfSome result (λ x. length x.2.now < length der.now) }
 {
     let (inner, rest) = tagged(SEQUENCE, der)?;
     let (tbs, signature) = tagged(SEQUENCE, inner)?;
@@ -269,7 +269,8 @@ pub fn read_certificate_view<'a>(
     alloc: Global,
     der: &'a [u8],
 ) -> Result<(CertView<'a>, usize), CertReadError>
-    ensures { Gives is_memory (λ x. (x.0, x.1)) result (certificate_rule der.now) }
+    ensures gives { Gives is_memory (λ x. (x.0, x.1)) result (certificate_rule der.now) }
+    ensures size { IfOk result (λ x. (0 < x.1) × (x.1 ≤ length der.now)) }
 {
     let Some((expiry, text, rest)) = certificate(der) else {
         return Err(CertReadError::invalid());

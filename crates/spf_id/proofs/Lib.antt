@@ -1,0 +1,6 @@
+pub mod Exact
+mod ColonSlash
+mod FirstPlace
+mod Ids
+mod Parts
+mod Rows
