@@ -9,3 +9,4 @@ pub mod Read
 pub mod Extensions
 pub mod Names
 pub mod Key
+pub mod Written
