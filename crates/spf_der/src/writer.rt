@@ -36,7 +36,11 @@ fn put_length(out: &mut Vec<u8>, length: usize) -> Result<(), OutOfMemory>
     match length {
         0..=0x7f => out.push(length as u8)?,
         0x80..=0xff => out.extend_from_slice(&[0x81, length as u8])?,
-        0x100..=0xffff => out.extend_from_slice(&[0x82, (length / 256) as u8, (length % 256) as u8])?,
+        0x100..=0xffff => out.extend_from_slice(&[
+            0x82,
+            (length / 256) as u8,
+            (length % 256) as u8,
+        ])?,
         0x1_0000..=0xff_ffff => out.extend_from_slice(&[
             0x83,
             (length / 65536) as u8,
@@ -75,7 +79,12 @@ fn wrapped(alloc: Global, tag: u8, contents: &[u8]) -> Result<Vec<u8>, OutOfMemo
 }
 
 /// Appends an Extension.
-fn put_extension(alloc: Global, out: &mut Vec<u8>, oid: &[u8], contents: &[u8]) -> Result<(), OutOfMemory>
+fn put_extension(
+    alloc: Global,
+    out: &mut Vec<u8>,
+    oid: &[u8],
+    contents: &[u8],
+) -> Result<(), OutOfMemory>
     ensures { OnOk result (out.new.items ≡ out.old.items ++ extension_text oid.now contents.now) }
 {
     let mut inner = Vec::new(alloc);
@@ -142,7 +151,11 @@ fn subject_alt_name(alloc: Global, uris: &[Text]) -> Result<Vec<u8>, OutOfMemory
 }
 
 /// Appends the extension of a key usage, if there is one.
-fn put_key_usage(alloc: Global, out: &mut Vec<u8>, key_usage_bits: Option<KeyUsageBits>) -> Result<(), OutOfMemory>
+fn put_key_usage(
+    alloc: Global,
+    out: &mut Vec<u8>,
+    key_usage_bits: Option<KeyUsageBits>,
+) -> Result<(), OutOfMemory>
     ensures { OnOk result (out.new.items ≡ out.old.items ++ usage_part key_usage_bits) }
 {
     match key_usage_bits {
@@ -155,7 +168,11 @@ fn put_key_usage(alloc: Global, out: &mut Vec<u8>, key_usage_bits: Option<KeyUsa
 }
 
 /// Appends the extension of basic constraints, if there are such.
-fn put_basic_constraints(alloc: Global, out: &mut Vec<u8>, ca: Option<bool>) -> Result<(), OutOfMemory>
+fn put_basic_constraints(
+    alloc: Global,
+    out: &mut Vec<u8>,
+    ca: Option<bool>,
+) -> Result<(), OutOfMemory>
     ensures { OnOk result (out.new.items ≡ out.old.items ++ constraints_part ca) }
 {
     match ca {
