@@ -1,7 +1,7 @@
 -- The texts that are written (RFC 5280 section 4.1, RFC 5958 section 2): names, public keys and signatures are empty.
-use Rattle.std.specs.Prelude.{◌≡◌, ℕ, ◌+◌, List, [], ◌∷◌, ◌++◌, length, flat_map, Option, Some, None, Bool, true, false, ◌==◌, if◌then◌else◌, ℤ, pos, nat_lt, codes}
+use Rattle.std.specs.Prelude.{◌≡◌, ℕ, ◌+◌, List, [], ◌∷◌, ◌++◌, flat_map, Option, Some, None, Bool, if◌then◌else◌, codes}
 use Rattle.spf_der.specs.Value.{value_text}
-use Rattle.spf_der.specs.Time.{unix_of}
+use Rattle.spf_der.specs.WrittenTime.{IsTimeText}
 use Rattle.spf_der.specs.declared.extensions.KeyUsageBits.{KeyUsageBits}
 use Rattle.spf_der.specs.declared.writer.CertSpec.{CertSpec}
 
@@ -83,16 +83,6 @@ tbs_text spec time =
 -- the certificate, with that text of the expiry
 abbrev pub certificate_text : CertSpec → List ℕ → List ℕ
 certificate_text spec time = value_text 48 (value_text 48 (tbs_text spec time) ++ algorithm_text ++ no_bits)
-
--- the one text of a time: a UTCTime for years up to 2049, a GeneralizedTime after (RFC 5280 section 4.1.2.5)
-abbrev pub time_tag : ℤ → ℕ
-time_tag (pos n) = if nat_lt n 2524608000 then 23 else 24
-time_tag _ = 23
-
-pub record IsTimeText (moment : ℤ) (text : List ℕ) : Type 0 where
-  pub contents : List ℕ
-  pub spelled : text ≡ value_text (time_tag moment) contents
-  pub means : unix_of (time_tag moment) contents ≡ Some moment
 
 -- the certificate of the spec
 pub record IsCertificateOf (spec : CertSpec) (text : List ℕ) : Type 0 where

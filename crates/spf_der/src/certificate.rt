@@ -333,7 +333,8 @@ fn owned_all(alloc: Global, extensions: &[ExtensionView]) -> Result<Vec<Extensio
 
 /// The certificate that is a front of the bytes, and its length.
 pub fn read_certificate(alloc: Global, der: &[u8]) -> Result<(CertParts, usize), CertReadError>
-    ensures { Gives is_memory (λ x. (x.0, x.1)) result (certificate_rule der.now) }
+    ensures gives { Gives is_memory (λ x. (x.0, x.1)) result (certificate_rule der.now) }
+    ensures size { IfOk result (λ x. (0 < x.1) × (x.1 ≤ length der.now)) }
 {
     let (view, length) = read_certificate_view(alloc, der)?;
     let extensions = owned_all(alloc, view.extensions())?;

@@ -1,7 +1,8 @@
 //! Certificates and keys of fixed parts, as made sessions and tests need them.
-ghost use Rattle.std.specs.Prelude.{◌≡◌, ◌+◌, ◌<◌, ◌^◌, ◌++◌, [], ◌∷◌, flat_map, pos, ◌≤ℤ◌, IfOk, OnOk};
+ghost use Rattle.std.specs.Prelude.{◌≡◌, ◌+◌, ◌/◌, ◌%◌, ◌++◌, flat_map, unsigned_abs, IfOk, OnOk};
 ghost use Rattle.spf_der.specs.Value.{length_octets, value_text};
-ghost use Rattle.spf_der.specs.Written.{IsCertificateOf, IsTimeText, algorithm_text, constraints_part, constraints_text, extension_text, extensions_part, extensions_text, key_text, names_part, names_text, no_bits, no_name, public_key_text, usage_octet, usage_part, usage_text, validity_text, version_text, certificate_text, tbs_text};
+ghost use Rattle.spf_der.specs.Written.{IsCertificateOf, algorithm_text, constraints_part, constraints_text, extension_text, extensions_part, extensions_text, key_text, names_part, names_text, no_bits, no_name, public_key_text, usage_octet, usage_part, usage_text, validity_text, version_text, certificate_text, tbs_text};
+ghost use Rattle.spf_der.specs.WrittenTime.{IsTimeText, IsWritable, generalized_text, utc_text};
 
 use crate::extensions::{BASIC_CONSTRAINTS, KEY_USAGE, KeyUsageBits, SUBJECT_ALT_NAME};
 use crate::value::{
@@ -280,16 +281,17 @@ fn put_validity(alloc: Global, out: &mut Vec<u8>, time: &[u8]) -> Result<(), Out
     put_value(out, SEQUENCE, times.as_slice())
 }
 
-/// The digit of a number below 10.
-fn digit(number: u64) -> u8 {
+/// The last digit of a number.
+fn digit(number: u64) -> u8
+    ensures { result ≡ 48 + number % 10 }
+{
     b'0' + (number % 10) as u8
 }
 
-/// `MMDDHHMMSSZ`, after the last two digits of the year.
-fn clock_octets(year: u64, month: u8, day: u8, second: u64) -> [u8; 13] {
-    let (month, day) = (month as u64, day as u64);
-    let (hour, minute) = (second / 3600, second / 60 % 60);
-    let second = second % 60;
+/// `YYMMDDHHMMSSZ`, from the last two digits of each number.
+fn utc_octets(year: u64, month: u64, day: u64, hour: u64, minute: u64, second: u64) -> [u8; 13]
+    ensures { result ≡ utc_text year month day hour minute second }
+{
     [
         digit(year / 10),
         digit(year),
@@ -307,20 +309,43 @@ fn clock_octets(year: u64, month: u8, day: u8, second: u64) -> [u8; 13] {
     ]
 }
 
-/// The Time of a Unix second: a UTCTime for years up to 2049, a GeneralizedTime after.
-fn time_value(alloc: Global, moment: i64) -> Result<Vec<u8>, OutOfMemory> {
+/// `YYMMDDHHMMSSZ` of a date and a second of its day, from the last two digits of the year.
+fn date_octets(date: &Date, second: u64) -> [u8; 13]
+    ensures { result ≡ utc_text (unsigned_abs date.now.year) date.now.month date.now.day (second / 3600) (second / 60 % 60) (second % 60) }
+{
+    utc_octets(
+        date.year.unsigned_abs() as u64,
+        date.month as u64,
+        date.day as u64,
+        second / 3600,
+        second / 60 % 60,
+        second % 60,
+    )
+}
+
+/// The contents octets of the GeneralizedTime of a date and a second of its day.
+fn generalized_octets(alloc: Global, date: &Date, second: u64) -> Result<Vec<u8>, OutOfMemory>
+    ensures { IfOk result (λ v. v.items ≡ generalized_text (unsigned_abs date.now.year) date.now.month date.now.day (second / 3600) (second / 60 % 60) (second % 60)) }
+{
+    let century = date.year.unsigned_abs() as u64 / 100;
+    let mut contents = Vec::with_capacity(alloc, 15)?;
+    contents.extend_from_slice(&[digit(century / 10), digit(century)])?;
+    contents.extend_from_slice(&date_octets(date, second))?;
+    Ok(contents)
+}
+
+/// The Time of a Unix second from 1970 to 9999: a UTCTime for years up to 2049, a GeneralizedTime after.
+fn time_value(alloc: Global, moment: i64) -> Result<Vec<u8>, OutOfMemory>
+    ensures { IsWritable moment → IfOk result (λ v. IsTimeText moment v.items) }
+{
     let seconds = moment.unsigned_abs();
     let Ok(date) = Date::from_unix_epoch_day((seconds / 86400) as i64) else {
         return Err(OutOfMemory);
     };
-    let year = date.year.unsigned_abs() as u64;
-    let clock = clock_octets(year % 100, date.month, date.day, seconds % 86400);
     if seconds < YEAR_2050 {
-        return wrapped(alloc, UTC_TIME, &clock);
+        return wrapped(alloc, UTC_TIME, &date_octets(&date, seconds % 86400));
     }
-    let mut contents = Vec::with_capacity(alloc, 15)?;
-    contents.extend_from_slice(&[digit(year / 1000), digit(year / 100)])?;
-    contents.extend_from_slice(&clock)?;
+    let contents = generalized_octets(alloc, &date, seconds % 86400)?;
     wrapped(alloc, GENERALIZED_TIME, contents.as_slice())
 }
 
@@ -341,8 +366,10 @@ fn tbs_certificate(alloc: Global, spec: &CertSpec, time: &[u8]) -> Result<Vec<u8
     Ok(tbs)
 }
 
-/// The certificate of the spec. Names, key and signature are empty.
-pub fn write_certificate(alloc: Global, spec: &CertSpec) -> Result<Vec<u8>, OutOfMemory> {
+/// The certificate of the spec, whose expiry is in the years 1970 to 9999. Names, key and signature are empty.
+pub fn write_certificate(alloc: Global, spec: &CertSpec) -> Result<Vec<u8>, OutOfMemory>
+    ensures { IsWritable spec.now.expiry → IfOk result (λ v. IsCertificateOf spec.now v.items) }
+{
     let time = time_value(alloc, spec.expiry)?;
     signed(alloc, spec, time.as_slice())
 }
