@@ -66,8 +66,8 @@ year_from (pos n) m d day civil is =
     ⊎_elim (λ (e : n ≡ 1970). late (omega arith))
     (λ (other : (n < 1970) ⊎ (1970 < n)).
     ⊎_elim (λ (early : n < 1970).
-      let less = day_count-lt_year (pos n) m d (pos 1970) 1 1 civil (omega arith) (omega (arith, signed_arith)) in
-      absurd (omega (arith, less, day_count-epoch, count_from (pos n) m d day is)))
+    let less = day_count-lt_year (pos n) m d (pos 1970) 1 1 civil (omega arith) (omega (arith, signed_arith)) in
+    absurd (omega (arith, less, day_count-epoch, count_from (pos n) m d day is)))
     (λ (after : 1970 < n). late (omega arith)) other)
     (cases_order n 1970)
 year_from (negsuc n) m d day civil is =
@@ -82,8 +82,8 @@ pub year_before : (n m d day : ℕ) → IsCivilDate (pos n) m d → days_from_ci
 year_before n m d day civil is lt =
     let last : IsCivilDate (pos 2049) 12 31 = ((omega (arith, signed_arith), omega (arith, signed_arith)), (omega arith, omega arith), (omega arith, omega arith)) in
     let late : 2050 ≤ n → n < 2050 = λ (le : 2050 ≤ n).
-      let less = day_count-lt_year (pos 2049) 12 31 (pos n) m d last civil.2.0 (omega (arith, signed_arith)) in
-      absurd (omega (arith, less, day_count-2049, count_from (pos n) m d day is)) in
+    let less = day_count-lt_year (pos 2049) 12 31 (pos n) m d last civil.2.0 (omega (arith, signed_arith)) in
+    absurd (omega (arith, less, day_count-2049, count_from (pos n) m d day is)) in
     ⊎_elim (λ (e : n ≡ 2050). late (omega arith))
     (λ (other : (n < 2050) ⊎ (2050 < n)).
     ⊎_elim (λ (early : n < 2050). early) (λ (after : 2050 < n). late (omega arith)) other)
@@ -134,7 +134,7 @@ pub utc_means : (n : ℕ) (year : ℤ) (m d : ℕ) → IsCivilDate year m d → 
 utc_means n year m d civil is lt =
     let found = year_from year m d (n / 86400) civil is in
     let P : ℤ → Type 0 = λ z. IsCivilDate z m d → days_from_civil z m d ≡ pos (n / 86400)
-      → utc_time (utc_text (unsigned_abs z) m d (n % 86400 / 3600) (n % 86400 / 60 % 60) (n % 86400 % 60)) ≡ Some (pos n) in
+    → utc_time (utc_text (unsigned_abs z) m d (n % 86400 / 3600) (n % 86400 / 60 % 60) (n % 86400 % 60)) ≡ Some (pos n) in
     subst P (sym found.1) (λ c i. utc_reads n found.0 m d c i found.2 lt) civil is
 
 -- the GeneralizedTime of a second from 1970 on
@@ -143,7 +143,7 @@ pub generalized_means : (n : ℕ) (year : ℤ) (m d : ℕ) → IsCivilDate year 
 generalized_means n year m d civil is =
     let found = year_from year m d (n / 86400) civil is in
     let P : ℤ → Type 0 = λ z. IsCivilDate z m d → days_from_civil z m d ≡ pos (n / 86400)
-      → generalized_time (generalized_text (unsigned_abs z) m d (n % 86400 / 3600) (n % 86400 / 60 % 60) (n % 86400 % 60)) ≡ Some (pos n) in
+    → generalized_time (generalized_text (unsigned_abs z) m d (n % 86400 / 3600) (n % 86400 / 60 % 60) (n % 86400 % 60)) ≡ Some (pos n) in
     subst P (sym found.1) (λ c i. generalized_reads n found.0 m d c i) civil is
 
 -- the text of a time, by its contents octets
@@ -155,7 +155,7 @@ time_text_early moment contents low lt means =
     record {
       contents = contents;
       spelled = ap (λ (t : ℕ). value_text t contents) (sym tag);
-      means = subst P (sym tag) (means ∙ ap Some (sym (not_negative moment low)))
+      means = subst P (sym tag) (means ∙ ap Some (sym (not_negative moment low)));
     }
 
 pub time_text_late : (moment : ℤ) (contents : List ℕ) → pos 0 ≤ℤ moment → 2524608000 ≤ unsigned_abs moment → generalized_time contents ≡ Some (pos (unsigned_abs moment))
@@ -166,7 +166,7 @@ time_text_late moment contents low le means =
     record {
       contents = contents;
       spelled = ap (λ (t : ℕ). value_text t contents) (sym tag);
-      means = subst P (sym tag) (means ∙ ap Some (sym (not_negative moment low)))
+      means = subst P (sym tag) (means ∙ ap Some (sym (not_negative moment low)));
     }
 
 pub early_time : (moment : ℤ) (n : ℕ) (year : ℤ) (m d : ℕ) (octets : List ℕ) → pos 0 ≤ℤ moment → n ≡ unsigned_abs moment → IsCivilDate year m d → days_from_civil year m d ≡ pos (n / 86400)
