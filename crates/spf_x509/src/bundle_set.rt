@@ -108,7 +108,9 @@ impl X509BundleSet {
     }
 
     /// The pairs of trust domain and bundle, in the order of the trust domains.
-    pub fn iter(&self) -> X509BundleIter<'_> {
+    pub fn iter(&self) -> X509BundleIter<'_>
+        ensures { result ≡ self.now }
+    {
         X509BundleIter {
             inner: self.bundles.iter(),
         }
@@ -147,21 +149,30 @@ impl BundleSource for X509BundleSet {
     }
 }
 
-/// The pairs of a bundle set that are still to come.
+/// The pairs of a bundle set that are still to come, which contracts see as their list.
 #[derive(Drop)]
 pub struct X509BundleIter<'a> {
     inner: btree_map::Iter<'a, TrustDomain, Arc<X509Bundle>>,
 }
 
+impl<'a> Model for X509BundleIter<'a> {
+    ghost use Rattle.std.specs.Prelude.{List, ℕ, map};
+    ghost use Rattle.spf_x509.specs.Bundle.{Bundle, plain_entry};
+
+    ghost Value = { List (List ℕ × Bundle) };
+
+    ghost view = { λ i. map plain_entry i.inner };
+}
+
 impl<'a> Iterator for X509BundleIter<'a> {
-    ghost use Rattle.std.specs.Prelude.{length};
+    ghost use Rattle.std.specs.Arc.{arc_value};
     ghost use Rattle.std.specs.Iterator.{YieldsFirstBy, item_count};
 
     type Item = (&'a TrustDomain, &'a Arc<X509Bundle>);
 
-    ghost next_gives = { YieldsFirstBy (λ p. (p.0.now, p.1.now)) (λ s. s.inner) };
+    ghost next_gives = { YieldsFirstBy (λ p. (p.0.now, arc_value p.1.now)) (λ s. s) };
 
-    ghost remaining = { item_count (λ s. s.inner) };
+    ghost remaining = { item_count (λ s. s) };
 
     fn next(&mut self) -> Option<(&'a TrustDomain, &'a Arc<X509Bundle>)> {
         self.inner.next()
