@@ -1,0 +1,60 @@
+//! The payload of each kind of response, both ways.
+
+use crate::owned;
+use crate::payload_jwt::{jwt_svids, validation};
+use crate::payload_view::{bundle_entries, read_context_view};
+use crate::payload_writer::{put_bundles, put_context, put_jwt_svids, put_validation};
+use crate::response::{BundlesResponse, Response, ResponseKind};
+use spf_io::OutOfMemory;
+use std::alloc::Global;
+
+fn read_bundles(alloc: Global, payload: &[u8]) -> Result<Option<BundlesResponse>, OutOfMemory> {
+    match bundle_entries(alloc, payload)? {
+        Some((views, [])) => Ok(Some(owned::bundles(alloc, views.as_slice())?)),
+        _ => Ok(None),
+    }
+}
+
+/// The response of that kind that the payload lays out; None where it lays out none.
+pub fn read_payload(
+    alloc: Global,
+    kind: ResponseKind,
+    payload: &[u8],
+) -> Result<Option<Response>, OutOfMemory> {
+    match kind {
+        ResponseKind::Context => match read_context_view(alloc, payload)? {
+            Some(view) => Ok(Some(Response::Context(owned::context(alloc, &view)?))),
+            None => Ok(None),
+        },
+        ResponseKind::Bundles => match read_bundles(alloc, payload)? {
+            Some(bundles) => Ok(Some(Response::Bundles(bundles))),
+            None => Ok(None),
+        },
+        ResponseKind::JwtSvids => match jwt_svids(alloc, payload)? {
+            Some(svids) => Ok(Some(Response::JwtSvids(svids))),
+            None => Ok(None),
+        },
+        ResponseKind::JwtBundles => match read_bundles(alloc, payload)? {
+            Some(bundles) => Ok(Some(Response::JwtBundles(bundles))),
+            None => Ok(None),
+        },
+        ResponseKind::Validation => match validation(alloc, payload)? {
+            Some(validation) => Ok(Some(Response::Validation(validation))),
+            None => Ok(None),
+        },
+    }
+}
+
+/// The payload that lays out the response.
+pub fn write_payload(alloc: Global, response: &Response) -> Result<Vec<u8>, OutOfMemory> {
+    let mut out = Vec::new(alloc);
+    match response {
+        Response::Context(context) => put_context(&mut out, context)?,
+        Response::Bundles(bundles) | Response::JwtBundles(bundles) => {
+            put_bundles(&mut out, bundles)?
+        }
+        Response::JwtSvids(svids) => put_jwt_svids(&mut out, svids)?,
+        Response::Validation(validation) => put_validation(&mut out, validation)?,
+    }
+    Ok(out)
+}

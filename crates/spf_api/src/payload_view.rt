@@ -1,0 +1,109 @@
+//! The payload of a context response, read in one pass as slices of it.
+
+use crate::layout::{byte_field, number, text_field};
+use crate::response::{BundleEntryView, ContextView, SvidEntryView};
+use spf_io::{List, OutOfMemory};
+use std::alloc::Global;
+
+fn svid_entry(bytes: &[u8]) -> Option<(SvidEntryView<'_>, &[u8])> {
+    let (spiffe_id, rest) = text_field(bytes)?;
+    let (x509_svid, rest) = byte_field(rest)?;
+    let (x509_svid_key, rest) = byte_field(rest)?;
+    let (bundle, rest) = byte_field(rest)?;
+    let (hint, rest) = text_field(rest)?;
+    let entry = SvidEntryView {
+        spiffe_id,
+        x509_svid,
+        x509_svid_key,
+        bundle,
+        hint,
+    };
+    Some((entry, rest))
+}
+
+fn bundle_entry(bytes: &[u8]) -> Option<(BundleEntryView<'_>, &[u8])> {
+    let (name, rest) = text_field(bytes)?;
+    let (bundle, rest) = byte_field(rest)?;
+    Some((BundleEntryView { name, bundle }, rest))
+}
+
+/// A list of SVID entries. Its count takes no memory.
+fn svid_entries<'a>(
+    alloc: Global,
+    bytes: &'a [u8],
+) -> Result<Option<(Vec<SvidEntryView<'a>>, &'a [u8])>, OutOfMemory> {
+    let Some((count, mut rest)) = number(bytes) else {
+        return Ok(None);
+    };
+    let mut entries = Vec::new(alloc);
+    for _ in 0..count {
+        let Some((entry, after)) = svid_entry(rest) else {
+            return Ok(None);
+        };
+        entries.push(entry)?;
+        rest = after;
+    }
+    Ok(Some((entries, rest)))
+}
+
+/// A list of bundle entries. Its count takes no memory.
+pub(crate) fn bundle_entries<'a>(
+    alloc: Global,
+    bytes: &'a [u8],
+) -> Result<Option<(Vec<BundleEntryView<'a>>, &'a [u8])>, OutOfMemory> {
+    let Some((count, mut rest)) = number(bytes) else {
+        return Ok(None);
+    };
+    let mut entries = Vec::new(alloc);
+    for _ in 0..count {
+        let Some((entry, after)) = bundle_entry(rest) else {
+            return Ok(None);
+        };
+        entries.push(entry)?;
+        rest = after;
+    }
+    Ok(Some((entries, rest)))
+}
+
+/// A list of byte fields. Its count takes no memory.
+fn byte_fields<'a>(
+    alloc: Global,
+    bytes: &'a [u8],
+) -> Result<Option<(Vec<&'a [u8]>, &'a [u8])>, OutOfMemory> {
+    let Some((count, mut rest)) = number(bytes) else {
+        return Ok(None);
+    };
+    let mut fields = Vec::new(alloc);
+    for _ in 0..count {
+        let Some((field, after)) = byte_field(rest) else {
+            return Ok(None);
+        };
+        fields.push(field)?;
+        rest = after;
+    }
+    Ok(Some((fields, rest)))
+}
+
+/// The context response that the payload lays out, as slices of it; None where it lays out none. The texts are UTF-8.
+pub fn read_context_view<'a>(
+    alloc: Global,
+    payload: &'a [u8],
+) -> Result<Option<ContextView<'a>>, OutOfMemory> {
+    let Some((svids, rest)) = svid_entries(alloc, payload)? else {
+        return Ok(None);
+    };
+    let Some((federated, rest)) = bundle_entries(alloc, rest)? else {
+        return Ok(None);
+    };
+    let Some((crls, rest)) = byte_fields(alloc, rest)? else {
+        return Ok(None);
+    };
+    if !rest.is_empty() {
+        return Ok(None);
+    }
+    Ok(Some(ContextView {
+        svids: List::new(svids),
+        federated: List::new(federated),
+        crls: List::new(crls),
+    }))
+}
