@@ -3,7 +3,9 @@
 use crate::owned;
 use crate::payload_jwt::{jwt_svids, validation};
 use crate::payload_view::{bundle_entries, read_context_view};
-use crate::payload_writer::{put_bundles, put_context, put_jwt_svids, put_validation};
+use crate::payload_writer::{
+    put_bundle_entries, put_context, put_jwt_svid_entries, put_validation,
+};
 use crate::response::{BundlesResponse, Response, ResponseKind};
 use spf_io::OutOfMemory;
 use std::alloc::Global;
@@ -50,10 +52,9 @@ pub fn write_payload(alloc: Global, response: &Response) -> Result<Vec<u8>, OutO
     let mut out = Vec::new(alloc);
     match response {
         Response::Context(context) => put_context(&mut out, context)?,
-        Response::Bundles(bundles) | Response::JwtBundles(bundles) => {
-            put_bundles(&mut out, bundles)?
-        }
-        Response::JwtSvids(svids) => put_jwt_svids(&mut out, svids)?,
+        Response::Bundles(bundles) => put_bundle_entries(&mut out, bundles.bundles.as_slice())?,
+        Response::JwtSvids(svids) => put_jwt_svid_entries(&mut out, svids.svids.as_slice())?,
+        Response::JwtBundles(bundles) => put_bundle_entries(&mut out, bundles.bundles.as_slice())?,
         Response::Validation(validation) => put_validation(&mut out, validation)?,
     }
     Ok(out)

@@ -1,11 +1,19 @@
 //! The payload of a context response, read in one pass as slices of it.
 
+ghost use Rattle.std.specs.Prelude.{◌≡◌, map, IfOk};
+ghost use Rattle.std.specs.Option.{option_map};
+ghost use Rattle.spf_api.specs.Views.{svid_entry_of, bundle_entry_of, octets_of, context_of};
+ghost use Rattle.spf_api.specs.Reading.{svid_entry_at, bundle_entry_at, byte_field_at, list_at, context_at};
+
 use crate::layout::{byte_field, number, text_field};
 use crate::response::{BundleEntryView, ContextView, SvidEntryView};
 use spf_io::{List, OutOfMemory};
 use std::alloc::Global;
 
-fn svid_entry(bytes: &[u8]) -> Option<(SvidEntryView<'_>, &[u8])> {
+#[tactic(auto, unfolding(crate::specs::Reading::svid_entry_at))]
+fn svid_entry(bytes: &[u8]) -> Option<(SvidEntryView<'_>, &[u8])>
+    ensures { option_map (λ x. (svid_entry_of x.0, x.1.now)) result ≡ svid_entry_at bytes.now }
+{
     let (spiffe_id, rest) = text_field(bytes)?;
     let (x509_svid, rest) = byte_field(rest)?;
     let (x509_svid_key, rest) = byte_field(rest)?;
@@ -21,7 +29,10 @@ fn svid_entry(bytes: &[u8]) -> Option<(SvidEntryView<'_>, &[u8])> {
     Some((entry, rest))
 }
 
-fn bundle_entry(bytes: &[u8]) -> Option<(BundleEntryView<'_>, &[u8])> {
+#[tactic(auto, unfolding(crate::specs::Reading::bundle_entry_at))]
+fn bundle_entry(bytes: &[u8]) -> Option<(BundleEntryView<'_>, &[u8])>
+    ensures { option_map (λ x. (bundle_entry_of x.0, x.1.now)) result ≡ bundle_entry_at bytes.now }
+{
     let (name, rest) = text_field(bytes)?;
     let (bundle, rest) = byte_field(rest)?;
     Some((BundleEntryView { name, bundle }, rest))
@@ -31,12 +42,14 @@ fn bundle_entry(bytes: &[u8]) -> Option<(BundleEntryView<'_>, &[u8])> {
 fn svid_entries<'a>(
     alloc: Global,
     bytes: &'a [u8],
-) -> Result<Option<(Vec<SvidEntryView<'a>>, &'a [u8])>, OutOfMemory> {
+) -> Result<Option<(Vec<SvidEntryView<'a>>, &'a [u8])>, OutOfMemory>
+    ensures { IfOk result (λ o. option_map (λ x. (map svid_entry_of x.0.items, x.1.now)) o ≡ list_at svid_entry_at bytes.now) }
+{
     let Some((count, mut rest)) = number(bytes) else {
         return Ok(None);
     };
     let mut entries = Vec::new(alloc);
-    for _ in 0..count {
+    'entries: for _ in 0..count {
         let Some((entry, after)) = svid_entry(rest) else {
             return Ok(None);
         };
@@ -50,12 +63,14 @@ fn svid_entries<'a>(
 pub(crate) fn bundle_entries<'a>(
     alloc: Global,
     bytes: &'a [u8],
-) -> Result<Option<(Vec<BundleEntryView<'a>>, &'a [u8])>, OutOfMemory> {
+) -> Result<Option<(Vec<BundleEntryView<'a>>, &'a [u8])>, OutOfMemory>
+    ensures { IfOk result (λ o. option_map (λ x. (map bundle_entry_of x.0.items, x.1.now)) o ≡ list_at bundle_entry_at bytes.now) }
+{
     let Some((count, mut rest)) = number(bytes) else {
         return Ok(None);
     };
     let mut entries = Vec::new(alloc);
-    for _ in 0..count {
+    'entries: for _ in 0..count {
         let Some((entry, after)) = bundle_entry(rest) else {
             return Ok(None);
         };
@@ -69,12 +84,14 @@ pub(crate) fn bundle_entries<'a>(
 fn byte_fields<'a>(
     alloc: Global,
     bytes: &'a [u8],
-) -> Result<Option<(Vec<&'a [u8]>, &'a [u8])>, OutOfMemory> {
+) -> Result<Option<(Vec<&'a [u8]>, &'a [u8])>, OutOfMemory>
+    ensures { IfOk result (λ o. option_map (λ x. (map octets_of x.0.items, x.1.now)) o ≡ list_at byte_field_at bytes.now) }
+{
     let Some((count, mut rest)) = number(bytes) else {
         return Ok(None);
     };
     let mut fields = Vec::new(alloc);
-    for _ in 0..count {
+    'entries: for _ in 0..count {
         let Some((field, after)) = byte_field(rest) else {
             return Ok(None);
         };
@@ -85,10 +102,13 @@ fn byte_fields<'a>(
 }
 
 /// The context response that the payload lays out, as slices of it; None where it lays out none. The texts are UTF-8.
+#[tactic(auto, unfolding(crate::specs::Reading::context_at))]
 pub fn read_context_view<'a>(
     alloc: Global,
     payload: &'a [u8],
-) -> Result<Option<ContextView<'a>>, OutOfMemory> {
+) -> Result<Option<ContextView<'a>>, OutOfMemory>
+    ensures { IfOk result (λ o. option_map context_of o ≡ context_at payload.now) }
+{
     let Some((svids, rest)) = svid_entries(alloc, payload)? else {
         return Ok(None);
     };

@@ -1,0 +1,3 @@
+pub mod Counted
+pub mod Laid
+pub mod Utf8
