@@ -18,7 +18,7 @@ laid_more {A} one P start now next xs i x laid lt is put fits =
     let cut : take (i + 1) xs ≡ take i xs ++ x ∷ [] = take_more xs i x lt ∙ ap (λ (z : A). take i xs ++ z ∷ []) (sym is) in
     let single : flat_map one (x ∷ []) ≡ one x = flat_map-cons one x [] ∙ append-nil (one x) in
     let whole : flat_map one (take (i + 1) xs) ≡ flat_map one (take i xs) ++ one x =
-        ap (flat_map one) cut ∙ flat_map-append one (take i xs) (x ∷ []) ∙ ap (λ (l : List ℕ). flat_map one (take i xs) ++ l) single in
+    ap (flat_map one) cut ∙ flat_map-append one (take i xs) (x ∷ []) ∙ ap (λ (l : List ℕ). flat_map one (take i xs) ++ l) single in
     record {
       octets = put ∙ ap (λ (l : List ℕ). l ++ one x) laid.octets ∙ append_assoc start (flat_map one (take i xs)) (one x)
           ∙ ap (λ (l : List ℕ). start ++ l) (sym whole);

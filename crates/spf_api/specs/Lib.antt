@@ -1,3 +1,4 @@
+pub mod Errors
 pub mod Layout
 pub mod Layout
 pub mod Reading
