@@ -1,5 +1,6 @@
 ghost use Rattle.std.specs.Prelude.{◌≡◌};
 
+use std::cmp::Ordering;
 use std::marker::Model;
 
 /// Values in order, which contracts see as their list.
@@ -55,4 +56,32 @@ impl<T: Eq> Eq for List<T> {
     ghost use Rattle.std.specs.Cmp.Lexicographic.{lists_equiv};
 
     ghost laws = { lists_equiv T.Eq.laws };
+}
+
+impl<T: PartialOrd> PartialOrd for List<T> {
+    ghost use Rattle.std.specs.Cmp.Lexicographic.{slice_partial_cmp, lists_po};
+
+    ghost partial_cmp = { λ x y. slice_partial_cmp T.partial_cmp x y };
+
+    ghost laws = { lists_po T.PartialOrd.laws };
+
+    fn partial_cmp(&self, other: &List<T>) -> Option<Ordering> {
+        self.items.partial_cmp(&other.items)
+    }
+}
+
+impl<T: Ord> Ord for List<T> {
+    ghost use Rattle.std.specs.Cmp.Lexicographic.{slice_cmp, lists_total, lists_agrees, lists_ties};
+
+    ghost cmp = { λ x y. slice_cmp T.cmp x y };
+
+    ghost total = { lists_total T.total };
+
+    ghost matches_partial_cmp = { λ x y. lists_agrees T.matches_partial_cmp x y };
+
+    ghost matches_eq = { λ x y. lists_ties T.cmp T.matches_eq x y };
+
+    fn cmp(&self, other: &List<T>) -> Ordering {
+        self.items.cmp(&other.items)
+    }
 }
