@@ -1,3 +1,4 @@
 pub mod Counted
+pub mod Holds
 pub mod Laid
 pub mod Utf8

@@ -1,5 +1,6 @@
--- The names and numbers of status codes.
-use Rattle.std.specs.Prelude.{ℕ, List, Option, Some, None, codes, ◌==◌, if◌then◌else◌}
+-- The names and numbers of status codes, and what a message holds.
+use Rattle.std.specs.Prelude.{ℕ, Bool, List, [], ◌∷◌, Option, Some, None, codes, ◌==◌, ◌||◌, nat_eq, if◌then◌else◌}
+use Rattle.std.specs.List.{starts_with}
 use Rattle.spf_api.specs.declared.status.GrpcStatusCode.{GrpcStatusCode}
 use Rattle.spf_api.specs.declared.status.GrpcStatusCode.TheVariants as code
 
@@ -62,3 +63,8 @@ code_at n =
     else (if n == 15 then Some code.DataLoss
     else (if n == 16 then Some code.Unauthenticated
     else None))))))))))))))))
+
+-- whether the needle stands somewhere in the text
+abbrev pub holds : List ℕ → List ℕ → Bool
+holds needle [] = starts_with nat_eq [] needle
+holds needle (x ∷ text) = starts_with nat_eq (x ∷ text) needle || holds needle text

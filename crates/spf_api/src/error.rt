@@ -1,5 +1,10 @@
 //! Why a call of the Workload API fails.
 
+ghost use Rattle.std.specs.Prelude.{◌≡◌, ◌↔◌, IsTrue, Some, codes};
+ghost use Rattle.spf_api.specs.Status.{holds};
+ghost use Rattle.spf_api.specs.Errors.{status_reading, status_code_of};
+ghost use Rattle.spf_api.specs.declared.status.GrpcStatusCode.TheVariants as code;
+
 use crate::endpoint_error::EndpointError;
 use crate::jwt_error::{JwtBundleError, JwtSvidError};
 use crate::status::{GrpcStatusCode, GrpcStatusError, TransportError};
@@ -50,13 +55,17 @@ pub enum WorkloadApiError {
 }
 
 /// Whether the agent says that it knows no registration entry.
-fn tells_no_identity(message: &str) -> bool {
+fn tells_no_identity(message: &str) -> bool
+    ensures { result ≡ holds (codes "no identity issued") message.now }
+{
     memmem::find(message.as_bytes(), b"no identity issued").is_some()
 }
 
 impl WorkloadApiError {
     /// How a status reads: PERMISSION_DENIED is a denial, of which a message can tell that no identity was issued.
-    pub fn from_status(status: GrpcStatusError) -> WorkloadApiError {
+    pub fn from_status(status: GrpcStatusError) -> WorkloadApiError
+        ensures { result ≡ status_reading status }
+    {
         match status.code() {
             GrpcStatusCode::PermissionDenied => {
                 if tells_no_identity(status.message()) {
@@ -70,7 +79,9 @@ impl WorkloadApiError {
     }
 
     /// Whether it is a status INVALID_ARGUMENT of the transport.
-    pub fn is_invalid_argument(&self) -> bool {
+    pub fn is_invalid_argument(&self) -> bool
+        ensures { IsTrue result ↔ (status_code_of self.now ≡ Some code.InvalidArgument) }
+    {
         match self {
             WorkloadApiError::Transport(TransportError::Status(status)) => {
                 matches!(status.code(), GrpcStatusCode::InvalidArgument)
@@ -80,7 +91,9 @@ impl WorkloadApiError {
     }
 
     /// Whether it is a status UNIMPLEMENTED of the transport.
-    pub fn is_unimplemented(&self) -> bool {
+    pub fn is_unimplemented(&self) -> bool
+        ensures { IsTrue result ↔ (status_code_of self.now ≡ Some code.Unimplemented) }
+    {
         match self {
             WorkloadApiError::Transport(TransportError::Status(status)) => {
                 matches!(status.code(), GrpcStatusCode::Unimplemented)
