@@ -2,3 +2,4 @@ pub mod Counted
 pub mod Holds
 pub mod Laid
 pub mod Utf8
+pub mod Viewed

@@ -59,3 +59,9 @@ context_at bytes = do
   f ← list_at bundle_entry_at s.1
   c ← list_at byte_field_at f.1
   if length c.1 == 0 then Some (record { svids = s.0; federated = f.0; crls = c.0 }) else None
+
+-- a bundles response, after which nothing follows
+unfoldable pub bundles_at : List ℕ → Option (List BundleEntry)
+bundles_at bytes = do
+  b ← list_at bundle_entry_at bytes
+  if length b.1 == 0 then Some b.0 else None

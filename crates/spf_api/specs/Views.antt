@@ -23,14 +23,14 @@ abbrev pub context_of : ContextView → ContextResponse
 context_of v = record { svids = map svid_entry_of v.svids; federated = map bundle_entry_of v.federated; crls = map octets_of v.crls }
 
 -- the texts of an entry are UTF-8
-pub record HasTexts (e : SvidEntry) : Type 0 where
-  pub spiffe_id : IsUtf8 e.spiffe_id
-  pub hint : IsUtf8 e.hint
+pub record HasTexts (v : SvidEntryView) : Type 0 where
+  pub spiffe_id : IsUtf8 v.spiffe_id.now
+  pub hint : IsUtf8 v.hint.now
 
-abbrev pub IsNamed : BundleEntry → Type 0
-IsNamed e = IsUtf8 e.name
+abbrev pub IsNamed : BundleEntryView → Type 0
+IsNamed v = IsUtf8 v.name.now
 
 -- the texts of a response are UTF-8
-pub record IsTextual (r : ContextResponse) : Type 0 where
-  pub svids : All HasTexts r.svids
-  pub federated : All IsNamed r.federated
+pub record IsTextual (v : ContextView) : Type 0 where
+  pub svids : All HasTexts v.svids
+  pub federated : All IsNamed v.federated

@@ -1,8 +1,9 @@
 //! How numbers, byte fields and text fields lie in a payload: each is read as the value and what follows it.
 
-ghost use Rattle.std.specs.Prelude.{◌≡◌, ◌<◌, ◌^◌, ◌++◌, length, OnOk};
+ghost use Rattle.std.specs.Prelude.{◌≡◌, ◌<◌, ◌^◌, ◌++◌, length, OnOk, IfSome};
 ghost use Rattle.std.specs.Int.{w32, to_be_bytes};
 ghost use Rattle.std.specs.Option.{option_map};
+ghost use Rattle.std.specs.Str.{IsUtf8};
 ghost use Rattle.spf_api.specs.Layout.{IsShort, IsText, field_text};
 ghost use Rattle.spf_api.specs.Reading.{number_at, byte_field_at, text_field_at};
 
@@ -34,7 +35,8 @@ pub(crate) fn byte_field(bytes: &[u8]) -> Option<(&[u8], &[u8])>
 /// A byte field in UTF-8.
 #[tactic(auto, unfolding(crate::specs::Reading::text_field_at))]
 pub(crate) fn text_field(bytes: &[u8]) -> Option<(&[u8], &[u8])>
-    ensures { option_map (λ x. (x.0.now, x.1.now)) result ≡ text_field_at bytes.now }
+    ensures exact { option_map (λ x. (x.0.now, x.1.now)) result ≡ text_field_at bytes.now }
+    ensures utf8 { IfSome result (λ x. IsUtf8 x.0.now) }
 {
     let (text, rest) = byte_field(bytes)?;
     match str::from_utf8(text) {

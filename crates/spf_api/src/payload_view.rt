@@ -1,8 +1,8 @@
 //! The payload of a context response, read in one pass as slices of it.
 
-ghost use Rattle.std.specs.Prelude.{◌≡◌, map, IfOk};
+ghost use Rattle.std.specs.Prelude.{◌≡◌, map, All, IfOk, IfSome};
 ghost use Rattle.std.specs.Option.{option_map};
-ghost use Rattle.spf_api.specs.Views.{svid_entry_of, bundle_entry_of, octets_of, context_of};
+ghost use Rattle.spf_api.specs.Views.{svid_entry_of, bundle_entry_of, octets_of, context_of, HasTexts, IsNamed, IsTextual};
 ghost use Rattle.spf_api.specs.Reading.{svid_entry_at, bundle_entry_at, byte_field_at, list_at, context_at};
 
 use crate::layout::{byte_field, number, text_field};
@@ -12,7 +12,8 @@ use std::alloc::Global;
 
 #[tactic(auto, unfolding(crate::specs::Reading::svid_entry_at))]
 fn svid_entry(bytes: &[u8]) -> Option<(SvidEntryView<'_>, &[u8])>
-    ensures { option_map (λ x. (svid_entry_of x.0, x.1.now)) result ≡ svid_entry_at bytes.now }
+    ensures exact { option_map (λ x. (svid_entry_of x.0, x.1.now)) result ≡ svid_entry_at bytes.now }
+    ensures texts { IfSome result (λ x. HasTexts x.0) }
 {
     let (spiffe_id, rest) = text_field(bytes)?;
     let (x509_svid, rest) = byte_field(rest)?;
@@ -31,7 +32,8 @@ fn svid_entry(bytes: &[u8]) -> Option<(SvidEntryView<'_>, &[u8])>
 
 #[tactic(auto, unfolding(crate::specs::Reading::bundle_entry_at))]
 fn bundle_entry(bytes: &[u8]) -> Option<(BundleEntryView<'_>, &[u8])>
-    ensures { option_map (λ x. (bundle_entry_of x.0, x.1.now)) result ≡ bundle_entry_at bytes.now }
+    ensures exact { option_map (λ x. (bundle_entry_of x.0, x.1.now)) result ≡ bundle_entry_at bytes.now }
+    ensures texts { IfSome result (λ x. IsNamed x.0) }
 {
     let (name, rest) = text_field(bytes)?;
     let (bundle, rest) = byte_field(rest)?;
@@ -43,7 +45,8 @@ fn svid_entries<'a>(
     alloc: Global,
     bytes: &'a [u8],
 ) -> Result<Option<(Vec<SvidEntryView<'a>>, &'a [u8])>, OutOfMemory>
-    ensures { IfOk result (λ o. option_map (λ x. (map svid_entry_of x.0.items, x.1.now)) o ≡ list_at svid_entry_at bytes.now) }
+    ensures exact { IfOk result (λ o. option_map (λ x. (map svid_entry_of x.0.items, x.1.now)) o ≡ list_at svid_entry_at bytes.now) }
+    ensures texts { IfOk result (λ o. IfSome o (λ x. All HasTexts x.0.items)) }
 {
     let Some((count, mut rest)) = number(bytes) else {
         return Ok(None);
@@ -64,7 +67,8 @@ pub(crate) fn bundle_entries<'a>(
     alloc: Global,
     bytes: &'a [u8],
 ) -> Result<Option<(Vec<BundleEntryView<'a>>, &'a [u8])>, OutOfMemory>
-    ensures { IfOk result (λ o. option_map (λ x. (map bundle_entry_of x.0.items, x.1.now)) o ≡ list_at bundle_entry_at bytes.now) }
+    ensures exact { IfOk result (λ o. option_map (λ x. (map bundle_entry_of x.0.items, x.1.now)) o ≡ list_at bundle_entry_at bytes.now) }
+    ensures texts { IfOk result (λ o. IfSome o (λ x. All IsNamed x.0.items)) }
 {
     let Some((count, mut rest)) = number(bytes) else {
         return Ok(None);
@@ -107,7 +111,8 @@ pub fn read_context_view<'a>(
     alloc: Global,
     payload: &'a [u8],
 ) -> Result<Option<ContextView<'a>>, OutOfMemory>
-    ensures { IfOk result (λ o. option_map context_of o ≡ context_at payload.now) }
+    ensures exact { IfOk result (λ o. option_map context_of o ≡ context_at payload.now) }
+    ensures texts { IfOk result (λ o. IfSome o IsTextual) }
 {
     let Some((svids, rest)) = svid_entries(alloc, payload)? else {
         return Ok(None);
