@@ -1,5 +1,6 @@
 pub mod Counted
 pub mod Holds
 pub mod Laid
+pub mod Spelled
 pub mod Utf8
 pub mod Viewed

@@ -1,5 +1,9 @@
 //! The payload of each kind of response, both ways.
 
+ghost use Rattle.std.specs.Prelude.{◌≡◌, IfOk};
+ghost use Rattle.std.specs.Option.{option_map};
+ghost use Rattle.spf_api.specs.Reading.{bundles_at};
+
 use crate::owned;
 use crate::payload_jwt::{jwt_svids, validation};
 use crate::payload_view::{bundle_entries, read_context_view};
@@ -10,11 +14,17 @@ use crate::response::{BundlesResponse, Response, ResponseKind};
 use spf_io::OutOfMemory;
 use std::alloc::Global;
 
-fn read_bundles(alloc: Global, payload: &[u8]) -> Result<Option<BundlesResponse>, OutOfMemory> {
-    match bundle_entries(alloc, payload)? {
-        Some((views, [])) => Ok(Some(owned::bundles(alloc, views.as_slice())?)),
-        _ => Ok(None),
+#[tactic(auto, unfolding(crate::specs::Reading::bundles_at))]
+fn read_bundles(alloc: Global, payload: &[u8]) -> Result<Option<BundlesResponse>, OutOfMemory>
+    ensures { IfOk result (λ o. option_map (λ r. r.bundles) o ≡ bundles_at payload.now) }
+{
+    let Some((views, rest)) = bundle_entries(alloc, payload)? else {
+        return Ok(None);
+    };
+    if !rest.is_empty() {
+        return Ok(None);
     }
+    Ok(Some(owned::bundles(alloc, views.as_slice())?))
 }
 
 /// The response of that kind that the payload lays out; None where it lays out none.
