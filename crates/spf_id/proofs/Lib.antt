@@ -1,2 +1,6 @@
-pub mod FirstPlace
-pub mod Parts
+pub mod Exact
+mod ColonSlash
+mod FirstPlace
+mod Ids
+mod Parts
+mod Rows

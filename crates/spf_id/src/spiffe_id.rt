@@ -1,8 +1,8 @@
 ghost use Rattle.std.specs.Prelude.{◌≡◌, drop, length, IfOk, MatchResult};
-ghost use Rattle.std.specs.List.{before_first};
+ghost use Rattle.std.specs.List.{before_first, slice_split};
 ghost use Rattle.spf_io.specs.Rule.{Gives};
 ghost use Rattle.spf_id.specs.Id.{Id, id_text};
-ghost use Rattle.spf_id.specs.Rule.{is_memory, is_slash, id_rule, has_spiffe_scheme};
+ghost use Rattle.spf_id.specs.Rule.{is_memory, is_slash, parts_rule, id_rule, has_spiffe_scheme};
 
 use crate::error::SpiffeIdError;
 use crate::path::check_path;
@@ -11,10 +11,11 @@ use memchr::memchr;
 use spf_io::{OutOfMemory, Text};
 use std::alloc::Global;
 use std::fmt;
+use std::hash::{Hash, Hasher};
 use std::marker::Model;
 
 /// A SPIFFE ID, which contracts see as its trust domain and its path. Its equality, order and hash are those of its text.
-#[derive(Debug, PartialEq, Eq, PartialOrd, Ord, Hash, Drop)]
+#[derive(Debug, PartialEq, Eq, PartialOrd, Ord, Drop)]
 pub struct SpiffeId {
     text: Text,
     domain: TrustDomain,
@@ -50,20 +51,13 @@ fn halves(text: &str) -> (&str, &str)
     }
 }
 
-/// The trust domain and the path of an ID, or the first broken rule.
-#[tactic(auto, unfolding(crate::specs::Rule::id_rule, crate::specs::Rule::parts_rule))]
-pub(crate) fn parts(text: &str) -> Result<(&str, &str), SpiffeIdError>
-    ensures { MatchResult result (λ p. id_rule text.now ≡ Ok (record { domain = p.0.now; path = p.1.now })) (λ e. id_rule text.now ≡ Err e) }
+/// The trust domain and the path in what follows the scheme, or the first broken rule.
+#[tactic(auto, using(crate::proofs::Parts::parts_by_halves))]
+fn parts_after_scheme(rest: &str) -> Result<(&str, &str), SpiffeIdError>
+    ensures { MatchResult result
+        (λ p. parts_rule (slice_split is_slash rest.now) ≡ Ok (record { domain = p.0.now; path = p.1.now }))
+        (λ e. parts_rule (slice_split is_slash rest.now) ≡ Err e) }
 {
-    if text.is_empty() {
-        return Err(SpiffeIdError::Empty);
-    }
-    if text.len() > 2048 {
-        return Err(SpiffeIdError::TooLong);
-    }
-    let Some(rest) = text.strip_prefix("spiffe://") else {
-        return Err(SpiffeIdError::WrongScheme);
-    };
     let (domain, path) = halves(rest);
     if domain.is_empty() {
         return Err(SpiffeIdError::MissingTrustDomain);
@@ -73,7 +67,27 @@ pub(crate) fn parts(text: &str) -> Result<(&str, &str), SpiffeIdError>
     Ok((domain, path))
 }
 
+/// The trust domain and the path of an ID, or the first broken rule.
+#[tactic(auto, unfolding(crate::specs::Rule::id_rule))]
+pub(crate) fn parts(text: &str) -> Result<(&str, &str), SpiffeIdError>
+    ensures { MatchResult result
+        (λ p. id_rule text.now ≡ Ok (record { domain = p.0.now; path = p.1.now }))
+        (λ e. id_rule text.now ≡ Err e) }
+{
+    if text.is_empty() {
+        return Err(SpiffeIdError::Empty);
+    }
+    if text.len() > 2048 {
+        return Err(SpiffeIdError::TooLong);
+    }
+    match text.strip_prefix("spiffe://") {
+        None => Err(SpiffeIdError::WrongScheme),
+        Some(rest) => parts_after_scheme(rest),
+    }
+}
+
 /// Whether a URI begins with `spiffe:`, ASCII case apart.
+#[tactic(auto, unfolding(crate::specs::Rule::has_spiffe_scheme))]
 pub fn uri_has_spiffe_scheme(uri: &str) -> bool
     ensures { result ≡ has_spiffe_scheme uri.now }
 {
@@ -122,7 +136,8 @@ impl SpiffeId {
     }
 
     pub fn as_str(&self) -> &str
-        ensures { result.now ≡ id_text self.now }
+        ensures text { result.now ≡ id_text self.now }
+        ensures rule { id_rule result.now ≡ Ok self.now }
     {
         self.text.as_str()
     }
@@ -134,6 +149,21 @@ impl SpiffeId {
         let text = self.text.try_clone(alloc)?;
         let domain = self.domain.try_clone(alloc)?;
         Ok(SpiffeId { text, domain })
+    }
+}
+
+impl Hash for SpiffeId {
+    ghost use Rattle.std.specs.Hash as fed;
+    ghost use Rattle.std.specs.Cmp.Rules.{hashing};
+    ghost use Rattle.std.proofs.Common.{rules};
+    ghost use Rattle.spf_id.specs.Id.{id_text};
+
+    ghost hash_input = { λ id. fed.str (id_text id) };
+
+    ghost respects_eq = { Prim.search (hashing, rules) };
+
+    fn hash<H: Hasher>(&self, state: &mut H) {
+        self.text.hash(state);
     }
 }
 

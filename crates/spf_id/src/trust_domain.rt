@@ -1,5 +1,5 @@
-ghost use Rattle.std.specs.Prelude.{◌≡◌, IfOk, MatchResult, string_bytes};
-ghost use Rattle.std.specs.List.{list_all};
+ghost use Rattle.std.specs.Prelude.{◌≡◌, IfOk, MatchResult, codes, nat_eq, string_bytes};
+ghost use Rattle.std.specs.List.{list_all, starts_with};
 ghost use Rattle.spf_io.specs.Rule.{Gives};
 ghost use Rattle.spf_id.specs.Rule.{is_memory, is_domain_octet, domain_rule, holds_colon_slash, name_rule};
 
@@ -57,16 +57,27 @@ pub(crate) fn check_domain(octets: &[u8]) -> Result<(), SpiffeIdError>
     Ok(())
 }
 
+fn begins_with_slash(octets: &[u8]) -> bool
+    ensures { result ≡ starts_with nat_eq octets.now (codes "/") }
+{
+    matches!(octets, [b'/', ..])
+}
+
 /// Whether a text is to be read as an ID: it holds `:/`.
 fn is_read_as_id(octets: &[u8]) -> bool
     ensures { result ≡ holds_colon_slash octets.now }
 {
     let mut rest = octets;
     loop {
-        match cut(b':', rest).1 {
+        let (_, after) = cut(b':', rest);
+        match after {
             None => return false,
-            Some([b'/', ..]) => return true,
-            Some(after) => rest = after,
+            Some(after) => {
+                if begins_with_slash(after) {
+                    return true;
+                }
+                rest = after;
+            }
         }
     }
 }
