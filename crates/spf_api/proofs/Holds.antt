@@ -38,9 +38,9 @@ occurs : (needle text : List ℕ) → HasSubslice text needle → (k : ℕ) × (
 occurs needle text (front, rest, is) =
     let long : length text ≡ length front + (length needle + length rest) = ap length is ∙ length-append front (needle ++ rest) ∙ ap (λ (n : ℕ). length front + n) (length-append needle rest) in
     let part : take (length needle) (drop (length front) text) ≡ needle =
-        ap (λ (l : List ℕ). take (length needle) (drop (length front) l)) is
-        ∙ ap (λ (l : List ℕ). take (length needle) l) (drop_at front (needle ++ rest) (length front) refl)
-        ∙ take_at needle rest (length needle) refl in
+    ap (λ (l : List ℕ). take (length needle) (drop (length front) l)) is
+    ∙ ap (λ (l : List ℕ). take (length needle) l) (drop_at front (needle ++ rest) (length front) refl)
+    ∙ take_at needle rest (length needle) refl in
     (length front, omega arith, OccursAt-from_part text needle (length front) (omega arith) part)
 
 -- the answer of a search, as a test

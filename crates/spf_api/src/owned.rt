@@ -33,10 +33,7 @@ fn svid_entry(alloc: Global, entry: &SvidEntryView<'_>) -> Result<SvidEntry, Out
     })
 }
 
-fn svid_entries(
-    alloc: Global,
-    views: &[SvidEntryView<'_>],
-) -> Result<List<SvidEntry>, OutOfMemory>
+fn svid_entries(alloc: Global, views: &[SvidEntryView<'_>]) -> Result<List<SvidEntry>, OutOfMemory>
     requires { All HasTexts views.now }
     ensures { IfOk result (λ l. l ≡ map svid_entry_of views.now) }
 {
@@ -83,10 +80,7 @@ pub(crate) fn byte_fields(alloc: Global, views: &[&[u8]]) -> Result<Vec<Bytes>, 
 }
 
 /// The response that the view holds.
-pub(crate) fn context(
-    alloc: Global,
-    view: &ContextView<'_>,
-) -> Result<ContextResponse, OutOfMemory>
+pub(crate) fn context(alloc: Global, view: &ContextView<'_>) -> Result<ContextResponse, OutOfMemory>
     requires { IsTextual view.now }
     ensures { IfOk result (λ r. r ≡ context_of view.now) }
 {

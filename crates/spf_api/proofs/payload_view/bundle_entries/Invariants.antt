@@ -8,5 +8,5 @@ use Rattle.spf_api.proofs.payload_view.bundle_entries.Given as goal
 abbrev pub invariant-entries : goal.invariant-entries
 invariant-entries l = record {
   reads : Goes bundle_entry_at (l.count - l.counter) (map bundle_entry_of l.entries.items) l.rest (counted bundle_entry_at l.count l.initial.rest);
-  texts : All IsNamed l.entries.items
+  texts : All IsNamed l.entries.items;
 }

@@ -19,7 +19,7 @@ entries-preserved c =
     let left : c.in-Some.count - c.entries.counter ≡ (c.in-Some.count - (c.entries.counter + 1)) + 1 = omega arith in
     let items : c.push.new.self.items ≡ c.entries.entries.items ++ found.entry ∷ [] = c.in_ok-push.ensures.items in
     let pushed : map svid_entry_of c.push.new.self.items ≡ map svid_entry_of c.entries.entries.items ++ svid_entry_of found.entry ∷ [] =
-        rw items (map_push svid_entry_of c.entries.entries.items found.entry) in
+    rw items (map_push svid_entry_of c.entries.entries.items found.entry) in
     record {
       reads = rw pushed
           (counted_more svid_entry_at (c.in-Some.count - c.entries.counter) (c.in-Some.count - (c.entries.counter + 1)) (map svid_entry_of c.entries.entries.items)

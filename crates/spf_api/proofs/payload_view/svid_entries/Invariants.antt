@@ -8,5 +8,5 @@ use Rattle.spf_api.proofs.payload_view.svid_entries.Given as goal
 abbrev pub invariant-entries : goal.invariant-entries
 invariant-entries l = record {
   reads : Goes svid_entry_at (l.count - l.counter) (map svid_entry_of l.entries.items) l.rest (counted svid_entry_at l.count l.initial.rest);
-  texts : All HasTexts l.entries.items
+  texts : All HasTexts l.entries.items;
 }

@@ -1,5 +1,4 @@
 use Rattle.std.proofs.Common.{◌≡◌, map, take}
-
 use Rattle.spf_api.specs.Views.{octets_of}
 use Rattle.spf_api.proofs.views.byte_fields.Given as goal
 
