@@ -1,6 +1,5 @@
 pub mod Errors
 pub mod Layout
-pub mod Layout
 pub mod Parsed
 pub mod Reading
 pub mod Refused

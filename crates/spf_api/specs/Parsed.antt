@@ -1,5 +1,5 @@
 -- The response rule: the first rule that a response breaks.
-use Rattle.std.specs.Prelude.{ℕ, List, length, codes, Result, Ok, Err, ◌==◌, if◌then◌else◌}
+use Rattle.std.specs.Prelude.{ℕ, List, length, codes, Option, Some, None, Result, Ok, Err, ◌==◌, if◌then◌else◌}
 use Rattle.spf_io.specs.Rule.{◌>>=◌, each}
 use Rattle.spf_api.specs.declared.response.SvidEntry.{SvidEntry}
 use Rattle.spf_api.specs.declared.error.WorkloadApiError.{WorkloadApiError}
@@ -27,3 +27,7 @@ unfoldable pub entries_rule : List SvidEntry → Result (Unit {0}) WorkloadApiEr
 entries_rule entries =
     if length entries == 0 then Err (api.MissingRequiredField (codes "X509SVIDResponse.svids"))
     else (kept_by_each bundle_required entries >>= λ b. kept_by_each fields_required entries)
+
+-- an empty hint is no hint
+abbrev pub hint_rule : List ℕ → Option (List ℕ)
+hint_rule hint = if length hint == 0 then None else Some hint

@@ -1,10 +1,16 @@
 -- What stands at the front of a payload, and what follows it.
-use Rattle.std.specs.Prelude.{ℕ, zero, suc, List, [], ◌∷◌, length, take, drop, Option, Some, None, nat_lt, ◌==◌, if◌then◌else◌}
+use Rattle.std.specs.Prelude.{◌≡◌, ℕ, zero, suc, List, [], ◌∷◌, length, take, drop, Option, Some, None, nat_lt, ◌==◌, if◌then◌else◌}
 use Rattle.std.specs.Int.{w32, from_be_bytes}
 use Rattle.std.specs.Str.{is_utf8}
 use Rattle.spf_api.specs.declared.response.SvidEntry.{SvidEntry}
 use Rattle.spf_api.specs.declared.response.BundleEntry.{BundleEntry}
+use Rattle.std.specs.Option.{option_map}
 use Rattle.spf_api.specs.declared.response.ContextResponse.{ContextResponse}
+use Rattle.spf_api.specs.declared.response.JwtSvidEntry.{JwtSvidEntry}
+use Rattle.spf_api.specs.declared.response.Response.{Response}
+use Rattle.spf_api.specs.declared.response.Response.TheVariants as response
+use Rattle.spf_api.specs.declared.response.ResponseKind.{ResponseKind}
+use Rattle.spf_api.specs.declared.response.ResponseKind.TheVariants as kind
 
 infixl 10 ◌>>=◌
 abbrev pub ◌>>=◌ : {A B : Type 0} → Option A → (A → Option B) → Option B
@@ -65,3 +71,24 @@ unfoldable pub bundles_at : List ℕ → Option (List BundleEntry)
 bundles_at bytes = do
   b ← list_at bundle_entry_at bytes
   if length b.1 == 0 then Some b.0 else None
+
+unfoldable pub jwt_svid_entry_at : List ℕ → Option (JwtSvidEntry × List ℕ)
+jwt_svid_entry_at bytes = do
+  i ← text_field_at bytes
+  t ← text_field_at i.1
+  h ← text_field_at t.1
+  Some (record { spiffe_id = i.0; svid = t.0; hint = h.0 }, h.1)
+
+-- a JWT SVID response, after which nothing follows
+unfoldable pub jwt_svids_at : List ℕ → Option (List JwtSvidEntry)
+jwt_svids_at bytes = do
+  t ← list_at jwt_svid_entry_at bytes
+  if length t.1 == 0 then Some t.0 else None
+
+-- What reading a payload of that kind gives. Of validations nothing is said.
+unfoldable pub IsRead : ResponseKind → List ℕ → Option Response → Type 0
+IsRead kind.Context bytes found = found ≡ option_map response.Context (context_at bytes)
+IsRead kind.Bundles bytes found = found ≡ option_map (λ l. response.Bundles (record { bundles = l })) (bundles_at bytes)
+IsRead kind.JwtSvids bytes found = found ≡ option_map (λ l. response.JwtSvids (record { svids = l })) (jwt_svids_at bytes)
+IsRead kind.JwtBundles bytes found = found ≡ option_map (λ l. response.JwtBundles (record { bundles = l })) (bundles_at bytes)
+IsRead kind.Validation bytes found = Unit {0}

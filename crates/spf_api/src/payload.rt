@@ -2,7 +2,7 @@
 
 ghost use Rattle.std.specs.Prelude.{◌≡◌, IfOk};
 ghost use Rattle.std.specs.Option.{option_map};
-ghost use Rattle.spf_api.specs.Reading.{bundles_at};
+ghost use Rattle.spf_api.specs.Reading.{bundles_at, IsRead};
 
 use crate::owned;
 use crate::payload_jwt::{jwt_svids, validation};
@@ -27,12 +27,16 @@ fn read_bundles(alloc: Global, payload: &[u8]) -> Result<Option<BundlesResponse>
     Ok(Some(owned::bundles(alloc, views.as_slice())?))
 }
 
-/// The response of that kind that the payload lays out; None where it lays out none.
+/// The response of that kind that the payload lays out; None where it lays out none. Of validations the contract says
+/// nothing.
+#[tactic(auto, unfolding(crate::specs::Reading::IsRead))]
 pub fn read_payload(
     alloc: Global,
     kind: ResponseKind,
     payload: &[u8],
-) -> Result<Option<Response>, OutOfMemory> {
+) -> Result<Option<Response>, OutOfMemory>
+    ensures { IfOk result (λ o. IsRead kind payload.now o) }
+{
     match kind {
         ResponseKind::Context => match read_context_view(alloc, payload)? {
             Some(view) => Ok(Some(Response::Context(owned::context(alloc, &view)?))),

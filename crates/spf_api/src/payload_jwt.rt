@@ -1,5 +1,9 @@
 //! The payloads of JWT SVID and validation responses.
 
+ghost use Rattle.std.specs.Prelude.{◌≡◌, IfOk};
+ghost use Rattle.std.specs.Option.{option_map};
+ghost use Rattle.spf_api.specs.Reading.{jwt_svid_entry_at, jwt_svids_at, list_at, text_field_at};
+
 use crate::layout::{number, text_field};
 use crate::owned::text;
 use crate::response::{Claim, ClaimValue, JwtSvidEntry, JwtSvidsResponse, ValidationResponse};
@@ -9,50 +13,68 @@ use std::alloc::Global;
 /// How deep the values of a claim may stand.
 const DEEPEST: usize = 64;
 
-fn owned_text(alloc: Global, bytes: &[u8]) -> Result<Option<(Text, &[u8])>, OutOfMemory> {
+fn owned_text(alloc: Global, bytes: &[u8]) -> Result<Option<(Text, &[u8])>, OutOfMemory>
+    ensures { IfOk result (λ o. option_map (λ x. (x.0, x.1.now)) o ≡ text_field_at bytes.now) }
+{
     let Some((field, rest)) = text_field(bytes) else {
         return Ok(None);
     };
     Ok(Some((text(alloc, field)?, rest)))
 }
 
-fn jwt_svid_entry(
-    alloc: Global,
-    bytes: &[u8],
-) -> Result<Option<(JwtSvidEntry, &[u8])>, OutOfMemory> {
-    let Some((spiffe_id, rest)) = text_field(bytes) else {
+#[tactic(auto, unfolding(crate::specs::Reading::jwt_svid_entry_at))]
+fn jwt_svid_entry(alloc: Global, bytes: &[u8]) -> Result<Option<(JwtSvidEntry, &[u8])>, OutOfMemory>
+    ensures { IfOk result (λ o. option_map (λ x. (x.0, x.1.now)) o ≡ jwt_svid_entry_at bytes.now) }
+{
+    let Some((spiffe_id, rest)) = owned_text(alloc, bytes)? else {
         return Ok(None);
     };
-    let Some((svid, rest)) = text_field(rest) else {
+    let Some((svid, rest)) = owned_text(alloc, rest)? else {
         return Ok(None);
     };
-    let Some((hint, rest)) = text_field(rest) else {
+    let Some((hint, rest)) = owned_text(alloc, rest)? else {
         return Ok(None);
     };
     let entry = JwtSvidEntry {
-        spiffe_id: text(alloc, spiffe_id)?,
-        svid: text(alloc, svid)?,
-        hint: text(alloc, hint)?,
+        spiffe_id,
+        svid,
+        hint,
     };
     Ok(Some((entry, rest)))
 }
 
-/// The JWT SVID response that the payload lays out, if it lays out one.
-pub(crate) fn jwt_svids(
+/// A list of JWT SVID entries. Its count takes no memory.
+fn jwt_svid_entries(
     alloc: Global,
-    payload: &[u8],
-) -> Result<Option<JwtSvidsResponse>, OutOfMemory> {
-    let Some((count, mut rest)) = number(payload) else {
+    bytes: &[u8],
+) -> Result<Option<(Vec<JwtSvidEntry>, &[u8])>, OutOfMemory>
+    ensures { IfOk result (λ o. option_map (λ x. (x.0.items, x.1.now)) o ≡ list_at jwt_svid_entry_at bytes.now) }
+{
+    let Some((count, mut rest)) = number(bytes) else {
         return Ok(None);
     };
     let mut svids = Vec::new(alloc);
-    for _ in 0..count {
+    'entries: for _ in 0..count {
         let Some((entry, after)) = jwt_svid_entry(alloc, rest)? else {
             return Ok(None);
         };
         svids.push(entry)?;
         rest = after;
     }
+    Ok(Some((svids, rest)))
+}
+
+/// The JWT SVID response that the payload lays out, if it lays out one.
+#[tactic(auto, unfolding(crate::specs::Reading::jwt_svids_at))]
+pub(crate) fn jwt_svids(
+    alloc: Global,
+    payload: &[u8],
+) -> Result<Option<JwtSvidsResponse>, OutOfMemory>
+    ensures { IfOk result (λ o. option_map (λ r. r.svids) o ≡ jwt_svids_at payload.now) }
+{
+    let Some((svids, rest)) = jwt_svid_entries(alloc, payload)? else {
+        return Ok(None);
+    };
     if !rest.is_empty() {
         return Ok(None);
     }

@@ -5,7 +5,7 @@ ghost use Rattle.std.specs.Str.{IsUtf8};
 ghost use Rattle.spf_io.specs.Rule.{Gives};
 ghost use Rattle.spf_api.specs.Errors.{is_memory_api};
 ghost use Rattle.spf_api.specs.Views.{svid_entry_of, octets_of, context_of, HasTexts, IsNamed, IsTextual};
-ghost use Rattle.spf_api.specs.Parsed.{required, bundle_required, fields_required, kept_by_each, entries_rule};
+ghost use Rattle.spf_api.specs.Parsed.{required, bundle_required, fields_required, kept_by_each, entries_rule, hint_rule};
 
 use crate::error::WorkloadApiError;
 use crate::owned::{byte_fields, text};
@@ -87,6 +87,7 @@ fn check_entries(alloc: Global, entries: &[SvidEntryView<'_>]) -> Result<(), Wor
 /// The hint of an entry, of which an empty one is none.
 fn hint_of(alloc: Global, hint: &[u8]) -> Result<Option<Text>, OutOfMemory>
     requires { IsUtf8 hint.now }
+    ensures { IfOk result (λ h. h ≡ hint_rule hint.now) }
 {
     if hint.is_empty() {
         return Ok(None);

@@ -57,7 +57,7 @@ fn is_read_again(alloc: Global, kind: ResponseKind, response: Response) -> Resul
 }
 
 #[test]
-fn jwt_payloads(rt: HostRuntime) -> Result<(), Fail> {
+fn jwt_svids_payload(rt: HostRuntime) -> Result<(), Fail> {
     let alloc = rt.alloc();
     let entry = JwtSvidEntry {
         spiffe_id: Text::copy_of(alloc, "spiffe://example.org/w")?,
@@ -68,6 +68,12 @@ fn jwt_payloads(rt: HostRuntime) -> Result<(), Fail> {
         svids: List::new(vec![in alloc; entry]?),
     });
     assert!(rt; is_read_again(alloc, ResponseKind::JwtSvids, svids)?);
+    Ok(())
+}
+
+#[test]
+fn empty_payloads(rt: HostRuntime) -> Result<(), Fail> {
+    let alloc = rt.alloc();
     let bundles = Response::JwtBundles(BundlesResponse {
         bundles: List::new(Vec::new(alloc)),
     });
@@ -80,34 +86,47 @@ fn jwt_payloads(rt: HostRuntime) -> Result<(), Fail> {
     Ok(())
 }
 
-fn claim(alloc: Global, name: &str, value: ClaimValue) -> Result<Claim, Fail> {
-    Ok(Claim {
-        name: Text::copy_of(alloc, name)?,
+/// Whether a claim of this value is read again.
+fn is_claim_read(alloc: Global, value: ClaimValue) -> Result<bool, Fail> {
+    let claim = Claim {
+        name: Text::copy_of(alloc, "a")?,
         value,
-    })
-}
-
-/// A claim of every kind of value.
-#[test]
-fn claim_payloads(rt: HostRuntime) -> Result<(), Fail> {
-    let alloc = rt.alloc();
-    let words = ClaimValue::Words(Text::copy_of(alloc, "a")?);
-    let inner = claim(alloc, "g", ClaimValue::Null)?;
-    let mut claims = Vec::new(alloc);
-    claims.push(claim(alloc, "a", ClaimValue::Unset)?)?;
-    claims.push(claim(alloc, "b", ClaimValue::Bool(true))?)?;
-    claims.push(claim(alloc, "c", ClaimValue::Whole(-2))?)?;
-    let number = ClaimValue::OtherNumber(Text::copy_of(alloc, "1.5")?);
-    claims.push(claim(alloc, "d", number)?)?;
-    let items = ClaimValue::Items(List::new(vec![in alloc; words]?));
-    claims.push(claim(alloc, "e", items)?)?;
-    let fields = ClaimValue::Fields(List::new(vec![in alloc; inner]?));
-    claims.push(claim(alloc, "f", fields)?)?;
+    };
     let response = Response::Validation(ValidationResponse {
         spiffe_id: Text::copy_of(alloc, "a")?,
-        claims: Some(List::new(claims)),
+        claims: Some(List::new(vec![in alloc; claim]?)),
     });
-    assert!(rt; is_read_again(alloc, ResponseKind::Validation, response)?);
+    is_read_again(alloc, ResponseKind::Validation, response)
+}
+
+#[test]
+fn plain_claims(rt: HostRuntime) -> Result<(), Fail> {
+    let alloc = rt.alloc();
+    let number = ClaimValue::OtherNumber(Text::copy_of(alloc, "1.5")?);
+    for value in [
+        ClaimValue::Unset,
+        ClaimValue::Null,
+        ClaimValue::Bool(true),
+        ClaimValue::Whole(-2),
+        number,
+    ] {
+        assert!(rt; is_claim_read(alloc, value)?);
+    }
+    Ok(())
+}
+
+#[test]
+fn nested_claims(rt: HostRuntime) -> Result<(), Fail> {
+    let alloc = rt.alloc();
+    let words = ClaimValue::Words(Text::copy_of(alloc, "a")?);
+    let items = ClaimValue::Items(List::new(vec![in alloc; words]?));
+    assert!(rt; is_claim_read(alloc, items)?);
+    let inner = Claim {
+        name: Text::copy_of(alloc, "g")?,
+        value: ClaimValue::Null,
+    };
+    let fields = ClaimValue::Fields(List::new(vec![in alloc; inner]?));
+    assert!(rt; is_claim_read(alloc, fields)?);
     Ok(())
 }
 
