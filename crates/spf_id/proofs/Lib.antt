@@ -1,0 +1,4 @@
+pub mod ColonSlash
+pub mod FirstPlace
+pub mod Ids
+pub mod Parts

@@ -1,0 +1,15 @@
+//! Trust domains and SPIFFE IDs, as the SPIFFE-ID standard has them.
+#![tactic(auto)]
+
+mod error;
+mod path;
+mod separator;
+mod spiffe_id;
+mod trust_domain;
+
+pub use error::SpiffeIdError;
+pub use spiffe_id::{SpiffeId, uri_has_spiffe_scheme};
+pub use trust_domain::TrustDomain;
+
+#[cfg(test)]
+mod tests;

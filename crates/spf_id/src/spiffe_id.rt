@@ -1,0 +1,161 @@
+ghost use Rattle.std.specs.Prelude.{◌≡◌, drop, length, IfOk, MatchResult};
+ghost use Rattle.std.specs.List.{before_first, slice_split};
+ghost use Rattle.spf_io.specs.Rule.{Gives};
+ghost use Rattle.spf_id.specs.Id.{Id, id_text};
+ghost use Rattle.spf_id.specs.Rule.{is_memory, is_slash, parts_rule, id_rule, has_spiffe_scheme};
+
+use crate::error::SpiffeIdError;
+use crate::path::check_path;
+use crate::trust_domain::{TrustDomain, check_domain};
+use memchr::memchr;
+use spf_io::{OutOfMemory, Text};
+use std::alloc::Global;
+use std::fmt;
+use std::marker::Model;
+
+/// A SPIFFE ID, which contracts see as its trust domain and its path. Its equality, order and hash are those of its text.
+#[derive(Debug, PartialEq, Eq, PartialOrd, Ord, Hash, Drop)]
+pub struct SpiffeId {
+    text: Text,
+    domain: TrustDomain,
+}
+
+impl Model for SpiffeId {
+    ghost use Rattle.std.specs.Prelude.{◌+◌, drop, length};
+    ghost use Rattle.spf_id.specs.Id.{Id, id_text};
+
+    ghost Value = { Id };
+
+    ghost use Rattle.spf_id.specs.Rule.{IsTextOf};
+
+    ghost view = { λ a. record { domain = a.domain; path = drop (9 + length a.domain) a.text } };
+
+    ghost invariant = { λ a. IsTextOf (record { domain = a.domain; path = drop (9 + length a.domain) a.text }) a.text };
+
+    ghost inverse = { λ v. record { text = id_text v; domain = v.domain } };
+
+    ghost use Rattle.std.proofs.Common.{sym};
+
+    ghost inverse_ok = { λ a h. (λ i. record { text = sym h.text i; domain = a.domain }) };
+}
+
+/// What stands before the first slash, and the rest, which is empty or begins with it.
+fn halves(text: &str) -> (&str, &str)
+    ensures domain { result.0.now ≡ before_first is_slash text.now }
+    ensures path { result.1.now ≡ drop (length (before_first is_slash text.now)) text.now }
+{
+    match memchr(b'/', text.as_bytes()) {
+        None => (text, ""),
+        Some(at) => text.split_at(at),
+    }
+}
+
+/// The trust domain and the path in what follows the scheme, or the first broken rule.
+#[tactic(auto, using(crate::proofs::Parts::parts_by_halves))]
+fn parts_after_scheme(rest: &str) -> Result<(&str, &str), SpiffeIdError>
+    ensures { MatchResult result
+        (λ p. parts_rule (slice_split is_slash rest.now) ≡ Ok (record { domain = p.0.now; path = p.1.now }))
+        (λ e. parts_rule (slice_split is_slash rest.now) ≡ Err e) }
+{
+    let (domain, path) = halves(rest);
+    if domain.is_empty() {
+        return Err(SpiffeIdError::MissingTrustDomain);
+    }
+    check_domain(domain.as_bytes())?;
+    check_path(path.as_bytes())?;
+    Ok((domain, path))
+}
+
+/// The trust domain and the path of an ID, or the first broken rule.
+#[tactic(auto, unfolding(crate::specs::Rule::id_rule))]
+pub(crate) fn parts(text: &str) -> Result<(&str, &str), SpiffeIdError>
+    ensures { MatchResult result
+        (λ p. id_rule text.now ≡ Ok (record { domain = p.0.now; path = p.1.now }))
+        (λ e. id_rule text.now ≡ Err e) }
+{
+    if text.is_empty() {
+        return Err(SpiffeIdError::Empty);
+    }
+    if text.len() > 2048 {
+        return Err(SpiffeIdError::TooLong);
+    }
+    match text.strip_prefix("spiffe://") {
+        None => Err(SpiffeIdError::WrongScheme),
+        Some(rest) => parts_after_scheme(rest),
+    }
+}
+
+/// Whether a URI begins with `spiffe:`, ASCII case apart.
+pub fn uri_has_spiffe_scheme(uri: &str) -> bool
+    ensures { result ≡ has_spiffe_scheme uri.now }
+{
+    uri.len() >= 7 && uri.as_bytes()[..7].eq_ignore_ascii_case(b"spiffe:")
+}
+
+impl SpiffeId {
+    /// The ID that a text is, or the first broken rule.
+    pub fn new(alloc: Global, text: &str) -> Result<SpiffeId, SpiffeIdError>
+        ensures { Gives is_memory (λ id. id) result (id_rule text.now) }
+    {
+        let (domain, _) = parts(text)?;
+        let domain = TrustDomain::copy_of(alloc, domain)?;
+        let text = Text::copy_of(alloc, text)?;
+        Ok(SpiffeId { text, domain })
+    }
+
+    /// The same as `new`.
+    pub fn try_from(alloc: Global, text: &str) -> Result<SpiffeId, SpiffeIdError>
+        ensures { Gives is_memory (λ id. id) result (id_rule text.now) }
+    {
+        SpiffeId::new(alloc, text)
+    }
+
+    /// The same as `new`.
+    pub fn from_str(alloc: Global, text: &str) -> Result<SpiffeId, SpiffeIdError>
+        ensures { Gives is_memory (λ id. id) result (id_rule text.now) }
+    {
+        SpiffeId::new(alloc, text)
+    }
+
+    pub fn trust_domain(&self) -> &TrustDomain
+        ensures { result.now ≡ self.now.domain }
+    {
+        &self.domain
+    }
+
+    /// The path, which is empty or begins with `/`.
+    pub fn path(&self) -> &str
+        ensures { result.now ≡ self.now.path }
+    {
+        self.text
+            .as_str()
+            .split_at(9 + self.domain.as_str().len())
+            .1
+    }
+
+    pub fn as_str(&self) -> &str
+        ensures { result.now ≡ id_text self.now }
+    {
+        self.text.as_str()
+    }
+
+    /// The same ID again.
+    pub fn try_clone(&self, alloc: Global) -> Result<SpiffeId, OutOfMemory>
+        ensures { IfOk result (λ id. id ≡ self.now) }
+    {
+        let text = self.text.try_clone(alloc)?;
+        let domain = self.domain.try_clone(alloc)?;
+        Ok(SpiffeId { text, domain })
+    }
+}
+
+impl fmt::Display for SpiffeId {
+    ghost use Rattle.std.specs.Prelude.{Some};
+    ghost use Rattle.spf_id.specs.Id.{id_text};
+
+    ghost output = { λ id. Some (id_text id) };
+
+    fn fmt<W: fmt::Write>(&self, f: &mut fmt::Formatter<W>) -> fmt::Result {
+        fmt::Display::fmt(self.text.as_str(), f)
+    }
+}

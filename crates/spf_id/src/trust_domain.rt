@@ -1,0 +1,168 @@
+ghost use Rattle.std.specs.Prelude.{◌≡◌, IfOk, MatchResult, codes, nat_eq, string_bytes};
+ghost use Rattle.std.specs.List.{list_all, starts_with};
+ghost use Rattle.spf_io.specs.Rule.{Gives};
+ghost use Rattle.spf_id.specs.Rule.{is_memory, is_domain_octet, domain_rule, holds_colon_slash, name_rule};
+
+use crate::error::SpiffeIdError;
+use crate::separator::cut;
+use crate::spiffe_id::parts;
+use spf_io::{OutOfMemory, Text};
+use std::alloc::Global;
+use std::fmt;
+use std::marker::Model;
+
+/// The name of a trust domain, which contracts see as its bytes.
+#[derive(Debug, PartialEq, Eq, PartialOrd, Ord, Hash, Drop)]
+pub struct TrustDomain {
+    name: Text,
+}
+
+impl Model for TrustDomain {
+    ghost use Rattle.std.specs.Prelude.{List, ℕ};
+
+    ghost Value = { List ℕ };
+
+    ghost view = { λ t. t.name };
+
+    ghost inverse = { λ s. record { name = s } };
+}
+
+fn is_domain_char(octet: u8) -> bool
+    ensures { result ≡ is_domain_octet octet }
+{
+    octet.is_ascii_lowercase()
+        || octet.is_ascii_digit()
+        || octet == b'.'
+        || octet == b'-'
+        || octet == b'_'
+}
+
+fn is_domain_text(octets: &[u8]) -> bool
+    ensures { result ≡ list_all is_domain_octet octets.now }
+{
+    octets.iter().all(|octet| is_domain_char(*octet))
+}
+
+/// Whether a trust domain that is not empty breaks a rule, and which.
+#[tactic(auto, unfolding(crate::specs::Rule::domain_rule))]
+pub(crate) fn check_domain(octets: &[u8]) -> Result<(), SpiffeIdError>
+    ensures { result ≡ domain_rule octets.now }
+{
+    if octets.len() > 255 {
+        return Err(SpiffeIdError::TrustDomainTooLong);
+    }
+    if !is_domain_text(octets) {
+        return Err(SpiffeIdError::BadTrustDomainChar);
+    }
+    Ok(())
+}
+
+fn begins_with_slash(octets: &[u8]) -> bool
+    ensures { result ≡ starts_with nat_eq octets.now (codes "/") }
+{
+    matches!(octets, [b'/', ..])
+}
+
+/// Whether a text is to be read as an ID: it holds `:/`.
+fn is_read_as_id(octets: &[u8]) -> bool
+    ensures { result ≡ holds_colon_slash octets.now }
+{
+    let mut rest = octets;
+    loop {
+        let (_, after) = cut(b':', rest);
+        match after {
+            None => return false,
+            Some(after) => {
+                if begins_with_slash(after) {
+                    return true;
+                }
+                rest = after;
+            }
+        }
+    }
+}
+
+/// The name in a text, or the first broken rule.
+#[tactic(auto, unfolding(crate::specs::Rule::name_rule))]
+fn name_in(text: &str) -> Result<&str, SpiffeIdError>
+    ensures { MatchResult result (λ name. name_rule text.now ≡ Ok name.now) (λ e. name_rule text.now ≡ Err e) }
+{
+    if is_read_as_id(text.as_bytes()) {
+        let (domain, _) = parts(text)?;
+        return Ok(domain);
+    }
+    if text.is_empty() {
+        return Err(SpiffeIdError::Empty);
+    }
+    check_domain(text.as_bytes())?;
+    Ok(text)
+}
+
+impl TrustDomain {
+    /// The trust domain that a text names. A text that holds `:/` is read as an ID, and its trust domain is taken.
+    pub fn new(alloc: Global, text: &str) -> Result<TrustDomain, SpiffeIdError>
+        ensures { Gives is_memory (λ t. t) result (name_rule text.now) }
+    {
+        let name = name_in(text)?;
+        Ok(TrustDomain::copy_of(alloc, name)?)
+    }
+
+    /// The same as `new`.
+    pub fn try_from(alloc: Global, text: &str) -> Result<TrustDomain, SpiffeIdError>
+        ensures { Gives is_memory (λ t. t) result (name_rule text.now) }
+    {
+        TrustDomain::new(alloc, text)
+    }
+
+    /// The same as `new`.
+    pub fn from_str(alloc: Global, text: &str) -> Result<TrustDomain, SpiffeIdError>
+        ensures { Gives is_memory (λ t. t) result (name_rule text.now) }
+    {
+        TrustDomain::new(alloc, text)
+    }
+
+    /// The same as `new`, keeping the text where it is the name.
+    #[tactic(auto, unfolding(crate::specs::Rule::name_rule))]
+    pub fn try_from_owned(alloc: Global, text: String) -> Result<TrustDomain, SpiffeIdError>
+        ensures { Gives is_memory (λ t. t) result (name_rule (string_bytes text)) }
+    {
+        if text.is_empty() || is_read_as_id(text.as_bytes()) {
+            return TrustDomain::new(alloc, text.as_str());
+        }
+        check_domain(text.as_bytes())?;
+        Ok(TrustDomain {
+            name: Text::new(text),
+        })
+    }
+
+    /// The trust domain of a name that is known to be one.
+    pub(crate) fn copy_of(alloc: Global, name: &str) -> Result<TrustDomain, OutOfMemory>
+        ensures { IfOk result (λ t. t ≡ name.now) }
+    {
+        let name = Text::copy_of(alloc, name)?;
+        Ok(TrustDomain { name })
+    }
+
+    pub fn as_str(&self) -> &str
+        ensures { result.now ≡ self.now }
+    {
+        self.name.as_str()
+    }
+
+    /// The same trust domain again.
+    pub fn try_clone(&self, alloc: Global) -> Result<TrustDomain, OutOfMemory>
+        ensures { IfOk result (λ t. t ≡ self.now) }
+    {
+        TrustDomain::copy_of(alloc, self.name.as_str())
+    }
+}
+
+impl fmt::Display for TrustDomain {
+    ghost use Rattle.std.specs.Prelude.{Some};
+
+    ghost output = { λ t. Some t };
+
+    fn fmt<W: fmt::Write>(&self, f: &mut fmt::Formatter<W>) -> fmt::Result {
+        fmt::Display::fmt(self.name.as_str(), f)
+    }
+}
