@@ -1,4 +1,5 @@
 pub mod Filled
+pub mod LineLemmas
 pub mod Parts
 pub mod Sizes
 pub mod Whole

@@ -1,5 +1,9 @@
 //! Following an update stream: its steps, its records and its lines.
 
+ghost use Rattle.std.specs.Prelude.{◌≡◌, false, IfErr};
+ghost use Rattle.spf_feed.specs.Parts.{HasFault};
+ghost use Rattle.spf_feed.specs.Following.{is_fault, HasFaults};
+
 use crate::follow_error::FollowError;
 use crate::frame::{FrameError, Phase, next_frame};
 use crate::limits::ResourceLimits;
@@ -23,7 +27,9 @@ fn next_event<S: Source>(
     payload: &mut Vec<u8>,
     phase: Phase,
     allowed: bool,
-) -> Result<Option<Received>, FrameError> {
+) -> Result<Option<Received>, FrameError>
+    ensures cause { HasFault (S.faults source.old) (S.faults source.new) result }
+{
     let Some(kind) = next_frame(source, payload, phase, allowed)? else {
         return Ok(None);
     };
@@ -117,9 +123,11 @@ fn take<P: Publisher, M: MetricsRecorder>(
     snapshot: &mut Option<Snapshot>,
     limits: ResourceLimits,
     turn: Turn,
-) -> Result<bool, FollowError> {
+) -> Result<bool, FollowError>
+    ensures { IfErr result (λ e. is_fault e ≡ false) }
+{
     match turn {
-        Turn::Terminal(answer) => Err(answer),
+        Turn::Terminal(terminal) => Err(FollowError::from(terminal)),
         Turn::Passed(records) => {
             record_all(recorder, records)?;
             Ok(false)
@@ -181,7 +189,10 @@ pub fn follow_x509<S: Source, K: Sink, P: Publisher, M: MetricsRecorder, C: Svid
     max_frames: u64,
     picker: Option<&C>,
     ready: Ready,
-) -> Result<u64, FollowError> {
+) -> Result<u64, FollowError>
+    // A fault comes only where its count rose.
+    ensures cause { HasFaults (S.faults source.old) (S.faults source.new) (K.faults sink.old) (K.faults sink.new) result }
+{
     let setting = Setting {
         limits,
         deadline,

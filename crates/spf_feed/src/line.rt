@@ -1,5 +1,13 @@
 //! The lines that show a session.
 
+ghost use Rattle.std.specs.Prelude.{◌≡◌, ◌≤◌, ◌<◌, ◌++◌, ℕ, List, OnOk, vec_len};
+ghost use Rattle.std.specs.List.{flat_map};
+ghost use Rattle.std.specs.Option.{option_map};
+ghost use Rattle.std.specs.Arc.{arc_value};
+ghost use Rattle.spf_io.specs.Outside.{HasCause};
+ghost use Rattle.hex.specs.Hex.{encode_lower};
+ghost use Rattle.spf_feed.specs.Lines.{after_comma, hex_list, shown_at, choice_text, crls_text, withdrawn_text};
+
 use crate::prepared::Prepared;
 use crate::snapshot::{Snapshot, Standing};
 use crate::state::{X509SourceState, usable};
@@ -14,52 +22,108 @@ use std::sync::Arc;
 const NUMBER_ROOM: usize = 20;
 
 /// Each octet in two digits, lower case.
-fn push_hex(line: &mut Vec<u8>, octets: &[u8]) -> Result<(), OutOfMemory> {
+fn push_hex(line: &mut Vec<u8>, octets: &[u8]) -> Result<(), OutOfMemory>
+    ensures text { OnOk result (line.new.items ≡ line.old.items ++ encode_lower octets.now) }
+    ensures grows { vec_len line.old ≤ vec_len line.new }
+{
     let start = line.len();
-    line.resize(start + 2 * octets.len(), 0)?;
+    let end = start.saturating_add(octets.len().saturating_mul(2));
+    line.resize(end, 0)?;
     match hex::encode_to_slice(octets, &mut line[start..]) {
         Ok(()) => Ok(()),
         Err(_) => Err(OutOfMemory),
     }
 }
 
-/// A separator between members: none before the first.
-fn push_comma(line: &mut Vec<u8>, place: usize) -> Result<(), OutOfMemory> {
-    if place > 0 {
+/// What is shown as its octets.
+trait Octets {
+    ghost shown: { Self → List ℕ };
+
+    fn octets(&self) -> &[u8]
+        ensures { result.now ≡ shown self.now };
+}
+
+impl Octets for Certificate {
+    ghost shown = { λ c. c };
+
+    fn octets(&self) -> &[u8] {
+        self.as_bytes()
+    }
+}
+
+impl Octets for Bytes {
+    ghost shown = { λ b. b };
+
+    fn octets(&self) -> &[u8] {
+        self.as_slice()
+    }
+}
+
+/// Each with a comma before it.
+fn push_others<T: Octets>(line: &mut Vec<u8>, items: &[T]) -> Result<(), OutOfMemory>
+    ensures text { OnOk result (line.new.items ≡ line.old.items ++ flat_map (λ x. after_comma (T.shown x)) items.now) }
+    ensures grows { vec_len line.old ≤ vec_len line.new }
+{
+    for item in items {
         line.push(b',')?;
+        push_hex(line, item.octets())?;
     }
     Ok(())
 }
 
-fn push_chain(line: &mut Vec<u8>, chain: &[Certificate]) -> Result<(), OutOfMemory> {
-    for (place, certificate) in chain.iter().enumerate() {
-        push_comma(line, place)?;
-        push_hex(line, certificate.as_bytes())?;
-    }
+/// Each in order, with commas between them.
+fn push_list<T: Octets>(line: &mut Vec<u8>, items: &[T]) -> Result<(), OutOfMemory>
+    ensures text { OnOk result (line.new.items ≡ line.old.items ++ hex_list T.shown items.now) }
+    ensures grows { vec_len line.old ≤ vec_len line.new }
+{
+    let Some((first, others)) = items.split_first() else {
+        return Ok(());
+    };
+    push_hex(line, first.octets())?;
+    push_others(line, others)?;
     Ok(())
 }
 
-fn push_authorities(
+fn push_at<T: Octets>(line: &mut Vec<u8>, items: &[T], place: usize) -> Result<(), OutOfMemory>
+    ensures text { OnOk result (line.new.items ≡ line.old.items ++ encode_lower (shown_at T.shown items.now place)) }
+    ensures grows { vec_len line.old ≤ vec_len line.new }
+{
+    match items.get(place) {
+        Some(item) => push_hex(line, item.octets()),
+        None => Ok(()),
+    }
+}
+
+/// Those at the places, each with a comma before it.
+fn push_other_places<T: Octets>(
     line: &mut Vec<u8>,
-    authorities: &[Certificate],
-    order: &[usize],
-) -> Result<(), OutOfMemory> {
-    for (place, at) in order.iter().enumerate() {
-        push_comma(line, place)?;
-        if let Some(certificate) = authorities.get(*at) {
-            push_hex(line, certificate.as_bytes())?;
-        }
+    items: &[T],
+    places: &[usize],
+) -> Result<(), OutOfMemory>
+    ensures text { OnOk result (line.new.items ≡ line.old.items ++ flat_map (λ p. after_comma (shown_at T.shown items.now p)) places.now) }
+    ensures grows { vec_len line.old ≤ vec_len line.new }
+{
+    for place in places {
+        line.push(b',')?;
+        push_at(line, items, *place)?;
     }
     Ok(())
 }
 
-fn push_fields(line: &mut Vec<u8>, fields: &[Bytes], order: &[usize]) -> Result<(), OutOfMemory> {
-    for (place, at) in order.iter().enumerate() {
-        push_comma(line, place)?;
-        if let Some(field) = fields.get(*at) {
-            push_hex(line, field.as_slice())?;
-        }
-    }
+/// Those at the places in order, with commas between them.
+fn push_places<T: Octets>(
+    line: &mut Vec<u8>,
+    items: &[T],
+    places: &[usize],
+) -> Result<(), OutOfMemory>
+    ensures text { OnOk result (line.new.items ≡ line.old.items ++ hex_list (shown_at T.shown items.now) places.now) }
+    ensures grows { vec_len line.old ≤ vec_len line.new }
+{
+    let Some((first, others)) = places.split_first() else {
+        return Ok(());
+    };
+    push_at(line, items, *first)?;
+    push_other_places(line, items, others)?;
     Ok(())
 }
 
@@ -68,7 +132,9 @@ fn push_bundles(
     line: &mut Vec<u8>,
     set: &X509BundleSet,
     orders: &[List<usize>],
-) -> Result<(), OutOfMemory> {
+) -> Result<(), OutOfMemory>
+    ensures grows { vec_len line.old ≤ vec_len line.new }
+{
     let mut left = orders;
     for (domain, bundle) in set.iter() {
         let Some((order, rest)) = left.split_first() else {
@@ -77,23 +143,30 @@ fn push_bundles(
         line.push(b' ')?;
         line.extend_from_slice(domain.as_str().as_bytes())?;
         line.push(b'=')?;
-        push_authorities(line, bundle.authorities(), order.as_slice())?;
+        push_places(line, bundle.authorities(), order.as_slice())?;
         left = rest;
     }
     Ok(())
 }
 
 /// The revocation lists, sorted, where there is one.
-fn push_crls(line: &mut Vec<u8>, crls: &[Bytes], order: &[usize]) -> Result<(), OutOfMemory> {
+fn push_crls(line: &mut Vec<u8>, crls: &[Bytes], order: &[usize]) -> Result<(), OutOfMemory>
+    ensures text { OnOk result (line.new.items ≡ line.old.items ++ crls_text crls.now order.now) }
+    ensures grows { vec_len line.old ≤ vec_len line.new }
+{
     if crls.is_empty() {
         return Ok(());
     }
     line.extend_from_slice(b" #")?;
-    push_fields(line, crls, order)
+    push_places(line, crls, order)?;
+    Ok(())
 }
 
 /// The ID, the expiry and the chain of an SVID, or three dashes.
-fn push_choice(line: &mut Vec<u8>, svid: Option<&Arc<X509Svid>>) -> Result<(), OutOfMemory> {
+fn push_choice(line: &mut Vec<u8>, svid: Option<&Arc<X509Svid>>) -> Result<(), OutOfMemory>
+    ensures text { OnOk result (line.new.items ≡ line.old.items ++ choice_text (option_map (λ a. arc_value a.now) svid.entry)) }
+    ensures grows { vec_len line.old ≤ vec_len line.new }
+{
     let Some(svid) = svid else {
         line.extend_from_slice(b" - - -")?;
         return Ok(());
@@ -103,14 +176,17 @@ fn push_choice(line: &mut Vec<u8>, svid: Option<&Arc<X509Svid>>) -> Result<(), O
     line.push(b' ')?;
     line.extend_from_slice(Buffer::new().format(svid.expiry_unix()).as_bytes())?;
     line.push(b' ')?;
-    push_chain(line, svid.cert_chain())
+    push_list(line, svid.cert_chain())?;
+    Ok(())
 }
 
 fn push_permitted(
     line: &mut Vec<u8>,
     held: &Prepared,
     now: Option<i64>,
-) -> Result<(), OutOfMemory> {
+) -> Result<(), OutOfMemory>
+    ensures grows { vec_len line.old ≤ vec_len line.new }
+{
     line.extend_from_slice(b" permitted")?;
     push_choice(line, usable(held.chosen(), now))?;
     if let (Some(context), Some(places)) = (held.context(), held.sorted()) {
@@ -120,7 +196,10 @@ fn push_permitted(
     Ok(())
 }
 
-fn push_withdrawn(line: &mut Vec<u8>, reason: &Denial) -> Result<(), OutOfMemory> {
+fn push_withdrawn(line: &mut Vec<u8>, reason: &Denial) -> Result<(), OutOfMemory>
+    ensures text { OnOk result (line.new.items ≡ line.old.items ++ withdrawn_text reason.now) }
+    ensures grows { vec_len line.old ≤ vec_len line.new }
+{
     match reason {
         Denial::NoIdentityIssued => line.extend_from_slice(b" withdrawn no_identity_issued")?,
         Denial::PermissionDenied(message) => {
@@ -137,7 +216,9 @@ fn push_view(
     revision: u64,
     standing: &Standing,
     now: Option<i64>,
-) -> Result<(), OutOfMemory> {
+) -> Result<(), OutOfMemory>
+    ensures grows { vec_len line.old ≤ vec_len line.new }
+{
     line.extend_from_slice(Buffer::new().format(revision).as_bytes())?;
     match standing {
         Standing::Permitted(held) => push_permitted(line, held, now)?,
@@ -167,6 +248,7 @@ pub fn state_line(
 pub(crate) struct NumberedLine {
     octets: Vec<u8>,
     shows_choice: bool,
+    ghost has_room: { 20 < vec_len octets },
 }
 
 impl NumberedLine {
@@ -203,7 +285,9 @@ impl NumberedLine {
     }
 
     /// Puts the line with this number, in one piece.
-    pub(crate) fn put<K: Sink>(&mut self, sink: &mut K, number: u64) -> Result<(), Failed> {
+    pub(crate) fn put<K: Sink>(&mut self, sink: &mut K, number: u64) -> Result<(), Failed>
+        ensures cause { HasCause (K.faults sink.old) (K.faults sink.new) result }
+    {
         let start = itoa::write_digits(number, &mut self.octets, NUMBER_ROOM);
         sink.put(&self.octets[start..])
     }

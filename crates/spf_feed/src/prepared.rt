@@ -1,5 +1,8 @@
 //! A step with the places of its context in order.
 
+ghost use Rattle.std.specs.Prelude.{◌≡◌};
+ghost use Rattle.spf_feed.specs.Steps.{is_accept_step};
+
 use crate::sorted::{Sorted, chosen, is_same, places_in, sorted_of};
 use crate::step::Step;
 use spf_id::TrustDomain;
@@ -29,7 +32,9 @@ impl Prepared {
         &self.step
     }
 
-    pub(crate) fn into_step(self) -> Step {
+    pub(crate) fn into_step(self) -> Step
+        ensures { result ≡ self.step }
+    {
         self.step
     }
 
@@ -92,7 +97,9 @@ impl Prepared {
         }
     }
 
-    pub(crate) fn is_accept(&self) -> bool {
+    pub(crate) fn is_accept(&self) -> bool
+        ensures { result ≡ is_accept_step self.now.step }
+    {
         matches!(self.step, Step::Accept { .. })
     }
 

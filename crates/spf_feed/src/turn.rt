@@ -63,10 +63,35 @@ fn limit_error(kind: LimitKind) -> MetricsErrorKind {
     }
 }
 
+/// How an event ends a session before any accepted item.
+#[derive(Debug, PartialEq, Eq, Drop)]
+pub(crate) enum Terminal {
+    Source(WorkloadApiError),
+    UnsupportedRpc(WorkloadApiError),
+    InitialSyncTimeout,
+    Closed,
+}
+
+impl From<Terminal> for FollowError {
+    ghost use Rattle.std.specs.Prelude.{◌≡◌};
+    ghost use Rattle.spf_feed.specs.Following.{answer_to};
+
+    ghost from_gives = { λ t e. e ≡ answer_to t };
+
+    fn from(terminal: Terminal) -> FollowError {
+        match terminal {
+            Terminal::Source(e) => FollowError::Source(e),
+            Terminal::UnsupportedRpc(e) => FollowError::UnsupportedRpc(e),
+            Terminal::InitialSyncTimeout => FollowError::InitialSyncTimeout,
+            Terminal::Closed => FollowError::Closed,
+        }
+    }
+}
+
 /// What an event does.
 #[derive(Debug, Drop)]
 pub(crate) enum Turn {
-    Terminal(FollowError),
+    Terminal(Terminal),
     Accepted {
         context: X509Context,
         choice: Option<usize>,
@@ -81,10 +106,10 @@ pub(crate) enum Turn {
 /// A status before any accepted item: only a request that cannot succeed ends the session.
 fn initial_turn(answer: WorkloadApiError, error: Option<MetricsErrorKind>) -> Turn {
     if answer.is_invalid_argument() {
-        return Turn::Terminal(FollowError::Source(answer));
+        return Turn::Terminal(Terminal::Source(answer));
     }
     if answer.is_unimplemented() {
-        return Turn::Terminal(FollowError::UnsupportedRpc(answer));
+        return Turn::Terminal(Terminal::UnsupportedRpc(answer));
     }
     Turn::Passed(Records::ended(false, error))
 }
@@ -139,7 +164,7 @@ fn failure_turn(begun: bool, fault: ClientFault) -> Turn {
     {
         let answer = WorkloadApiError::from_status(status);
         if answer.is_invalid_argument() {
-            return Turn::Terminal(FollowError::Source(answer));
+            return Turn::Terminal(Terminal::Source(answer));
         }
     }
     Turn::Passed(Records::ended(begun, Some(MetricsErrorKind::ClientCreation)))
@@ -148,7 +173,7 @@ fn failure_turn(begun: bool, fault: ClientFault) -> Turn {
 fn moment_turn(begun: bool, deadline: Option<i64>, moment: i64) -> Turn {
     match deadline {
         Some(deadline) if !begun && deadline <= moment => {
-            Turn::Terminal(FollowError::InitialSyncTimeout)
+            Turn::Terminal(Terminal::InitialSyncTimeout)
         }
         _ => Turn::Passed(Records::none()),
     }
@@ -158,7 +183,7 @@ fn close_turn(begun: bool) -> Turn {
     if begun {
         Turn::Passed(Records::none())
     } else {
-        Turn::Terminal(FollowError::Closed)
+        Turn::Terminal(Terminal::Closed)
     }
 }
 
@@ -188,7 +213,7 @@ fn item_turn<C: SvidPicker>(
     Turn::Accepted { context, choice }
 }
 
-/// What becomes of the rules that decide over an event.
+/// The rules of a session, but for its picker and its most frames.
 #[derive(Debug, Drop)]
 pub(crate) struct Setting {
     pub(crate) limits: ResourceLimits,
