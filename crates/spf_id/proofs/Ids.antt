@@ -1,17 +1,16 @@
 -- What a text that breaks no rule says of the ID.
-use Rattle.std.proofs.Common.{◌≡◌, ℕ, suc, ◌+◌, ◌<◌, ◌≤◌, Bool, true, false, cond, not, List, [], ◌∷◌, ◌++◌, length, take, drop, get_or, Result, Ok, Err, refl, sym, ap, ◌∙◌, arith, ◌⊎◌, inl, inr, append_assoc, length-append, drop-cons, nat_eq}
+use Rattle.std.proofs.Common.{◌≡◌, ℕ, suc, ◌+◌, ◌<◌, Bool, true, false, cond, not, List, [], ◌∷◌, ◌++◌, length, take, drop, get_or, Result, Ok, Err, refl, sym, ap, ◌∙◌, arith, ◌⊎◌, inl, inr, append_assoc, length-append, drop-cons, nat_eq}
 use Rattle.std.specs.Prelude.{codes, ◌==◌, nat_lt}
-use Rattle.std.specs.List.{before_first, after_first, position_or_len, slice_split, starts_with}
+use Rattle.std.specs.List.{before_first, after_first, position_or_len, starts_with}
 use Rattle.std.specs.Str.{IsCharBoundary}
 use Rattle.std.proofs.lemmas.List.Prefix.{front_rest}
 use Rattle.std.proofs.lemmas.List.Sums.{prefix_len-le-length}
 use Rattle.std.proofs.lemmas.List.{drop_all, take-append-drop}
 use Rattle.std.proofs.lemmas.Slice.Eq.{bytes_eq-Decides}
 use Rattle.spf_io.specs.Rule.{◌>>=◌}
-use Rattle.spf_id.specs.declared.error.SpiffeIdError.{SpiffeIdError}
 use Rattle.spf_id.specs.declared.error.SpiffeIdError.TheVariants.{Empty, TooLong, WrongScheme, MissingTrustDomain}
 use Rattle.spf_id.specs.Id.{Id, id_text}
-use Rattle.spf_id.specs.Rule.{IsTextOf, is_slash, domain_rule, segments_rule, segments_of, parts_rule, id_rule}
+use Rattle.spf_id.specs.Rule.{IsTextOf, is_slash, domain_rule, segments_rule, segments_of, id_rule}
 use Rattle.spf_id.proofs.FirstPlace.{front_length}
 use Rattle.spf_id.proofs.Parts.{halves_rule, parts_by_halves, rest_after}
 
@@ -53,7 +52,7 @@ halves_ok xs id h =
 
 -- the text of an ID is that of its parts
 rule_ok : (t : List ℕ) (id : Id) → id_rule t ≡ Ok id → (t ≡ id_text id) × IsPath id.path
-unfolding id_rule
+unfolding id_rule id_text
 rule_ok t id h =
     let a = past (length t == 0) Empty _ id h in
     let b = past (nat_lt 2048 (length t)) TooLong _ id a.1 in
@@ -64,7 +63,8 @@ rule_ok t id h =
     (sym (take-append-drop 9 t) ∙ ap (λ (s : List ℕ). s ++ drop 9 t) (sym scheme) ∙ ap (λ (s : List ℕ). codes "spiffe://" ++ s) (sym halves.0), halves.1)
 
 -- what follows the trust domain is the path
-path_drop : (t : List ℕ) (id : Id) → t ≡ id_text id → drop (9 + length id.domain) t ≡ id.path
+pub path_drop : (t : List ℕ) (id : Id) → t ≡ id_text id → drop (9 + length id.domain) t ≡ id.path
+unfolding id_text
 path_drop t id is =
     let n : 9 + length id.domain ≡ length (codes "spiffe://" ++ id.domain) = sym (length-append (codes "spiffe://") id.domain) in
     rw n (front_rest t (codes "spiffe://" ++ id.domain) id.path (is ∙ sym (append_assoc (codes "spiffe://") id.domain id.path)))
@@ -78,15 +78,19 @@ kept t domain path h =
 
 -- the path begins at the boundary of a character
 pub boundary : (t : List ℕ) (id : Id) → IsTextOf id t → IsCharBoundary t (9 + length id.domain)
+unfolding id_text
 boundary t id h =
     let found = rule_ok t id h.rule in
     let size : length t ≡ 9 + (length id.domain + length id.path) =
-        ap length found.0 ∙ length-append (codes "spiffe://") (id.domain ++ id.path) ∙ ap (λ n. 9 + n) (length-append id.domain id.path) in
+    ap length found.0 ∙ length-append (codes "spiffe://") (id.domain ++ id.path) ∙ ap (λ n. 9 + n) (length-append id.domain id.path) in
     let rest = path_drop t id found.0 in
     elim found.1 [
-      inl none ↦ (omega arith, λ lt. absurd (let e : length id.path ≡ 0 = ap length none in omega arith))
-    | inr some ↦ (omega arith, λ lt high.
-        let at : get_or t (9 + length id.domain) 0 ∷ drop (suc (9 + length id.domain)) t ≡ 47 ∷ some.0 = sym (drop-cons t (9 + length id.domain) 0 lt) ∙ rest ∙ some.1 in
-        let slash : get_or t (9 + length id.domain) 0 ≡ 47 = cc in
-        absurd (omega arith))
+      | inl none ↦ (omega arith, λ lt. absurd (let e : length id.path ≡ 0 = ap length none in omega arith))
+      | inr some ↦ (
+        omega arith,
+        λ lt high.
+            let at : get_or t (9 + length id.domain) 0 ∷ drop (suc (9 + length id.domain)) t ≡ 47 ∷ some.0 = sym (drop-cons t (9 + length id.domain) 0 lt) ∙ rest ∙ some.1 in
+            let slash : get_or t (9 + length id.domain) 0 ≡ 47 = cc in
+            absurd (omega arith),
+      )
     ]

@@ -1,4 +1,6 @@
-pub mod ColonSlash
-pub mod FirstPlace
-pub mod Ids
-pub mod Parts
+pub mod Exact
+mod ColonSlash
+mod FirstPlace
+mod Ids
+mod Parts
+mod Rows

@@ -7,5 +7,5 @@ pub record Id : Type 0 where
   pub path : List ℕ
 
 -- the text of an ID (SPIFFE-ID section 2)
-abbrev pub id_text : Id → List ℕ
+unfoldable pub id_text : Id → List ℕ
 id_text id = codes "spiffe://" ++ (id.domain ++ id.path)

@@ -87,5 +87,5 @@ name_rule text =
     else (domain_rule text >>= λ _. Ok text))
 
 -- whether the first seven octets are `spiffe:`, ASCII case apart
-abbrev pub has_spiffe_scheme : List ℕ → Bool
+unfoldable pub has_spiffe_scheme : List ℕ → Bool
 has_spiffe_scheme uri = str_eq_ignore_ascii_case (take 7 uri) (codes "spiffe:")

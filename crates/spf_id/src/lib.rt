@@ -2,6 +2,7 @@
 #![tactic(auto)]
 
 mod error;
+mod laws;
 mod path;
 mod separator;
 mod spiffe_id;

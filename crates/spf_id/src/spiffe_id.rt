@@ -11,10 +11,11 @@ use memchr::memchr;
 use spf_io::{OutOfMemory, Text};
 use std::alloc::Global;
 use std::fmt;
+use std::hash::{Hash, Hasher};
 use std::marker::Model;
 
 /// A SPIFFE ID, which contracts see as its trust domain and its path. Its equality, order and hash are those of its text.
-#[derive(Debug, PartialEq, Eq, PartialOrd, Ord, Hash, Drop)]
+#[derive(Debug, PartialEq, Eq, PartialOrd, Ord, Drop)]
 pub struct SpiffeId {
     text: Text,
     domain: TrustDomain,
@@ -86,6 +87,7 @@ pub(crate) fn parts(text: &str) -> Result<(&str, &str), SpiffeIdError>
 }
 
 /// Whether a URI begins with `spiffe:`, ASCII case apart.
+#[tactic(auto, unfolding(crate::specs::Rule::has_spiffe_scheme))]
 pub fn uri_has_spiffe_scheme(uri: &str) -> bool
     ensures { result ≡ has_spiffe_scheme uri.now }
 {
@@ -134,7 +136,8 @@ impl SpiffeId {
     }
 
     pub fn as_str(&self) -> &str
-        ensures { result.now ≡ id_text self.now }
+        ensures text { result.now ≡ id_text self.now }
+        ensures rule { id_rule result.now ≡ Ok self.now }
     {
         self.text.as_str()
     }
@@ -146,6 +149,21 @@ impl SpiffeId {
         let text = self.text.try_clone(alloc)?;
         let domain = self.domain.try_clone(alloc)?;
         Ok(SpiffeId { text, domain })
+    }
+}
+
+impl Hash for SpiffeId {
+    ghost use Rattle.std.specs.Hash as fed;
+    ghost use Rattle.std.specs.Cmp.Rules.{hashing};
+    ghost use Rattle.std.proofs.Common.{rules};
+    ghost use Rattle.spf_id.specs.Id.{id_text};
+
+    ghost hash_input = { λ id. fed.str (id_text id) };
+
+    ghost respects_eq = { Prim.search (hashing, rules) };
+
+    fn hash<H: Hasher>(&self, state: &mut H) {
+        self.text.hash(state);
     }
 }
 

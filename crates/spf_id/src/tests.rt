@@ -2,6 +2,9 @@ use super::{SpiffeId, SpiffeIdError, TrustDomain, uri_has_spiffe_scheme};
 use std::alloc::Global;
 use std::test::Fail;
 
+/// A value of this type may be sent and shared.
+fn shared<T: Send + Sync>(_value: &T) {}
+
 /// What is wrong with a text as an ID.
 fn broken(alloc: Global, text: &str) -> Option<SpiffeIdError> {
     SpiffeId::new(alloc, text).err()
@@ -40,6 +43,8 @@ fn spiffe_id(rt: HostRuntime) -> Result<(), Fail> {
     assert_eq!(rt; id.as_str(), "spiffe://example.org/w");
     assert!(rt; id.try_clone(alloc)? == SpiffeId::from_str(alloc, "spiffe://example.org/w")?);
     assert!(rt; id > SpiffeId::try_from(alloc, "spiffe://example.org")?);
+    shared(&id);
+    shared(&SpiffeIdError::Empty);
     let rows = [
         ("spiffe://example.org/", SpiffeIdError::TrailingSlash),
         ("spiffe://example.org//a", SpiffeIdError::EmptySegment),
@@ -55,7 +60,7 @@ fn spiffe_id(rt: HostRuntime) -> Result<(), Fail> {
 }
 
 #[test]
-fn schemes_and_texts(rt: HostRuntime) -> Result<(), Fail> {
+fn uri_scheme(rt: HostRuntime) -> Result<(), Fail> {
     let alloc = rt.alloc();
     assert!(rt; uri_has_spiffe_scheme("SpIfFe:x"));
     assert!(rt; !uri_has_spiffe_scheme("https://a"));

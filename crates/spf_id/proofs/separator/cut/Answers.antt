@@ -1,4 +1,4 @@
-use Rattle.std.proofs.Common.{◌+◌, sym, ◌∙◌, arith, refl, length}
+use Rattle.std.proofs.Common.{◌+◌, sym, ◌∙◌, refl}
 use Rattle.std.proofs.lemmas.List.{take_rest}
 use Rattle.std.specs.Prelude.{Some, None, ◌==◌}
 use Rattle.spf_id.proofs.FirstPlace.{first_place, front_whole}

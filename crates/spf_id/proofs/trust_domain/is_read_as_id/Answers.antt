@@ -1,6 +1,4 @@
-use Rattle.std.proofs.Common.{◌≡◌, sym, ◌∙◌, refl}
-use Rattle.std.specs.Prelude.{Some, None}
-use Rattle.spf_id.specs.Rule.{holds_colon_slash}
+use Rattle.std.proofs.Common.{sym, ◌∙◌}
 use Rattle.spf_id.proofs.ColonSlash.{colon_none, colon_found, colon_passed}
 use Rattle.spf_id.proofs.trust_domain.is_read_as_id.Goals as goal
 

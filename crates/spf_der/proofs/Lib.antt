@@ -1,0 +1,5 @@
+pub mod Days
+pub mod Steps
+pub mod Shorter
+pub mod NameWalk
+pub mod Unique

@@ -1,0 +1,28 @@
+-- Private keys (RFC 5958 section 2).
+use Rattle.std.specs.Prelude.{ℕ, List, [], ◌∷◌, length, Option, Some, None, Bool, true, false, not, ◌&&◌, ◌==◌, if◌then◌else◌}
+use Rattle.spf_der.specs.Option.{◌>>=◌}
+use Rattle.spf_der.specs.Value.{tagged_at, whole_at, optional_at}
+use Rattle.spf_der.specs.Types.{small_integer_at, is_bit_string, after_algorithm_at}
+
+-- a public key that ends the bytes, which is there exactly where the version is 1
+abbrev pub is_public_key : ℕ → Option (List ℕ) × List ℕ → Bool
+is_public_key version (None, end) = (version == 0) && (length end == 0)
+is_public_key version (Some bits, end) = (version == 1) && is_bit_string bits && (length end == 0)
+
+-- the whole of the bytes is a key
+unfoldable pub key_at : List ℕ → Option Bool
+key_at der = do
+  inner ← whole_at 48 der
+  version ← small_integer_at 1 inner
+  key ← after_algorithm_at version.1
+  attributes ← tagged_at 4 key
+  public ← optional_at 160 attributes.1
+  end ← optional_at 129 public.1
+  Some (is_public_key version.0 end)
+
+abbrev pub is_key : List ℕ → Bool
+is_key der = is_some_true (key_at der)
+  where
+    is_some_true : Option Bool → Bool
+    is_some_true (Some b) = b
+    is_some_true None = false

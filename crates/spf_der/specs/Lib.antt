@@ -1,0 +1,11 @@
+pub mod Option
+pub mod Value
+pub mod Types
+pub mod Time
+pub mod Part
+pub mod Error
+pub mod Certificate
+pub mod Read
+pub mod Extensions
+pub mod Names
+pub mod Key

@@ -1,0 +1,169 @@
+//! Values of DER: a tag octet, the shortest length, and that many contents octets (X.690 sections 8.1 and 10.1).
+ghost use Rattle.std.specs.Prelude.{◌≡◌, ◌<◌, ◌≤◌, length, IfSome};
+ghost use Rattle.std.specs.Option.{option_map};
+ghost use Rattle.spf_der.specs.Value.{contents_at, four_octets, length_at, long_length_at, one_octet, optional_at, seen, seen_optional, seen_two, seen_value, tagged_at, three_octets, two_octets, value_at, whole_at};
+
+/// Tag octets (X.690 section 8.1.2).
+pub const BOOLEAN: u8 = 0x01;
+
+pub const INTEGER: u8 = 0x02;
+
+pub const BIT_STRING: u8 = 0x03;
+
+pub const OCTET_STRING: u8 = 0x04;
+
+pub const OBJECT_IDENTIFIER: u8 = 0x06;
+
+pub const UTC_TIME: u8 = 0x17;
+
+pub const GENERALIZED_TIME: u8 = 0x18;
+
+pub const SEQUENCE: u8 = 0x30;
+
+fn one(bytes: &[u8]) -> Option<(usize, &[u8])>
+    ensures exact { option_map (λ x. (x.0, x.1.now)) result ≡ one_octet bytes.now }
+    ensures front { IfSome result (λ x. length x.1.now ≤ length bytes.now) }
+{
+    match bytes {
+        [a, rest @ ..] if *a >= 128 => Some((*a as usize, rest)),
+        _ => None,
+    }
+}
+
+fn two(bytes: &[u8]) -> Option<(usize, &[u8])>
+    ensures exact { option_map (λ x. (x.0, x.1.now)) result ≡ two_octets bytes.now }
+    ensures front { IfSome result (λ x. length x.1.now ≤ length bytes.now) }
+{
+    match bytes {
+        [a, b, rest @ ..] if *a != 0 => Some((*a as usize * 256 + *b as usize, rest)),
+        _ => None,
+    }
+}
+
+fn three(bytes: &[u8]) -> Option<(usize, &[u8])>
+    ensures exact { option_map (λ x. (x.0, x.1.now)) result ≡ three_octets bytes.now }
+    ensures front { IfSome result (λ x. length x.1.now ≤ length bytes.now) }
+{
+    match bytes {
+        [a, b, c, rest @ ..] if *a != 0 => Some((
+            (*a as usize * 256 + *b as usize) * 256 + *c as usize,
+            rest,
+        )),
+        _ => None,
+    }
+}
+
+fn four(bytes: &[u8]) -> Option<(usize, &[u8])>
+    ensures exact { option_map (λ x. (x.0, x.1.now)) result ≡ four_octets bytes.now }
+    ensures front { IfSome result (λ x. length x.1.now ≤ length bytes.now) }
+{
+    match bytes {
+        [a, b, c, d, rest @ ..] if *a != 0 => Some((
+            ((*a as usize * 256 + *b as usize) * 256 + *c as usize) * 256 + *d as usize,
+            rest,
+        )),
+        _ => None,
+    }
+}
+
+/// A length of 128 or more, after its first octet, and what follows it.
+#[tactic(auto, unfolding(crate::specs::Value::long_length_at))]
+fn long_length(first: u8, rest: &[u8]) -> Option<(usize, &[u8])>
+    ensures exact { option_map (λ x. (x.0, x.1.now)) result ≡ long_length_at first rest.now }
+    ensures front { IfSome result (λ x. length x.1.now ≤ length rest.now) }
+{
+    match first {
+        0x81 => one(rest),
+        0x82 => two(rest),
+        0x83 => three(rest),
+        0x84 => four(rest),
+        _ => None,
+    }
+}
+
+/// A length at the front, and what follows it.
+#[inline]
+#[tactic(auto, unfolding(crate::specs::Value::length_at))]
+fn length_prefix(bytes: &[u8]) -> Option<(usize, &[u8])>
+    ensures exact { option_map (λ x. (x.0, x.1.now)) result ≡ length_at bytes.now }
+    ensures shorter { IfSome result (λ x. length x.1.now < length bytes.now) }
+{
+    let (first, rest) = bytes.split_first()?;
+    if *first < 128 {
+        return Some((*first as usize, rest));
+    }
+    long_length(*first, rest)
+}
+
+/// The contents of a value after its tag, and what follows them.
+#[inline]
+#[tactic(auto, unfolding(crate::specs::Value::contents_at))]
+pub fn contents(bytes: &[u8]) -> Option<(&[u8], &[u8])>
+    ensures exact { seen_two result ≡ contents_at bytes.now }
+    ensures shorter { IfSome result (λ x. length x.1.now < length bytes.now) }
+{
+    let (length, rest) = length_prefix(bytes)?;
+    if rest.len() < length {
+        return None;
+    }
+    let (contents, rest) = rest.split_at(length);
+    Some((contents, rest))
+}
+
+/// The value at the front: its tag, its contents, and what follows it.
+#[inline]
+#[tactic(auto, unfolding(crate::specs::Value::value_at))]
+pub fn value(bytes: &[u8]) -> Option<(u8, &[u8], &[u8])>
+    ensures exact { seen_value result ≡ value_at bytes.now }
+    ensures shorter { IfSome result (λ x. length x.2.now < length bytes.now) }
+{
+    let (tag, rest) = bytes.split_first()?;
+    if *tag & 0x1f == 0x1f {
+        return None;
+    }
+    let (contents, rest) = contents(rest)?;
+    Some((*tag, contents, rest))
+}
+
+/// The contents of the value of that tag at the front, and what follows it.
+#[inline]
+#[tactic(auto, unfolding(crate::specs::Value::tagged_at))]
+pub fn tagged(tag: u8, bytes: &[u8]) -> Option<(&[u8], &[u8])>
+    ensures exact { seen_two result ≡ tagged_at tag bytes.now }
+    ensures shorter { IfSome result (λ x. length x.1.now < length bytes.now) }
+{
+    let (first, rest) = bytes.split_first()?;
+    if *first != tag {
+        return None;
+    }
+    contents(rest)
+}
+
+/// The contents of the value of that tag, where the bytes are exactly one.
+#[inline]
+#[tactic(auto, unfolding(crate::specs::Value::whole_at))]
+pub fn whole(tag: u8, bytes: &[u8]) -> Option<&[u8]>
+    ensures { seen result ≡ whole_at tag bytes.now }
+{
+    let (contents, rest) = tagged(tag, bytes)?;
+    if rest.is_empty() {
+        Some(contents)
+    } else {
+        None
+    }
+}
+
+/// The contents of the value of that tag, if one stands at the front, and what follows it.
+#[inline]
+#[tactic(auto, unfolding(crate::specs::Value::optional_at))]
+pub fn optional(tag: u8, bytes: &[u8]) -> Option<(Option<&[u8]>, &[u8])>
+    ensures { seen_optional result ≡ optional_at tag bytes.now }
+{
+    match bytes {
+        [first, rest @ ..] if *first == tag => {
+            let (contents, rest) = contents(rest)?;
+            Some((Some(contents), rest))
+        }
+        _ => Some((None, bytes)),
+    }
+}

@@ -1,0 +1,5 @@
+pub mod Errors
+pub mod Svid
+pub mod Bundle
+pub mod Context
+pub mod Laws

@@ -1,0 +1,182 @@
+//! The bundles of several trust domains.
+
+ghost use Rattle.std.specs.Prelude.{◌≡◌, ◌==◌, [], IfOk, OnErr, OnOk, length};
+ghost use Rattle.std.specs.Option.{option_map};
+ghost use Rattle.std.specs.Arc.{arc_value};
+ghost use Rattle.spf_x509.specs.Bundle.{find_entry, with_entry};
+
+use crate::bundle::X509Bundle;
+use crate::source::BundleSource;
+use spf_id::TrustDomain;
+use spf_io::OutOfMemory;
+use std::alloc::Global;
+use std::collections::{BTreeMap, btree_map};
+use std::marker::Model;
+use std::sync::Arc;
+
+/// At most one bundle for each trust domain, the last one added. Contracts see the pairs in the order of the trust domains.
+#[derive(Debug, Drop)]
+pub struct X509BundleSet {
+    bundles: BTreeMap<TrustDomain, Arc<X509Bundle>>,
+    alloc: Global,
+}
+
+impl Model for X509BundleSet {
+    ghost use Rattle.std.specs.Prelude.{List, ℕ, map};
+    ghost use Rattle.spf_x509.specs.Bundle.{Bundle, plain_entry};
+
+    ghost Value = { List (List ℕ × Bundle) };
+
+    ghost view = { λ s. map plain_entry s.bundles.entries };
+}
+
+impl X509BundleSet {
+    pub fn new(alloc: Global) -> X509BundleSet
+        ensures { result ≡ [] }
+    {
+        X509BundleSet {
+            bundles: BTreeMap::new(alloc),
+            alloc,
+        }
+    }
+
+    /// Puts the bundle in the place of that of its trust domain.
+    pub fn add_bundle(&mut self, bundle: X509Bundle) -> Result<(), OutOfMemory>
+        ensures ok { OnOk result (self.new ≡ with_entry self.old bundle.domain bundle) }
+        ensures err { OnErr result (self.new ≡ self.old) }
+    {
+        let trust_domain = bundle.trust_domain().try_clone(self.alloc)?;
+        let bundle = Arc::new(self.alloc, bundle)?;
+        self.bundles.insert(trust_domain, bundle)?;
+        Ok(())
+    }
+
+    /// Adds each bundle in order. After a refusal the set holds those before the refused one.
+    pub fn extend(&mut self, bundles: Vec<X509Bundle>) -> Result<(), OutOfMemory> {
+        for bundle in bundles {
+            self.add_bundle(bundle)?;
+        }
+        Ok(())
+    }
+
+    /// The set of the bundles, of which the last of a trust domain stands.
+    pub fn from_iter(
+        alloc: Global,
+        bundles: Vec<X509Bundle>,
+    ) -> Result<X509BundleSet, OutOfMemory> {
+        let mut set = X509BundleSet::new(alloc);
+        set.extend(bundles)?;
+        Ok(set)
+    }
+
+    /// The same set again, which shares its bundles.
+    pub fn try_clone(&self) -> Result<X509BundleSet, OutOfMemory> {
+        let mut bundles = BTreeMap::new(self.alloc);
+        for (trust_domain, bundle) in &self.bundles {
+            bundles.insert(trust_domain.try_clone(self.alloc)?, Arc::try_clone(bundle)?)?;
+        }
+        Ok(X509BundleSet {
+            bundles,
+            alloc: self.alloc,
+        })
+    }
+
+    /// A share of the bundle of that trust domain.
+    pub fn get(&self, trust_domain: &TrustDomain) -> Result<Option<Arc<X509Bundle>>, OutOfMemory>
+        ensures { IfOk result (λ o. option_map arc_value o ≡ find_entry trust_domain.now self.now) }
+    {
+        match self.get_ref(trust_domain) {
+            None => Ok(None),
+            Some(bundle) => Ok(Some(Arc::try_clone(bundle)?)),
+        }
+    }
+
+    pub fn get_ref(&self, trust_domain: &TrustDomain) -> Option<&Arc<X509Bundle>>
+        ensures { option_map (λ a. arc_value a.now) result ≡ find_entry trust_domain.now self.now }
+    {
+        self.bundles.get(trust_domain)
+    }
+
+    pub fn bundle_for(&self, trust_domain: &TrustDomain) -> Option<&Arc<X509Bundle>>
+        ensures { option_map (λ a. arc_value a.now) result ≡ find_entry trust_domain.now self.now }
+    {
+        self.get_ref(trust_domain)
+    }
+
+    /// The pairs of trust domain and bundle, in the order of the trust domains.
+    pub fn iter(&self) -> X509BundleIter<'_> {
+        X509BundleIter {
+            inner: self.bundles.iter(),
+        }
+    }
+
+    pub fn len(&self) -> usize
+        ensures { result ≡ length self.now }
+    {
+        self.bundles.len()
+    }
+
+    pub fn is_empty(&self) -> bool
+        ensures { result ≡ (length self.now == 0) }
+    {
+        self.len() == 0
+    }
+}
+
+impl BundleSource for X509BundleSet {
+    type Item = X509Bundle;
+
+    type Error = OutOfMemory;
+
+    type Seen = ();
+
+    ghost fits = { λ _ _. Unit {0} };
+
+    fn bundle_for_trust_domain(
+        &self,
+        _seen: &mut (),
+        trust_domain: &TrustDomain,
+    ) -> Result<Option<Arc<X509Bundle>>, OutOfMemory> {
+        self.get(trust_domain)
+    }
+}
+
+/// The pairs of a bundle set that are still to come.
+#[derive(Drop)]
+pub struct X509BundleIter<'a> {
+    inner: btree_map::Iter<'a, TrustDomain, Arc<X509Bundle>>,
+}
+
+impl<'a> Iterator for X509BundleIter<'a> {
+    ghost use Rattle.std.specs.Prelude.{length};
+    ghost use Rattle.std.specs.Iterator.{YieldsFirstBy, item_count};
+
+    type Item = (&'a TrustDomain, &'a Arc<X509Bundle>);
+
+    ghost next_gives = { YieldsFirstBy (λ p. (p.0.now, p.1.now)) (λ s. s.inner) };
+
+    ghost remaining = { item_count (λ s. s.inner) };
+
+    fn next(&mut self) -> Option<(&'a TrustDomain, &'a Arc<X509Bundle>)> {
+        self.inner.next()
+    }
+}
+
+impl PartialEq for X509BundleSet {
+    ghost use Rattle.spf_x509.specs.Bundle.{set_eq};
+    ghost use Rattle.spf_x509.specs.Laws.{set_per};
+
+    ghost eq = { set_eq };
+
+    ghost laws = { set_per };
+
+    fn eq(&self, other: &X509BundleSet) -> bool {
+        self.bundles == other.bundles
+    }
+}
+
+impl Eq for X509BundleSet {
+    ghost use Rattle.spf_x509.specs.Laws.{set_equiv};
+
+    ghost laws = { set_equiv };
+}

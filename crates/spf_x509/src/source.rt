@@ -1,0 +1,42 @@
+//! Where others take identities and bundles from.
+
+use spf_id::TrustDomain;
+use std::sync::Arc;
+
+/// A source of bundles, which is lent what its reader has seen of it.
+pub trait BundleSource {
+    type Item;
+
+    type Error;
+
+    type Seen;
+
+    // What a reader has seen fits the source: it is of this source, and of no other.
+    ghost fits: { Self → Self.Seen → Type 0 };
+
+    /// A share of the bundle of that trust domain.
+    fn bundle_for_trust_domain(
+        &self,
+        seen: &mut Self::Seen,
+        trust_domain: &TrustDomain,
+    ) -> Result<Option<Arc<Self::Item>>, Self::Error>
+        requires { fits self.now seen.old }
+        ensures { fits self.now seen.new };
+}
+
+/// A source of the current SVID, which is lent what its reader has seen of it.
+pub trait SvidSource {
+    type Item;
+
+    type Error;
+
+    type Seen;
+
+    // What a reader has seen fits the source: it is of this source, and of no other.
+    ghost fits: { Self → Self.Seen → Type 0 };
+
+    /// A share of the SVID that is current at that moment, in Unix seconds.
+    fn svid(&self, seen: &mut Self::Seen, now: Option<i64>) -> Result<Arc<Self::Item>, Self::Error>
+        requires { fits self.now seen.old }
+        ensures { fits self.now seen.new };
+}

@@ -1,0 +1,144 @@
+//! An X.509 SVID: an identity, the chain that names it, and its key.
+
+ghost use Rattle.std.specs.Prelude.{◌≡◌, IfOk, Some, length, slice_get};
+ghost use Rattle.std.specs.Option.{option_map};
+
+use crate::certificate::{Certificate, copies};
+use crate::private_key::PrivateKey;
+use crate::svid_error::X509SvidError;
+use crate::svid_rule::{ChainPart, cut_chain, leaf_rule, signing_rules};
+use spf_id::SpiffeId;
+use spf_io::{List, OutOfMemory, Text};
+use std::alloc::Global;
+use std::marker::Model;
+
+/// An X.509 SVID (SPIFFE X.509-SVID section 2). Its expiry follows from its chain, so it is not compared.
+#[derive(Debug, Drop)]
+#[derive_where(PartialEq, Eq, PartialOrd, Ord)]
+pub struct X509Svid {
+    spiffe_id: SpiffeId,
+    hint: Option<Text>,
+    cert_chain: List<Certificate>,
+    private_key: PrivateKey,
+    #[derive_where(skip(EqHashOrd))]
+    expiry: i64,
+}
+
+impl Model for X509Svid {
+    ghost use Rattle.std.specs.Prelude.{◌≢◌, []};
+    ghost use Rattle.spf_x509.specs.Svid.{Svid};
+
+    ghost Value = { Svid };
+
+    ghost view = { λ s. record { id = s.spiffe_id; hint = s.hint; chain = s.cert_chain; key = s.private_key; expiry = s.expiry } };
+
+    ghost invariant = { λ s. s.cert_chain ≢ [] };
+
+    ghost inverse = { λ v. record { spiffe_id = v.id; hint = v.hint; cert_chain = v.chain; private_key = v.key; expiry = v.expiry } };
+}
+
+/// Copies of the certificates of a chain.
+fn certificates_of(alloc: Global, parts: &[ChainPart<'_>]) -> Result<Vec<Certificate>, OutOfMemory>
+    ensures { IfOk result (λ v. length v.items ≡ length parts.now) }
+{
+    let mut certificates = Vec::with_capacity(alloc, parts.len())?;
+    for part in parts {
+        certificates.push(Certificate::of_text(alloc, part.der)?)?;
+    }
+    Ok(certificates)
+}
+
+impl X509Svid {
+    /// The SVID of a chain of concatenated certificates, leaf first, and a PKCS#8 key, without a hint.
+    pub fn parse_from_der(
+        alloc: Global,
+        chain: &[u8],
+        key: &[u8],
+    ) -> Result<X509Svid, X509SvidError> {
+        X509Svid::parse_from_der_with_hint(alloc, chain, key, None)
+    }
+
+    /// The same with a hint.
+    pub fn parse_from_der_with_hint(
+        alloc: Global,
+        chain: &[u8],
+        key: &[u8],
+        hint: Option<Text>,
+    ) -> Result<X509Svid, X509SvidError> {
+        let parts = cut_chain(alloc, chain)?;
+        let Some((leaf, signers)) = parts.split_first() else {
+            return Err(X509SvidError::EmptyChain);
+        };
+        let (spiffe_id, expiry) = leaf_rule(alloc, &leaf.view)?;
+        signing_rules(alloc, signers)?;
+        let private_key = PrivateKey::try_from(alloc, key)?;
+        let certificates = certificates_of(alloc, parts.as_slice())?;
+        Ok(X509Svid {
+            spiffe_id,
+            hint,
+            cert_chain: List::new(certificates),
+            private_key,
+            expiry,
+        })
+    }
+
+    /// The same SVID again.
+    pub fn try_clone(&self, alloc: Global) -> Result<X509Svid, OutOfMemory>
+        ensures { IfOk result (λ s. s ≡ self.now) }
+    {
+        let hint = match &self.hint {
+            None => None,
+            Some(hint) => Some(hint.try_clone(alloc)?),
+        };
+        Ok(X509Svid {
+            spiffe_id: self.spiffe_id.try_clone(alloc)?,
+            hint,
+            cert_chain: List::new(copies(alloc, self.cert_chain.as_slice())?),
+            private_key: self.private_key.try_clone(alloc)?,
+            expiry: self.expiry,
+        })
+    }
+
+    pub fn spiffe_id(&self) -> &SpiffeId
+        ensures { result.now ≡ self.now.id }
+    {
+        &self.spiffe_id
+    }
+
+    /// The certificates, leaf first. There is at least one.
+    pub fn cert_chain(&self) -> &[Certificate]
+        ensures { result.now ≡ self.now.chain }
+    {
+        self.cert_chain.as_slice()
+    }
+
+    /// The first certificate of the chain.
+    pub fn leaf(&self) -> &Certificate
+        ensures { Some result.now ≡ slice_get self.now.chain 0 }
+    {
+        &self.cert_chain.as_slice()[0]
+    }
+
+    pub fn private_key(&self) -> &PrivateKey
+        ensures { result.now ≡ self.now.key }
+    {
+        &self.private_key
+    }
+
+    /// What the identity is meant for, in the words of its operator.
+    pub fn hint(&self) -> Option<&str>
+        ensures { option_map (λ t. t.now) result ≡ self.now.hint }
+    {
+        match &self.hint {
+            None => None,
+            Some(hint) => Some(hint.as_str()),
+        }
+    }
+
+    /// When the leaf expires, in Unix seconds.
+    pub fn expiry_unix(&self) -> i64
+        ensures { result ≡ self.now.expiry }
+    {
+        self.expiry
+    }
+}
