@@ -1,3 +1,4 @@
+pub mod FaultLemmas
 pub mod Filled
 pub mod LineLemmas
 pub mod Parts

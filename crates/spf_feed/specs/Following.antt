@@ -1,8 +1,10 @@
 -- How a session ends.
-use Rattle.std.specs.Prelude.{◌≡◌, ℕ, ◌≤◌, Bool, true, false, Result, Err}
+use Rattle.std.specs.Prelude.{◌≡◌, ℕ, ◌≤◌, Bool, true, false, IsTrue, Option, None, Some, Result, Ok, Err}
 use Rattle.spf_io.specs.Outside.{Rose}
 use Rattle.spf_feed.specs.declared.follow_error.FollowError.{FollowError}
 use Rattle.spf_feed.specs.declared.follow_error.FollowError.TheVariants as answers
+use Rattle.spf_feed.specs.declared.frame.FrameError.{FrameError}
+use Rattle.spf_feed.specs.declared.frame.FrameError.TheVariants as errors
 use Rattle.spf_feed.specs.declared.turn.Terminal.{Terminal}
 use Rattle.spf_feed.specs.declared.turn.Terminal.TheVariants as ends
 
@@ -25,3 +27,12 @@ pub record HasFaults (reads reads' writes writes' : ℕ) (r : Result ℕ FollowE
   pub writes_later : writes ≤ writes'
   pub read : r ≡ Err answers.ReadFault → Rose reads reads'
   pub write : r ≡ Err answers.WriteFault → Rose writes writes'
+
+-- an event is read, or a bad frame is told, only where a frame is allowed
+abbrev pub OnlyAllowed : {X : Type 0} → Bool → Result (Option X) FrameError → Type 0
+OnlyAllowed allowed (Ok None) = Unit {0}
+OnlyAllowed allowed (Ok (Some x)) = IsTrue allowed
+OnlyAllowed allowed (Err errors.TooLong) = Unit {0}
+OnlyAllowed allowed (Err errors.BadFrame) = IsTrue allowed
+OnlyAllowed allowed (Err errors.ReadFault) = Unit {0}
+OnlyAllowed allowed (Err errors.OutOfMemory) = Unit {0}

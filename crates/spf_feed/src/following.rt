@@ -2,7 +2,7 @@
 
 ghost use Rattle.std.specs.Prelude.{◌≡◌, false, IfErr};
 ghost use Rattle.spf_feed.specs.Parts.{HasFault};
-ghost use Rattle.spf_feed.specs.Following.{is_fault, HasFaults};
+ghost use Rattle.spf_feed.specs.Following.{is_fault, HasFaults, OnlyAllowed};
 
 use crate::follow_error::FollowError;
 use crate::frame::{FrameError, Phase, next_frame};
@@ -29,6 +29,7 @@ fn next_event<S: Source>(
     allowed: bool,
 ) -> Result<Option<Received>, FrameError>
     ensures cause { HasFault (S.faults source.old) (S.faults source.new) result }
+    ensures allowed { OnlyAllowed allowed result }
 {
     let Some(kind) = next_frame(source, payload, phase, allowed)? else {
         return Ok(None);
@@ -156,7 +157,9 @@ fn take<P: Publisher, M: MetricsRecorder>(
 }
 
 /// The answer at the end of the input.
-fn at_end(snapshot: &Option<Snapshot>, count: u64) -> Result<u64, FollowError> {
+fn at_end(snapshot: &Option<Snapshot>, count: u64) -> Result<u64, FollowError>
+    ensures { IfErr result (λ e. is_fault e ≡ false) }
+{
     match snapshot {
         Some(_) => Ok(count),
         None => Err(FollowError::NeverSynced),
