@@ -4,5 +4,6 @@ pub mod Limits
 pub mod Lines
 pub mod Names
 pub mod Parts
+pub mod Pick
 pub mod Records
 pub mod Steps

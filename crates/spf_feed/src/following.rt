@@ -1,6 +1,7 @@
 //! Following an update stream: its steps, its records and its lines.
 
 ghost use Rattle.std.specs.Prelude.{◌≡◌, false, IfErr};
+ghost use Rattle.std.specs.Option.{ForSome};
 ghost use Rattle.spf_feed.specs.Parts.{HasFault};
 ghost use Rattle.spf_feed.specs.Following.{is_fault, HasFaults, OnlyAllowed};
 
@@ -193,6 +194,8 @@ pub fn follow_x509<S: Source, K: Sink, P: Publisher, M: MetricsRecorder, C: Svid
     picker: Option<&C>,
     ready: Ready,
 ) -> Result<u64, FollowError>
+    requires { ForSome picker (λ p. C.can_pick p.now) }
+
     // A fault comes only where its count rose.
     ensures cause { HasFaults (S.faults source.old) (S.faults source.new) (K.faults sink.old) (K.faults sink.new) result }
 {

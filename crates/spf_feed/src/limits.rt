@@ -1,8 +1,8 @@
 //! How much a context may hold.
 
-ghost use Rattle.std.specs.Prelude.{◌≡◌, ◌^◌, ◌-◌, ℕ, None, Some, min, sum_by, length as list_len};
+ghost use Rattle.std.specs.Prelude.{◌≡◌, None, Some};
 ghost use Rattle.spf_feed.specs.Names.{limit_kind_name};
-ghost use Rattle.spf_feed.specs.Limits.{within_limit};
+ghost use Rattle.spf_feed.specs.Limits.{within_limit, octets_in, within_bundles as bundles_rule, within as limits_rule};
 
 use spf_io::Bytes;
 use spf_x509::{Certificate, X509BundleSet, X509Context};
@@ -127,7 +127,7 @@ fn within(kind: LimitKind, limit: Option<usize>, actual: usize) -> Result<(), Li
 
 /// The octets of some byte fields, stopping at `usize::MAX`.
 fn octets_of(fields: &[Bytes]) -> usize
-    ensures { result ≡ min (sum_by list_len fields.now) (2 ^ 64 - 1) }
+    ensures { result ≡ octets_in fields.now }
 {
     let mut total: usize = 0;
     for field in fields {
@@ -138,7 +138,7 @@ fn octets_of(fields: &[Bytes]) -> usize
 
 /// The octets of the certificates of a bundle, stopping at `usize::MAX`.
 fn certificate_octets(certificates: &[Certificate]) -> usize
-    ensures { result ≡ min (sum_by list_len certificates.now) (2 ^ 64 - 1) }
+    ensures { result ≡ octets_in certificates.now }
 {
     let mut total: usize = 0;
     for certificate in certificates {
@@ -148,7 +148,9 @@ fn certificate_octets(certificates: &[Certificate]) -> usize
 }
 
 /// The octets of each bundle, in the order of the trust domains.
-fn within_bundles(set: &X509BundleSet, limit: Option<usize>) -> Result<(), LimitBroken> {
+fn within_bundles(set: &X509BundleSet, limit: Option<usize>) -> Result<(), LimitBroken>
+    ensures { result ≡ bundles_rule limit set.now }
+{
     for (_, bundle) in set.iter() {
         let octets = certificate_octets(bundle.authorities());
         within(LimitKind::MaxBundleDerBytes, limit, octets)?;
@@ -158,7 +160,10 @@ fn within_bundles(set: &X509BundleSet, limit: Option<usize>) -> Result<(), Limit
 
 /// The first limit that is passed: SVIDs, bundles, octets per bundle in the order of the trust domains, then the octets
 /// of the revocation lists.
-pub fn validate_limits(ctx: &X509Context, limits: ResourceLimits) -> Result<(), LimitBroken> {
+#[tactic(auto, unfolding(crate::specs::Limits::within))]
+pub fn validate_limits(ctx: &X509Context, limits: ResourceLimits) -> Result<(), LimitBroken>
+    ensures { result ≡ limits_rule limits ctx.now }
+{
     let bundles = ctx.bundle_set();
     within(LimitKind::MaxSvids, limits.max_svids, ctx.svids().len())?;
     within(LimitKind::MaxBundles, limits.max_bundles, bundles.len())?;

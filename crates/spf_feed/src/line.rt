@@ -180,11 +180,7 @@ fn push_choice(line: &mut Vec<u8>, svid: Option<&Arc<X509Svid>>) -> Result<(), O
     Ok(())
 }
 
-fn push_permitted(
-    line: &mut Vec<u8>,
-    held: &Prepared,
-    now: Option<i64>,
-) -> Result<(), OutOfMemory>
+fn push_permitted(line: &mut Vec<u8>, held: &Prepared, now: Option<i64>) -> Result<(), OutOfMemory>
     ensures grows { vec_len line.old ≤ vec_len line.new }
 {
     line.extend_from_slice(b" permitted")?;

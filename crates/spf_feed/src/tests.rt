@@ -229,7 +229,11 @@ fn reshuffled_material(rt: HostRuntime) -> Result<(), Fail> {
 
 struct Ninth;
 
-impl PickFunction for Ninth {}
+impl PickFunction for Ninth {
+    ghost use Rattle.std.specs.Prelude.{Some};
+
+    ghost function = { λ _. Some 9 };
+}
 
 /// A picker that picks none later on, and one whose index is out of range.
 #[test]

@@ -1,5 +1,7 @@
 //! What an event does: the step and the records that it makes, or the answer that it ends the session with.
 
+ghost use Rattle.std.specs.Option.{ForSome};
+
 use crate::follow_error::FollowError;
 use crate::limits::{LimitKind, ResourceLimits, validate_limits};
 use crate::payload::Received;
@@ -202,7 +204,9 @@ fn item_turn<C: SvidPicker>(
     picker: Option<&C>,
     ready: Ready,
     context: X509Context,
-) -> Turn {
+) -> Turn
+    requires { ForSome picker (λ p. C.can_pick p.now) }
+{
     if let Err(broken) = validate_limits(&context, limits) {
         return Turn::Passed(Records::over(begun, broken.kind));
     }
@@ -228,7 +232,9 @@ pub(crate) fn turn_of<C: SvidPicker>(
     now: Option<i64>,
     setting: &Setting,
     picker: Option<&C>,
-) -> Turn {
+) -> Turn
+    requires { ForSome picker (λ p. C.can_pick p.now) }
+{
     match event {
         Received::ClientMade | Received::Connected => Turn::Passed(Records::none()),
         Received::ClientFailed(fault) => failure_turn(begun, fault),
