@@ -5,5 +5,7 @@ pub mod Lines
 pub mod Names
 pub mod Parts
 pub mod Pick
+pub mod Prepared
 pub mod Records
+pub mod Standing
 pub mod Steps

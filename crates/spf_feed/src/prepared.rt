@@ -1,7 +1,9 @@
 //! A step with the places of its context in order.
 
-ghost use Rattle.std.specs.Prelude.{◌≡◌};
-ghost use Rattle.spf_feed.specs.Steps.{is_accept_step};
+ghost use Rattle.std.specs.Prelude.{◌≡◌, IfOk};
+ghost use Rattle.std.specs.Option.{option_map, option_and_then};
+ghost use Rattle.std.specs.Arc.{arc_value};
+ghost use Rattle.spf_feed.specs.Steps.{plain, is_accept, material_in, chosen_of};
 
 use crate::sorted::{Sorted, chosen, is_same, places_in, sorted_of};
 use crate::step::Step;
@@ -9,18 +11,34 @@ use spf_id::TrustDomain;
 use spf_io::OutOfMemory;
 use spf_x509::{X509Context, X509Svid};
 use std::alloc::Global;
+use std::marker::Model;
 use std::sync::Arc;
 
-/// A step with its sorted lists, which a clone shares. A Deny has none.
+/// A step with its sorted lists, which a clone shares. A Deny has none. Contracts see the step.
 #[derive(Debug, Drop)]
 pub struct Prepared {
     step: Step,
     places: Option<Arc<Sorted>>,
 }
 
+impl Model for Prepared {
+    ghost use Rattle.spf_feed.specs.Steps.{PlainStep};
+
+    ghost Value = { PlainStep };
+
+    ghost use Rattle.spf_feed.specs.Steps.{plain};
+    ghost use Rattle.spf_feed.specs.Prepared.{IsPlaced};
+
+    ghost view = { λ p. plain p.step };
+
+    ghost invariant = { λ p. IsPlaced p.step p.places };
+}
+
 impl Prepared {
     /// A refusal drops the step.
-    pub fn new(alloc: Global, step: Step) -> Result<Prepared, OutOfMemory> {
+    pub fn new(alloc: Global, step: Step) -> Result<Prepared, OutOfMemory>
+        ensures { IfOk result (λ p. p ≡ plain step) }
+    {
         let places = match &step {
             Step::Accept { context, .. } => { Some(Arc::new(alloc, sorted_of(alloc, context)?)?) }
             Step::Deny { .. } => None,
@@ -28,12 +46,14 @@ impl Prepared {
         Ok(Prepared { step, places })
     }
 
-    pub fn step(&self) -> &Step {
+    pub fn step(&self) -> &Step
+        ensures { plain result.now ≡ self.now }
+    {
         &self.step
     }
 
     pub(crate) fn into_step(self) -> Step
-        ensures { result ≡ self.step }
+        ensures { plain result ≡ self }
     {
         self.step
     }
@@ -65,7 +85,9 @@ impl Prepared {
     }
 
     /// The same step, which shares its lists.
-    pub fn try_clone(&self) -> Result<Prepared, OutOfMemory> {
+    pub fn try_clone(&self) -> Result<Prepared, OutOfMemory>
+        ensures { IfOk result (λ p. p ≡ self.now) }
+    {
         let places = match &self.places {
             Some(places) => Some(Arc::try_clone(places)?),
             None => None,
@@ -98,7 +120,7 @@ impl Prepared {
     }
 
     pub(crate) fn is_accept(&self) -> bool
-        ensures { result ≡ is_accept_step self.now.step }
+        ensures { result ≡ is_accept self.now }
     {
         matches!(self.step, Step::Accept { .. })
     }
@@ -110,7 +132,9 @@ impl Prepared {
         }
     }
 
-    pub(crate) fn context(&self) -> Option<&Arc<X509Context>> {
+    pub(crate) fn context(&self) -> Option<&Arc<X509Context>>
+        ensures { option_map (λ a. arc_value a.now) result ≡ option_map (λ m. m.context) (material_in self.now) }
+    {
         match &self.step {
             Step::Accept { context, .. } => Some(context),
             Step::Deny { .. } => None,
@@ -118,7 +142,9 @@ impl Prepared {
     }
 
     /// The chosen SVID.
-    pub(crate) fn chosen(&self) -> Option<&Arc<X509Svid>> {
+    pub(crate) fn chosen(&self) -> Option<&Arc<X509Svid>>
+        ensures { option_map (λ a. arc_value a.now) result ≡ option_and_then chosen_of (material_in self.now) }
+    {
         match &self.step {
             Step::Accept {
                 context,

@@ -1,5 +1,13 @@
 //! The state of an X.509 source, and why it gives nothing.
 
+ghost use Rattle.std.specs.Prelude.{◌≡◌, Bool, is_some};
+ghost use Rattle.std.specs.Option.{option_map, option_and_then};
+ghost use Rattle.std.specs.Arc.{arc_value};
+ghost use Rattle.spf_io.specs.Rule.{Gives};
+ghost use Rattle.spf_feed.specs.Steps.{chosen_of, held_in, reason_of};
+ghost use Rattle.spf_feed.specs.Prepared.{usable as usable_of};
+ghost use Rattle.spf_feed.specs.Standing.{view_in, IsKept};
+
 use crate::limits::LimitKind;
 use crate::snapshot::Standing;
 use crate::step::Denial;
@@ -8,6 +16,7 @@ use spf_io::OutOfMemory;
 use spf_x509::{X509Context, X509Svid};
 use std::alloc::{AllocError, AllocFailed};
 use std::fmt;
+use std::marker::Model;
 use std::sync::Arc;
 use thiserror::Error;
 
@@ -99,6 +108,18 @@ pub struct X509SourceState {
     standing: Standing,
 }
 
+impl Model for X509SourceState {
+    ghost use Rattle.spf_feed.specs.Steps.{StateView};
+
+    ghost Value = { StateView };
+
+    ghost use Rattle.spf_feed.specs.Standing.{view_in, IsKept};
+
+    ghost view = { λ s. record { revision = s.revision; closed = s.closed; view = view_in s.standing } };
+
+    ghost invariant = { λ s. IsKept s.standing };
+}
+
 impl fmt::Debug for X509SourceState {
     fn fmt<W: fmt::Write>(&self, f: &mut fmt::Formatter<W>) -> fmt::Result {
         write!(f, "X509SourceState")
@@ -106,7 +127,10 @@ impl fmt::Debug for X509SourceState {
 }
 
 impl X509SourceState {
-    pub(crate) fn new(revision: u64, closed: bool, standing: Standing) -> X509SourceState {
+    pub(crate) fn new(revision: u64, closed: bool, standing: Standing) -> X509SourceState
+        requires { IsKept standing }
+        ensures { result ≡ record { revision = revision; closed = closed; view = view_in standing } }
+    {
         X509SourceState {
             revision,
             closed,
@@ -114,20 +138,28 @@ impl X509SourceState {
         }
     }
 
-    pub(crate) fn standing(&self) -> &Standing {
+    pub(crate) fn standing(&self) -> &Standing
+        ensures { view_in result.now ≡ self.now.view }
+    {
         &self.standing
     }
 
-    pub fn revision(&self) -> u64 {
+    pub fn revision(&self) -> u64
+        ensures { result ≡ self.now.revision }
+    {
         self.revision
     }
 
-    pub fn is_closed(&self) -> bool {
+    pub fn is_closed(&self) -> bool
+        ensures { result ≡ self.now.closed }
+    {
         self.closed
     }
 
     /// The reason of the withdrawal, while withdrawn.
-    pub fn withdrawal(&self) -> Option<&Arc<Denial>> {
+    pub fn withdrawal(&self) -> Option<&Arc<Denial>>
+        ensures { option_map (λ a. arc_value a.now) result ≡ reason_of self.now.view }
+    {
         match &self.standing {
             Standing::Permitted(_) => None,
             Standing::Withdrawn(reason) => Some(reason),
@@ -135,7 +167,9 @@ impl X509SourceState {
     }
 
     /// The held context. None while withdrawn.
-    pub fn context_ref(&self) -> Option<&Arc<X509Context>> {
+    pub fn context_ref(&self) -> Option<&Arc<X509Context>>
+        ensures { option_map (λ a. arc_value a.now) result ≡ option_map (λ m. m.context) (held_in self.now.view) }
+    {
         match &self.standing {
             Standing::Permitted(held) => held.context(),
             Standing::Withdrawn(_) => None,
@@ -169,7 +203,9 @@ impl X509SourceState {
     }
 
     /// Whether `svid` is Ok, want of memory aside.
-    pub fn is_usable(&self, now: Option<i64>) -> bool {
+    pub fn is_usable(&self, now: Option<i64>) -> bool
+        ensures { result ≡ is_some (usable_of (option_and_then chosen_of (held_in self.now.view)) now) }
+    {
         match &self.standing {
             Standing::Permitted(held) => usable(held.chosen(), now).is_some(),
             Standing::Withdrawn(_) => false,
@@ -178,7 +214,9 @@ impl X509SourceState {
 }
 
 /// The chosen SVID, where there is a moment and its expiry is above it.
-pub(crate) fn usable(chosen: Option<&Arc<X509Svid>>, now: Option<i64>) -> Option<&Arc<X509Svid>> {
+pub(crate) fn usable(chosen: Option<&Arc<X509Svid>>, now: Option<i64>) -> Option<&Arc<X509Svid>>
+    ensures { option_map (λ a. arc_value a.now) result ≡ usable_of (option_map (λ a. arc_value a.now) chosen.entry) now }
+{
     match (chosen, now) {
         (Some(svid), Some(now)) if now < svid.expiry_unix() => Some(svid),
         _ => None,

@@ -1,5 +1,9 @@
 //! The steps that a session publishes.
 
+ghost use Rattle.std.specs.Prelude.{◌≡◌, IfOk, List, Option, Some, [], map};
+ghost use Rattle.spf_feed.specs.Records.{RecordAppends};
+ghost use Rattle.spf_feed.specs.Steps.{PlainStep, plain, MayFollow};
+
 use crate::limits::ResourceLimits;
 use spf_io::{OutOfMemory, Text};
 use spf_x509::X509Context;
@@ -31,7 +35,9 @@ pub enum Step {
 
 impl Step {
     /// The same step, which shares its context or reason.
-    pub fn try_clone(&self) -> Result<Step, OutOfMemory> {
+    pub fn try_clone(&self) -> Result<Step, OutOfMemory>
+        ensures { IfOk result (λ s. plain s ≡ plain self.now) }
+    {
         match self {
             Step::Accept {
                 context,
@@ -51,7 +57,12 @@ impl Step {
 
 /// What steps are handed to. It keeps memory of its own, which may run out.
 pub trait Publisher {
-    fn publish(&mut self, step: Step) -> Result<(), OutOfMemory>;
+    // The steps so far, where the publisher tells.
+    ghost steps: { Self → Option (List PlainStep) };
+
+    fn publish(&mut self, step: Step) -> Result<(), OutOfMemory>
+        requires { MayFollow (steps self.old) (plain step) }
+        ensures { RecordAppends (steps self.old) (steps self.new) result (plain step) };
 }
 
 /// A publisher that keeps the steps, and tells them.
@@ -63,7 +74,9 @@ pub struct MemPublisher {
 }
 
 impl MemPublisher {
-    pub fn new(alloc: Global) -> MemPublisher {
+    pub fn new(alloc: Global) -> MemPublisher
+        ensures { ⟦<MemPublisher as Publisher>⟧.steps result ≡ Some [] }
+    {
         MemPublisher {
             steps: Vec::new(alloc),
             calls: 0,
@@ -72,7 +85,9 @@ impl MemPublisher {
     }
 
     /// A publisher that answers want of memory at its publish number `at`, from 1, and keeps nothing of that step.
-    pub fn refusing(alloc: Global, at: u64) -> MemPublisher {
+    pub fn refusing(alloc: Global, at: u64) -> MemPublisher
+        ensures { ⟦<MemPublisher as Publisher>⟧.steps result ≡ Some [] }
+    {
         MemPublisher {
             steps: Vec::new(alloc),
             calls: 0,
@@ -80,12 +95,19 @@ impl MemPublisher {
         }
     }
 
-    pub fn steps(&self) -> &[Step] {
+    pub fn steps(&self) -> &[Step]
+        ensures { ⟦<MemPublisher as Publisher>⟧.steps self.now ≡ Some (map plain result.now) }
+    {
         self.steps.as_slice()
     }
 }
 
 impl Publisher for MemPublisher {
+    ghost use Rattle.std.specs.Prelude.{map, Some};
+    ghost use Rattle.spf_feed.specs.Steps.{plain};
+
+    ghost steps = { λ p. Some (map plain p.steps.items) };
+
     fn publish(&mut self, step: Step) -> Result<(), OutOfMemory> {
         self.calls = self.calls.saturating_add(1);
         if self.refused == Some(self.calls) {
