@@ -1,3 +1,4 @@
+pub mod Errors
 pub mod Following
 pub mod Frames
 pub mod Limits
@@ -8,4 +9,6 @@ pub mod Pick
 pub mod Prepared
 pub mod Records
 pub mod Standing
+pub mod States
 pub mod Steps
+pub mod Turns

@@ -1,8 +1,10 @@
 //! Following an update stream: its steps, its records and its lines.
 
-ghost use Rattle.std.specs.Prelude.{◌≡◌, false, IfErr};
+ghost use Rattle.std.specs.Prelude.{◌≡◌, false, None, IsTrue, IfErr, OnOk, is_some};
 ghost use Rattle.std.specs.Option.{ForSome};
 ghost use Rattle.spf_feed.specs.Parts.{HasFault};
+ghost use Rattle.spf_feed.specs.Steps.{plain, is_accept, HasStep, MayFollow};
+ghost use Rattle.spf_feed.specs.Turns.{MayTake};
 ghost use Rattle.spf_feed.specs.Following.{is_fault, HasFaults, OnlyAllowed};
 
 use crate::follow_error::FollowError;
@@ -88,7 +90,10 @@ enum Change {
 }
 
 /// One more step, which opens the snapshot where there is none before it.
-fn take_step(snapshot: &mut Option<Snapshot>, step: Prepared) -> Change {
+fn take_step(snapshot: &mut Option<Snapshot>, step: Prepared) -> Change
+    requires { snapshot.old ≡ None → IsTrue (is_accept step) }
+    ensures { IsTrue (is_some snapshot.new) }
+{
     match snapshot {
         None => {
             *snapshot = Some(Snapshot::opening(step));
@@ -110,7 +115,11 @@ fn publish<P: Publisher>(
     publisher: &mut P,
     snapshot: &mut Option<Snapshot>,
     step: Step,
-) -> Result<Change, OutOfMemory> {
+) -> Result<Change, OutOfMemory>
+    requires next { MayFollow (P.steps publisher.old) (plain step) }
+    requires first { snapshot.old ≡ None → IsTrue (is_accept (plain step)) }
+    ensures { OnOk result (HasStep (P.steps publisher.new)) }
+{
     let published = step.try_clone()?;
     let prepared = Prepared::new(alloc, step)?;
     publisher.publish(published)?;
@@ -126,7 +135,10 @@ fn take<P: Publisher, M: MetricsRecorder>(
     limits: ResourceLimits,
     turn: Turn,
 ) -> Result<bool, FollowError>
-    ensures { IfErr result (λ e. is_fault e ≡ false) }
+    requires turn { MayTake limits (is_some snapshot.old) turn }
+    requires begun { IsTrue (is_some snapshot.old) → HasStep (P.steps publisher.old) }
+    ensures begun { OnOk result (IsTrue (is_some snapshot.new) → HasStep (P.steps publisher.new)) }
+    ensures calm { IfErr result (λ e. is_fault e ≡ false) }
 {
     match turn {
         Turn::Terminal(terminal) => Err(FollowError::from(terminal)),

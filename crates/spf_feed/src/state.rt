@@ -1,12 +1,12 @@
 //! The state of an X.509 source, and why it gives nothing.
 
-ghost use Rattle.std.specs.Prelude.{◌≡◌, Bool, is_some};
+ghost use Rattle.std.specs.Prelude.{◌≡◌, is_some};
 ghost use Rattle.std.specs.Option.{option_map, option_and_then};
 ghost use Rattle.std.specs.Arc.{arc_value};
-ghost use Rattle.spf_io.specs.Rule.{Gives};
 ghost use Rattle.spf_feed.specs.Steps.{chosen_of, held_in, reason_of};
 ghost use Rattle.spf_feed.specs.Prepared.{usable as usable_of};
 ghost use Rattle.spf_feed.specs.Standing.{view_in, IsKept};
+ghost use Rattle.spf_feed.specs.States.{ContextAnswer, SvidAnswer};
 
 use crate::limits::LimitKind;
 use crate::snapshot::Standing;
@@ -92,6 +92,11 @@ impl<T: Drop> From<AllocFailed<T>> for X509SourceError {
 }
 
 impl From<WorkloadApiError> for X509SourceError {
+    ghost use Rattle.std.specs.Prelude.{◌≡◌};
+    ghost use Rattle.spf_feed.specs.Errors.{source_of_api};
+
+    ghost from_gives = { λ e r. r ≡ source_of_api e };
+
     fn from(e: WorkloadApiError) -> X509SourceError {
         match e {
             WorkloadApiError::OutOfMemory => X509SourceError::OutOfMemory,
@@ -177,11 +182,13 @@ impl X509SourceState {
     }
 
     /// The held context.
-    pub fn context(&self) -> Result<Arc<X509Context>, X509SourceError> {
+    pub fn context(&self) -> Result<Arc<X509Context>, X509SourceError>
+        ensures { ContextAnswer self.now.view result }
+    {
         match &self.standing {
             Standing::Permitted(held) => match held.context() {
                 Some(context) => Ok(Arc::try_clone(context)?),
-                None => Err(X509SourceError::NoSuitableSvid),
+                None => unreachable!(),
             },
             Standing::Withdrawn(reason) => {
                 Err(X509SourceError::Withdrawn(Arc::try_clone(reason)?))
@@ -190,7 +197,9 @@ impl X509SourceState {
     }
 
     /// The chosen SVID, where its expiry is above the moment.
-    pub fn svid(&self, now: Option<i64>) -> Result<Arc<X509Svid>, X509SourceError> {
+    pub fn svid(&self, now: Option<i64>) -> Result<Arc<X509Svid>, X509SourceError>
+        ensures { SvidAnswer self.now.view now result }
+    {
         match &self.standing {
             Standing::Permitted(held) => match usable(held.chosen(), now) {
                 Some(svid) => Ok(Arc::try_clone(svid)?),

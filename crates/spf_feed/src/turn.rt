@@ -1,6 +1,9 @@
 //! What an event does: the step and the records that it makes, or the answer that it ends the session with.
 
+ghost use Rattle.std.specs.Prelude.{true, false};
 ghost use Rattle.std.specs.Option.{ForSome};
+ghost use Rattle.spf_feed.specs.declared.limits.ResourceLimits.{ResourceLimits};
+ghost use Rattle.spf_feed.specs.Turns.{MayTake};
 
 use crate::follow_error::FollowError;
 use crate::limits::{LimitKind, ResourceLimits, validate_limits};
@@ -106,7 +109,9 @@ pub(crate) enum Turn {
 }
 
 /// A status before any accepted item: only a request that cannot succeed ends the session.
-fn initial_turn(answer: WorkloadApiError, error: Option<MetricsErrorKind>) -> Turn {
+fn initial_turn(answer: WorkloadApiError, error: Option<MetricsErrorKind>) -> Turn
+    ensures { (limits : ResourceLimits) → MayTake limits false result }
+{
     if answer.is_invalid_argument() {
         return Turn::Terminal(Terminal::Source(answer));
     }
@@ -117,7 +122,9 @@ fn initial_turn(answer: WorkloadApiError, error: Option<MetricsErrorKind>) -> Tu
 }
 
 /// A status once an item was accepted: a denial withdraws, and nothing ends the session.
-fn synced_turn(answer: WorkloadApiError, error: Option<MetricsErrorKind>) -> Turn {
+fn synced_turn(answer: WorkloadApiError, error: Option<MetricsErrorKind>) -> Turn
+    ensures { (limits : ResourceLimits) → MayTake limits true result }
+{
     let records = Records::ended(true, error);
     match answer {
         WorkloadApiError::NoIdentityIssued => Turn::Denied {
@@ -132,7 +139,9 @@ fn synced_turn(answer: WorkloadApiError, error: Option<MetricsErrorKind>) -> Tur
     }
 }
 
-fn status_turn(begun: bool, answer: WorkloadApiError, error: Option<MetricsErrorKind>) -> Turn {
+fn status_turn(begun: bool, answer: WorkloadApiError, error: Option<MetricsErrorKind>) -> Turn
+    ensures { (limits : ResourceLimits) → MayTake limits begun result }
+{
     if begun {
         synced_turn(answer, error)
     } else {
@@ -148,19 +157,25 @@ fn connect_error(answer: &WorkloadApiError) -> Option<MetricsErrorKind> {
     }
 }
 
-fn connect_turn(begun: bool, status: GrpcStatusError) -> Turn {
+fn connect_turn(begun: bool, status: GrpcStatusError) -> Turn
+    ensures { (limits : ResourceLimits) → MayTake limits begun result }
+{
     let answer = WorkloadApiError::from_status(status);
     let error = connect_error(&answer);
     status_turn(begun, answer, error)
 }
 
-fn item_status_turn(begun: bool, status: GrpcStatusError) -> Turn {
+fn item_status_turn(begun: bool, status: GrpcStatusError) -> Turn
+    ensures { (limits : ResourceLimits) → MayTake limits begun result }
+{
     let answer = WorkloadApiError::from_status(status);
     status_turn(begun, answer, Some(MetricsErrorKind::StreamError))
 }
 
 /// A client failure never is a denial.
-fn failure_turn(begun: bool, fault: ClientFault) -> Turn {
+fn failure_turn(begun: bool, fault: ClientFault) -> Turn
+    ensures { (limits : ResourceLimits) → MayTake limits begun result }
+{
     if let ClientFault::Status(status) = fault
         && !begun
     {
@@ -172,7 +187,9 @@ fn failure_turn(begun: bool, fault: ClientFault) -> Turn {
     Turn::Passed(Records::ended(begun, Some(MetricsErrorKind::ClientCreation)))
 }
 
-fn moment_turn(begun: bool, deadline: Option<i64>, moment: i64) -> Turn {
+fn moment_turn(begun: bool, deadline: Option<i64>, moment: i64) -> Turn
+    ensures { (limits : ResourceLimits) → MayTake limits begun result }
+{
     match deadline {
         Some(deadline) if !begun && deadline <= moment => {
             Turn::Terminal(Terminal::InitialSyncTimeout)
@@ -181,7 +198,9 @@ fn moment_turn(begun: bool, deadline: Option<i64>, moment: i64) -> Turn {
     }
 }
 
-fn close_turn(begun: bool) -> Turn {
+fn close_turn(begun: bool) -> Turn
+    ensures { (limits : ResourceLimits) → MayTake limits begun result }
+{
     if begun {
         Turn::Passed(Records::none())
     } else {
@@ -206,6 +225,7 @@ fn item_turn<C: SvidPicker>(
     context: X509Context,
 ) -> Turn
     requires { ForSome picker (λ p. C.can_pick p.now) }
+    ensures { MayTake limits begun result }
 {
     if let Err(broken) = validate_limits(&context, limits) {
         return Turn::Passed(Records::over(begun, broken.kind));
@@ -234,6 +254,7 @@ pub(crate) fn turn_of<C: SvidPicker>(
     picker: Option<&C>,
 ) -> Turn
     requires { ForSome picker (λ p. C.can_pick p.now) }
+    ensures { MayTake setting.now.limits begun result }
 {
     match event {
         Received::ClientMade | Received::Connected => Turn::Passed(Records::none()),
