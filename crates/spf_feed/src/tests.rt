@@ -227,31 +227,41 @@ fn reshuffled_material(rt: HostRuntime) -> Result<(), Fail> {
     Ok(())
 }
 
-struct Ninth;
+/// Picks the only SVID, and else one that is not there.
+struct OnlyOne;
 
-impl PickFunction for Ninth {
-    ghost use Rattle.std.specs.Prelude.{Some};
+impl PickFunction for OnlyOne {
+    ghost use Rattle.std.specs.Prelude.{◌==◌, Some, length, if◌then◌else◌};
 
-    ghost function = { λ _. Some 9 };
+    ghost function = { λ svids. Some (if length svids == 1 then 0 else 9) };
 }
 
-/// A picker that picks none later on, and one whose index is out of range.
+/// A picker that picks none later on, and one whose index is then out of range.
 #[test]
-fn hint_picker(rt: HostRuntime) -> Result<(), Fail> {
+fn pickers(rt: HostRuntime) -> Result<(), Fail> {
     let alloc = rt.alloc();
     let hint = HintPicker::new(Text::copy_of(alloc, "internal")?);
-    let run = run(
-        alloc,
-        "M999 CM CN HINT1 CM CN HINT2",
-        MemPublisher::new(alloc),
-        Some(&hint),
-    )?;
-    let lines = lines_of(alloc, &run.sink)?;
+    let frames = "M999 CM CN HINT1 CM CN HINT2";
+    let hinted = run(alloc, frames, MemPublisher::new(alloc), Some(&hint))?;
+    let lines = lines_of(alloc, &hinted.sink)?;
     assert!(rt; lines.as_str().contains("4 0 permitted P1\n"));
     assert!(rt;
         lines
             .as_str()
             .contains("7 1 permitted - - - example.org=ROOT2\n")
+    );
+    let picker = FnPicker::<_, OnlyOne>::new(|svids: &[Arc<X509Svid>]| Some(if svids.len() == 1 {
+        0
+    } else {
+        9
+    }));
+    let frames = "M999 CM CN I1 CM CN J1";
+    let followed = run(alloc, frames, MemPublisher::new(alloc), Some(&picker))?;
+    let lines = lines_of(alloc, &followed.sink)?;
+    assert!(rt;
+        lines
+            .as_str()
+            .contains("7 1 permitted - - - example.org=ROOT1,ROOT2\n")
     );
     Ok(())
 }
