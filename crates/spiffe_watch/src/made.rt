@@ -108,11 +108,11 @@ fn make_workload(
         key_cert_sign: false,
         crl_sign: false,
     };
-    let leaf = spec(alloc, 1 + place, Some(usage), Some(false), Some(identity))?;
+    let leaf = spec(alloc, serial, Some(usage), Some(false), Some(identity))?;
     Ok(Workload {
         identity,
         leaf: Template::new(alloc, &leaf)?,
-        key: write_key(alloc, 1 + place)?,
+        key: write_key(alloc, serial)?,
     })
 }
 
@@ -137,9 +137,9 @@ impl MadeSession {
             state: words.seed % 65537,
             generation: 0,
             workloads: [
-                make_workload(alloc, 0, first)?,
-                make_workload(alloc, 1, second)?,
-                make_workload(alloc, 2, third)?,
+                make_workload(alloc, 1, first)?,
+                make_workload(alloc, 2, second)?,
+                make_workload(alloc, 3, third)?,
             ],
             signer: signer(alloc)?,
             root_a: root(alloc, 10)?,
