@@ -16,8 +16,15 @@ fn payload(rt: HostRuntime) -> Result<(), Fail> {
     assert_eq!(rt; bytes.len(), 282);
     let read = read_payload(alloc, ResponseKind::Context, bytes.as_slice())?;
     assert!(rt; read == Some(item));
-    let short = &bytes.as_slice()[..281];
-    assert!(rt; read_payload(alloc, ResponseKind::Context, short)?.is_none());
+    Ok(())
+}
+
+#[test]
+fn payload_without_last_octet(rt: HostRuntime) -> Result<(), Fail> {
+    let alloc = rt.alloc();
+    let mut bytes = write_payload(alloc, &Response::Context(first_item(alloc)?))?;
+    bytes.truncate(281);
+    assert!(rt; read_payload(alloc, ResponseKind::Context, bytes.as_slice())?.is_none());
     let count = [255, 255, 255, 255];
     assert!(rt; read_payload(alloc, ResponseKind::Context, &count)?.is_none());
     Ok(())
