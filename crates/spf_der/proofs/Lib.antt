@@ -3,3 +3,4 @@ pub mod Steps
 pub mod Shorter
 pub mod NameWalk
 pub mod Unique
+pub mod WrittenTimes

@@ -1,8 +1,9 @@
--- Which errors speak of memory alone.
-use Rattle.std.specs.Prelude.{Bool, true, false, Option, Some, None, Result, Ok, Err}
+-- Which errors speak of memory alone, and how a kind is called.
+use Rattle.std.specs.Prelude.{List, ℕ, codes, Bool, true, false, Option, Some, None, Result, Ok, Err}
 use Rattle.spf_der.specs.declared.error.CertReadError.{CertReadError}
 use Rattle.spf_der.specs.declared.error.CertReadError.TheVariants.{Parse, OutOfMemory}
-use Rattle.spf_der.specs.declared.error.X509ParseKind.TheVariants.{InvalidCertificate}
+use Rattle.spf_der.specs.declared.error.X509ParseKind.{X509ParseKind}
+use Rattle.spf_der.specs.declared.error.X509ParseKind.TheVariants.{InvalidCertificate, DuplicateExtensions}
 
 abbrev pub is_memory : CertReadError → Bool
 is_memory OutOfMemory = true
@@ -12,3 +13,7 @@ is_memory _ = false
 abbrev pub here : {A : Type 0} → Option A → Result A CertReadError
 here None = Err (Parse InvalidCertificate)
 here (Some x) = Ok x
+
+abbrev pub name_of_kind : X509ParseKind → List ℕ
+name_of_kind InvalidCertificate = codes "InvalidCertificate"
+name_of_kind DuplicateExtensions = codes "DuplicateExtensions"

@@ -9,3 +9,5 @@ pub mod Read
 pub mod Extensions
 pub mod Names
 pub mod Key
+pub mod WrittenTime
+pub mod Written

@@ -1,16 +1,14 @@
 -- Times (RFC 5280 section 4.1.2.5), as Unix seconds.
-use Rattle.std.specs.Prelude.{◌≡◌, ℕ, ◌+◌, ◌-◌, ◌*◌, List, [], ◌∷◌, Option, Some, None, Bool, ◌&&◌, nat_le, ◌==◌, if◌then◌else◌, ℤ, pos, ◌+ℤ◌, ◌*ℤ◌, codes}
-use Rattle.std.specs.Str.{bytes_eq}
+use Rattle.std.specs.Prelude.{◌≡◌, ℕ, ◌+◌, ◌-◌, ◌*◌, List, [], ◌∷◌, Option, Some, None, Bool, ◌&&◌, nat_le, ◌==◌, if◌then◌else◌, ℤ, pos, ◌+ℤ◌, ◌*ℤ◌}
 use Rattle.std.specs.Char.{is_ascii_digit}
 use Rattle.jiff.specs.Words.{days_in_month}
 use Rattle.jiff_core.specs.Calendar.{days_from_civil}
 use Rattle.spf_der.specs.Option.{◌>>=◌}
 use Rattle.spf_der.specs.Value.{value_at}
 
--- two digits at the front, and what follows them
-abbrev pub pair_at : List ℕ → Option (ℕ × List ℕ)
-pair_at (a ∷ b ∷ rest) = if is_ascii_digit a && is_ascii_digit b then Some ((a - 48) * 10 + (b - 48), rest) else None
-pair_at _ = None
+-- the number that two digits spell
+abbrev pub pair_of : ℕ → ℕ → Option ℕ
+pair_of a b = if is_ascii_digit a && is_ascii_digit b then Some ((a - 48) * 10 + (b - 48)) else None
 
 -- the calendar has this day
 abbrev pub is_day : ℕ → ℕ → ℕ → Bool
@@ -27,28 +25,31 @@ moment_of y m d h n s =
       day ← day_number_of y m d
       Some ((day *ℤ pos 86400) +ℤ pos ((h * 60 + n) * 60 + s))) else None
 
--- a month, a day, a time of day and Z, and no more, in that year
-unfoldable pub clock_at : ℕ → List ℕ → Option ℤ
-clock_at year bytes = do
-  m ← pair_at bytes
-  d ← pair_at m.1
-  h ← pair_at d.1
-  n ← pair_at h.1
-  s ← pair_at n.1
-  if bytes_eq s.1 (codes "Z") then moment_of year m.0 d.0 h.0 n.0 s.0 else None
+-- MMDDHHMMSSZ, and no more, in that year
+unfoldable pub clock_of : ℕ → List ℕ → Option ℤ
+clock_of year (m ∷ m' ∷ d ∷ d' ∷ h ∷ h' ∷ n ∷ n' ∷ s ∷ s' ∷ z ∷ []) = do
+  month ← pair_of m m'
+  day ← pair_of d d'
+  hour ← pair_of h h'
+  minute ← pair_of n n'
+  second ← pair_of s s'
+  if z == 90 then moment_of year month day hour minute second else None
+clock_of year _ = None
 
 -- UTCTime (section 4.1.2.5.1): a year of two digits, from 1950 to 2049
 unfoldable pub utc_time : List ℕ → Option ℤ
-utc_time bytes = do
-  y ← pair_at bytes
-  clock_at (if nat_le 50 y.0 then 1900 + y.0 else 2000 + y.0) y.1
+utc_time (y ∷ y' ∷ bytes) = do
+  year ← pair_of y y'
+  clock_of (if nat_le 50 year then 1900 + year else 2000 + year) bytes
+utc_time _ = None
 
 -- GeneralizedTime (section 4.1.2.5.2): a year of four digits
 unfoldable pub generalized_time : List ℕ → Option ℤ
-generalized_time bytes = do
-  c ← pair_at bytes
-  y ← pair_at c.1
-  clock_at (c.0 * 100 + y.0) y.1
+generalized_time (c ∷ c' ∷ y ∷ y' ∷ bytes) = do
+  century ← pair_of c c'
+  year ← pair_of y y'
+  clock_of (century * 100 + year) bytes
+generalized_time _ = None
 
 -- a time, by its tag and its contents octets
 abbrev pub unix_of : ℕ → List ℕ → Option ℤ

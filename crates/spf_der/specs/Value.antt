@@ -1,5 +1,5 @@
 -- Values of DER: a tag octet, the shortest length, and that many contents octets (X.690 sections 8.1 and 10.1).
-use Rattle.std.specs.Prelude.{◌≡◌, ◌≢◌, ℕ, ◌+◌, ◌*◌, ◌/◌, ◌%◌, ◌^◌, ◌<◌, List, [], ◌∷◌, ◌++◌, length, take, drop, Option, Some, None, nat_lt, ◌==◌, if◌then◌else◌, bit_and}
+use Rattle.std.specs.Prelude.{◌≡◌, ◌≢◌, ℕ, ◌+◌, ◌*◌, ◌/◌, ◌%◌, ◌^◌, ◌<◌, ◌≤◌, List, [], ◌∷◌, ◌++◌, length, take, drop, Option, Some, None, MatchOption, nat_lt, ◌==◌, if◌then◌else◌, bit_and}
 use Rattle.std.specs.Borrow.{Bor}
 use Rattle.std.specs.Option.{option_map}
 use Rattle.spf_der.specs.Option.{◌>>=◌}
@@ -91,6 +91,11 @@ optional_at tag (first ∷ bytes) =
       v ← contents_at bytes
       Some (Some v.0, v.1))
     else Some (None, first ∷ bytes)
+
+-- a number that was read of so many octets, and what is left after them
+abbrev pub MeetsRest : ℕ → Option ℕ → Option (ℕ × List ℕ) → List ℕ → Type 0
+MeetsRest count result found bytes =
+    MatchOption result (found ≡ None) (λ n. (count ≤ length bytes) × (found ≡ Some (n, drop count bytes)))
 
 -- what a reader found, without where it lies
 abbrev pub seen : Option (Bor (List ℕ)) → Option (List ℕ)

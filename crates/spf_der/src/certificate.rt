@@ -19,7 +19,7 @@ use std::alloc::Global;
 use std::marker::Model;
 
 /// Whether the bytes are exactly a version from 0 to 2.
-#[inline]
+#[inline(always)]
 fn is_version_number(inner: &[u8]) -> bool
     ensures { result ≡ is_version (Some inner.now) }
 {
@@ -30,7 +30,7 @@ fn is_version_number(inner: &[u8]) -> bool
 }
 
 /// What follows the version, which may be left out (section 4.1.2.1).
-#[inline]
+#[inline(always)]
 #[tactic(auto, unfolding(crate::specs::Certificate::after_version_at))]
 fn after_version(bytes: &[u8]) -> Option<&[u8]>
     ensures { seen result ≡ after_version_at bytes.now }
@@ -49,6 +49,7 @@ fn after_version(bytes: &[u8]) -> Option<&[u8]>
 }
 
 /// The second of the two times, and what follows the validity (section 4.1.2.5).
+#[inline(always)]
 #[tactic(auto, unfolding(crate::specs::Certificate::validity_at))]
 fn validity(bytes: &[u8]) -> Option<(i64, &[u8])>
     ensures { option_map (λ x. (x.0, x.1.now)) result ≡ validity_at bytes.now }
@@ -64,7 +65,7 @@ fn validity(bytes: &[u8]) -> Option<(i64, &[u8])>
 }
 
 /// What follows a public key (section 4.1.2.7).
-#[inline]
+#[inline(always)]
 #[tactic(auto, unfolding(crate::specs::Certificate::after_public_key_at))]
 fn after_public_key(bytes: &[u8]) -> Option<&[u8]>
     ensures { seen result ≡ after_public_key_at bytes.now }
@@ -76,7 +77,7 @@ fn after_public_key(bytes: &[u8]) -> Option<&[u8]>
 }
 
 /// What follows a unique identifier of that number, which may be left out (section 4.1.2.8).
-#[inline]
+#[inline(always)]
 #[tactic(auto, unfolding(crate::specs::Certificate::after_unique_id_at))]
 fn after_unique_id(number: u8, bytes: &[u8]) -> Option<&[u8]>
     requires { number < 32 }
@@ -92,7 +93,7 @@ fn after_unique_id(number: u8, bytes: &[u8]) -> Option<&[u8]>
 }
 
 /// The text of the extensions that end the bytes, empty where they are left out (section 4.1.2.9).
-#[inline]
+#[inline(always)]
 #[tactic(auto, unfolding(crate::specs::Certificate::extension_text_at))]
 fn extension_text(bytes: &[u8]) -> Option<&[u8]>
     ensures { seen result ≡ extension_text_at bytes.now }
@@ -108,7 +109,7 @@ fn extension_text(bytes: &[u8]) -> Option<&[u8]>
 }
 
 /// What follows version, serial number, signature and issuer (sections 4.1.2.1 to 4.1.2.4).
-#[inline]
+#[inline(always)]
 #[tactic(auto, unfolding(crate::specs::Certificate::after_issuer_at))]
 fn after_issuer(bytes: &[u8]) -> Option<&[u8]>
     ensures { seen result ≡ after_issuer_at bytes.now }
@@ -121,6 +122,7 @@ fn after_issuer(bytes: &[u8]) -> Option<&[u8]>
 }
 
 /// The expiry and the text of the extensions of a tbsCertificate (section 4.1.2).
+#[inline(always)]
 #[tactic(auto, unfolding(crate::specs::Certificate::tbs_of))]
 fn tbs_certificate(bytes: &[u8]) -> Option<(i64, &[u8])>
     ensures { option_map (λ x. (x.0, x.1.now)) result ≡ tbs_of bytes.now }
@@ -136,7 +138,7 @@ fn tbs_certificate(bytes: &[u8]) -> Option<(i64, &[u8])>
 }
 
 /// The expiry and the text of the extensions of the certificate at the front, and what follows it.
-#[inline]
+#[inline(always)]
 #[tactic(auto, unfolding(crate::specs::Certificate::certificate_at))]
 fn certificate(der: &[u8]) -> Option<(i64, &[u8], &[u8])>
     ensures exact { option_map (λ x. (x.0, x.1.now, x.2.now)) result ≡ certificate_at der.now }
@@ -169,7 +171,7 @@ pub struct ExtensionPart {
 }
 
 /// The extension at the front, and what follows it (section 4.2).
-#[inline]
+#[inline(always)]
 #[tactic(auto, unfolding(crate::specs::Certificate::extension_at))]
 fn extension<'a>(bytes: &'a [u8]) -> Option<(ExtensionView<'a>, &'a [u8])>
     ensures exact { option_map (λ x. (plain x.0, x.1.now)) result ≡ extension_at bytes.now }
@@ -331,7 +333,8 @@ fn owned_all(alloc: Global, extensions: &[ExtensionView]) -> Result<Vec<Extensio
 
 /// The certificate that is a front of the bytes, and its length.
 pub fn read_certificate(alloc: Global, der: &[u8]) -> Result<(CertParts, usize), CertReadError>
-    ensures { Gives is_memory (λ x. (x.0, x.1)) result (certificate_rule der.now) }
+    ensures gives { Gives is_memory (λ x. (x.0, x.1)) result (certificate_rule der.now) }
+    ensures size { IfOk result (λ x. (0 < x.1) × (x.1 ≤ length der.now)) }
 {
     let (view, length) = read_certificate_view(alloc, der)?;
     let extensions = owned_all(alloc, view.extensions())?;

@@ -38,6 +38,11 @@ pub enum CertReadError {
 }
 
 impl fmt::Display for X509ParseKind {
+    ghost use Rattle.std.specs.Prelude.{Some};
+    ghost use Rattle.spf_der.specs.Error.{name_of_kind};
+
+    ghost output = { λ kind. Some (name_of_kind kind) };
+
     fn fmt<W: fmt::Write>(&self, f: &mut fmt::Formatter<W>) -> fmt::Result {
         match self {
             X509ParseKind::InvalidCertificate => write!(f, "InvalidCertificate"),

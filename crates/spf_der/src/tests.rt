@@ -1,3 +1,5 @@
+ghost use Rattle.std.specs.Prelude.{◌<◌};
+
 use super::{
     BASIC_CONSTRAINTS, CertReadError, CertSpec, KEY_USAGE, KeyUsageBits, SUBJECT_ALT_NAME,
     X509ParseError, X509ParseKind, extension_unique, read_basic_constraints, read_certificate,
@@ -22,7 +24,9 @@ const KEY1: &str = "300d020100300506032b6570040101";
 
 const URI: &str = "spiffe://example.org/w";
 
-fn nibble(digit: u8) -> u8 {
+fn nibble(digit: u8) -> u8
+    ensures { result < 16 }
+{
     match digit {
         b'0'..=b'9' => digit - b'0',
         b'a'..=b'f' => digit - b'a' + 10,

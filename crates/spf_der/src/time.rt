@@ -1,27 +1,27 @@
-//! Times (RFC 5280 section 4.1.2.5), as Unix seconds.
+//! Times (RFC 5280 section 4.1.2.5), which stand in UTC.
 ghost use Rattle.std.specs.Prelude.{◌≡◌, ◌<◌, IfSome};
 ghost use Rattle.std.specs.Option.{option_map};
-ghost use Rattle.spf_der.specs.Time.{clock_at, day_number_of, moment_of, pair_at, time_at, unix_of};
+ghost use Rattle.spf_der.specs.Time as rules;
+ghost use Rattle.spf_der.specs.Time.{clock_of, day_number_of, moment_of, pair_of, time_at, unix_of};
 
 use crate::value::{GENERALIZED_TIME, UTC_TIME, value};
 use jiff::civil::Date;
 
-/// Two digits at the front, and what follows them.
-#[inline]
-fn pair(bytes: &[u8]) -> Option<(u8, &[u8])>
-    ensures found { option_map (λ x. (x.0, x.1.now)) result ≡ pair_at bytes.now }
-    ensures bound { IfSome result (λ x. x.0 < 100) }
+/// The number that two digits spell.
+#[inline(always)]
+fn pair(tens: u8, ones: u8) -> Option<u8>
+    ensures exact { result ≡ pair_of tens ones }
+    ensures bound { IfSome result (λ n. n < 100) }
 {
-    match bytes {
-        [a, b, rest @ ..] if a.is_ascii_digit() && b.is_ascii_digit() => {
-            Some(((*a - b'0') * 10 + (*b - b'0'), rest))
-        }
-        _ => None,
+    if tens.is_ascii_digit() && ones.is_ascii_digit() {
+        Some((tens - b'0') * 10 + (ones - b'0'))
+    } else {
+        None
     }
 }
 
 /// The number of a day, counted from 1970-01-01, if the calendar has it.
-#[inline]
+#[inline(always)]
 fn day_number(year: u16, month: u8, day: u8) -> Option<i32>
     requires year { year < 10000 }
     requires month { month < 100 }
@@ -34,8 +34,8 @@ fn day_number(year: u16, month: u8, day: u8) -> Option<i32>
     }
 }
 
-/// The Unix second of a day and a time of day, if there are such.
-#[inline]
+/// The Unix second of a date and a time of day, if there are such.
+#[inline(always)]
 #[tactic(auto, unfolding(crate::specs::Time::moment_of))]
 fn moment(year: u16, month: u8, day: u8, hour: u8, minute: u8, second: u8) -> Option<i64>
     requires year { year < 10000 }
@@ -51,45 +51,74 @@ fn moment(year: u16, month: u8, day: u8, hour: u8, minute: u8, second: u8) -> Op
     Some(day as i64 * 86400 + seconds as i64)
 }
 
-/// A month, a day, a time of day and `Z`, and no more, in that year.
-#[tactic(auto, unfolding(crate::specs::Time::clock_at))]
+/// `MMDDHHMMSSZ` in that year.
+#[inline(always)]
+#[tactic(auto, unfolding(crate::specs::Time::clock_of))]
 fn clock(year: u16, bytes: &[u8]) -> Option<i64>
     requires { year < 10000 }
-    ensures { result ≡ clock_at year bytes.now }
+    ensures { result ≡ clock_of year bytes.now }
 {
-    let (month, rest) = pair(bytes)?;
-    let (day, rest) = pair(rest)?;
-    let (hour, rest) = pair(rest)?;
-    let (minute, rest) = pair(rest)?;
-    let (second, rest) = pair(rest)?;
-    if rest != b"Z".as_slice() {
-        return None;
+    match bytes {
+        [m, mm, d, dd, h, hh, n, nn, s, ss, z] => {
+            let month = pair(*m, *mm)?;
+            let day = pair(*d, *dd)?;
+            let hour = pair(*h, *hh)?;
+            let minute = pair(*n, *nn)?;
+            let second = pair(*s, *ss)?;
+            if *z != b'Z' {
+                return None;
+            }
+            moment(year, month, day, hour, minute, second)
+        }
+        _ => None,
     }
-    moment(year, month, day, hour, minute, second)
 }
 
-/// The Unix second of a Time, by its tag and its contents octets.
-#[inline]
-#[tactic(auto, unfolding(crate::specs::Time::utc_time, crate::specs::Time::generalized_time))]
-fn unix_second(tag: u8, contents: &[u8]) -> Option<i64>
-    ensures { result ≡ unix_of tag contents.now }
+/// UTCTime (section 4.1.2.5.1): a year of two digits, from 1950 to 2049.
+#[inline(never)]
+#[tactic(auto, unfolding(crate::specs::Time::utc_time))]
+fn utc_time(contents: &[u8]) -> Option<i64>
+    ensures { result ≡ rules.utc_time contents.now }
 {
-    match tag {
-        UTC_TIME => {
-            let (year, rest) = pair(contents)?;
-            let year = year as u16;
+    match contents {
+        [y, yy, rest @ ..] => {
+            let year = pair(*y, *yy)? as u16;
             clock(if year >= 50 { 1900 + year } else { 2000 + year }, rest)
         }
-        GENERALIZED_TIME => {
-            let (century, rest) = pair(contents)?;
-            let (year, rest) = pair(rest)?;
+        _ => None,
+    }
+}
+
+/// GeneralizedTime (section 4.1.2.5.2): a year of four digits.
+#[inline(never)]
+#[tactic(auto, unfolding(crate::specs::Time::generalized_time))]
+fn generalized_time(contents: &[u8]) -> Option<i64>
+    ensures { result ≡ rules.generalized_time contents.now }
+{
+    match contents {
+        [c, cc, y, yy, rest @ ..] => {
+            let century = pair(*c, *cc)?;
+            let year = pair(*y, *yy)?;
             clock(century as u16 * 100 + year as u16, rest)
         }
         _ => None,
     }
 }
 
+/// The Unix second of a Time, by its tag and its contents octets.
+#[inline(always)]
+fn unix_second(tag: u8, contents: &[u8]) -> Option<i64>
+    ensures { result ≡ unix_of tag contents.now }
+{
+    match tag {
+        UTC_TIME => utc_time(contents),
+        GENERALIZED_TIME => generalized_time(contents),
+        _ => None,
+    }
+}
+
 /// The Unix second of the Time at the front, and what follows it.
+#[inline(always)]
 #[tactic(auto, unfolding(crate::specs::Time::time_at))]
 pub fn time(bytes: &[u8]) -> Option<(i64, &[u8])>
     ensures { option_map (λ x. (x.0, x.1.now)) result ≡ time_at bytes.now }

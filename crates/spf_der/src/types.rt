@@ -9,7 +9,7 @@ use crate::value::{
 };
 
 /// OBJECT IDENTIFIER (X.690 section 8.19): its contents octets, and what follows it.
-#[inline]
+#[inline(always)]
 #[tactic(auto, unfolding(crate::specs::Types::object_identifier_at))]
 pub fn object_identifier(bytes: &[u8]) -> Option<(&[u8], &[u8])>
     ensures { seen_two result ≡ object_identifier_at bytes.now }
@@ -23,7 +23,7 @@ pub fn object_identifier(bytes: &[u8]) -> Option<(&[u8], &[u8])>
 }
 
 /// INTEGER (X.690 section 8.3): its contents octets, and what follows it.
-#[inline]
+#[inline(always)]
 #[tactic(auto, unfolding(crate::specs::Types::integer_at))]
 pub fn integer(bytes: &[u8]) -> Option<(&[u8], &[u8])>
     ensures { seen_two result ≡ integer_at bytes.now }
@@ -37,7 +37,7 @@ pub fn integer(bytes: &[u8]) -> Option<(&[u8], &[u8])>
 }
 
 /// One octet, which is at most so much.
-#[inline]
+#[inline(always)]
 fn small(most: u8, contents: &[u8]) -> Option<u8>
     ensures { result ≡ small_of most contents.now }
 {
@@ -48,7 +48,7 @@ fn small(most: u8, contents: &[u8]) -> Option<u8>
 }
 
 /// An INTEGER of one octet, at most so much, and what follows it.
-#[inline]
+#[inline(always)]
 #[tactic(auto, unfolding(crate::specs::Types::small_integer_at))]
 pub fn small_integer(most: u8, bytes: &[u8]) -> Option<(u8, &[u8])>
     ensures { option_map (λ x. (x.0, x.1.now)) result ≡ small_integer_at most bytes.now }
@@ -59,7 +59,7 @@ pub fn small_integer(most: u8, bytes: &[u8]) -> Option<(u8, &[u8])>
 }
 
 /// The contents octets of a BOOLEAN (X.690 sections 8.2 and 11.1).
-#[inline]
+#[inline(always)]
 fn boolean(contents: &[u8]) -> Option<bool>
     ensures { result ≡ boolean_of contents.now }
 {
@@ -71,7 +71,7 @@ fn boolean(contents: &[u8]) -> Option<bool>
 }
 
 /// An optional BOOLEAN whose default is false, and what follows it.
-#[inline]
+#[inline(always)]
 #[tactic(auto, unfolding(crate::specs::Types::default_false_at))]
 pub fn default_false(bytes: &[u8]) -> Option<(bool, &[u8])>
     ensures { option_map (λ x. (x.0, x.1.now)) result ≡ default_false_at bytes.now }
@@ -87,7 +87,7 @@ pub fn default_false(bytes: &[u8]) -> Option<(bool, &[u8])>
 }
 
 /// Whether these are the contents octets of a BIT STRING (X.690 section 8.6).
-#[inline]
+#[inline(always)]
 pub fn is_bits(contents: &[u8]) -> bool
     ensures { result ≡ is_bit_string contents.now }
 {
@@ -98,7 +98,7 @@ pub fn is_bits(contents: &[u8]) -> bool
 }
 
 /// What follows a BIT STRING.
-#[inline]
+#[inline(always)]
 #[tactic(auto, unfolding(crate::specs::Types::after_bit_string_at))]
 pub fn after_bit_string(bytes: &[u8]) -> Option<&[u8]>
     ensures { seen result ≡ after_bit_string_at bytes.now }
@@ -108,7 +108,7 @@ pub fn after_bit_string(bytes: &[u8]) -> Option<&[u8]>
 }
 
 /// What follows an AlgorithmIdentifier (RFC 5280 section 4.1.1.2).
-#[inline]
+#[inline(always)]
 #[tactic(auto, unfolding(crate::specs::Types::after_algorithm_at))]
 pub fn after_algorithm(bytes: &[u8]) -> Option<&[u8]>
     ensures { seen result ≡ after_algorithm_at bytes.now }

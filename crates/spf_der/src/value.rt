@@ -1,7 +1,7 @@
 //! Values of DER: a tag octet, the shortest length, and that many contents octets (X.690 sections 8.1 and 10.1).
-ghost use Rattle.std.specs.Prelude.{◌≡◌, ◌<◌, ◌≤◌, length, IfSome};
+ghost use Rattle.std.specs.Prelude.{◌≡◌, ◌-◌, ◌<◌, ◌≤◌, length, IfSome};
 ghost use Rattle.std.specs.Option.{option_map};
-ghost use Rattle.spf_der.specs.Value.{contents_at, four_octets, length_at, long_length_at, one_octet, optional_at, seen, seen_optional, seen_two, seen_value, tagged_at, three_octets, two_octets, value_at, whole_at};
+ghost use Rattle.spf_der.specs.Value.{MeetsRest, contents_at, four_octets, length_at, long_length_at, one_octet, optional_at, seen, seen_optional, seen_two, seen_value, tagged_at, three_octets, two_octets, value_at, whole_at};
 
 /// Tag octets (X.690 section 8.1.2).
 pub const BOOLEAN: u8 = 0x01;
@@ -20,57 +20,54 @@ pub const GENERALIZED_TIME: u8 = 0x18;
 
 pub const SEQUENCE: u8 = 0x30;
 
-fn one(bytes: &[u8]) -> Option<(usize, &[u8])>
-    ensures exact { option_map (λ x. (x.0, x.1.now)) result ≡ one_octet bytes.now }
-    ensures front { IfSome result (λ x. length x.1.now ≤ length bytes.now) }
+#[inline]
+fn one(bytes: &[u8]) -> Option<usize>
+    ensures { MeetsRest 1 result (one_octet bytes.now) bytes.now }
 {
     match bytes {
-        [a, rest @ ..] if *a >= 128 => Some((*a as usize, rest)),
+        [a, ..] if *a >= 128 => Some(*a as usize),
         _ => None,
     }
 }
 
-fn two(bytes: &[u8]) -> Option<(usize, &[u8])>
-    ensures exact { option_map (λ x. (x.0, x.1.now)) result ≡ two_octets bytes.now }
-    ensures front { IfSome result (λ x. length x.1.now ≤ length bytes.now) }
+#[inline]
+fn two(bytes: &[u8]) -> Option<usize>
+    ensures { MeetsRest 2 result (two_octets bytes.now) bytes.now }
 {
     match bytes {
-        [a, b, rest @ ..] if *a != 0 => Some((*a as usize * 256 + *b as usize, rest)),
+        [a, b, ..] if *a != 0 => Some(*a as usize * 256 + *b as usize),
         _ => None,
     }
 }
 
-fn three(bytes: &[u8]) -> Option<(usize, &[u8])>
-    ensures exact { option_map (λ x. (x.0, x.1.now)) result ≡ three_octets bytes.now }
-    ensures front { IfSome result (λ x. length x.1.now ≤ length bytes.now) }
+#[inline]
+fn three(bytes: &[u8]) -> Option<usize>
+    ensures { MeetsRest 3 result (three_octets bytes.now) bytes.now }
 {
     match bytes {
-        [a, b, c, rest @ ..] if *a != 0 => Some((
-            (*a as usize * 256 + *b as usize) * 256 + *c as usize,
-            rest,
-        )),
+        [a, b, c, ..] if *a != 0 => { Some((*a as usize * 256 + *b as usize) * 256 + *c as usize) }
         _ => None,
     }
 }
 
-fn four(bytes: &[u8]) -> Option<(usize, &[u8])>
-    ensures exact { option_map (λ x. (x.0, x.1.now)) result ≡ four_octets bytes.now }
-    ensures front { IfSome result (λ x. length x.1.now ≤ length bytes.now) }
+#[inline]
+fn four(bytes: &[u8]) -> Option<usize>
+    ensures { MeetsRest 4 result (four_octets bytes.now) bytes.now }
 {
     match bytes {
-        [a, b, c, d, rest @ ..] if *a != 0 => Some((
-            ((*a as usize * 256 + *b as usize) * 256 + *c as usize) * 256 + *d as usize,
-            rest,
-        )),
+        [a, b, c, d, ..] if *a != 0 => {
+            Some(((*a as usize * 256 + *b as usize) * 256 + *c as usize) * 256 + *d as usize)
+        }
         _ => None,
     }
 }
 
-/// A length of 128 or more, after its first octet, and what follows it.
+/// A length of 128 or more, after its first octet, which says how many octets follow.
+#[cold]
+#[inline(never)]
 #[tactic(auto, unfolding(crate::specs::Value::long_length_at))]
-fn long_length(first: u8, rest: &[u8]) -> Option<(usize, &[u8])>
-    ensures exact { option_map (λ x. (x.0, x.1.now)) result ≡ long_length_at first rest.now }
-    ensures front { IfSome result (λ x. length x.1.now ≤ length rest.now) }
+fn long_length(first: u8, rest: &[u8]) -> Option<usize>
+    ensures { MeetsRest (first - 128) result (long_length_at first rest.now) rest.now }
 {
     match first {
         0x81 => one(rest),
@@ -82,7 +79,7 @@ fn long_length(first: u8, rest: &[u8]) -> Option<(usize, &[u8])>
 }
 
 /// A length at the front, and what follows it.
-#[inline]
+#[inline(always)]
 #[tactic(auto, unfolding(crate::specs::Value::length_at))]
 fn length_prefix(bytes: &[u8]) -> Option<(usize, &[u8])>
     ensures exact { option_map (λ x. (x.0, x.1.now)) result ≡ length_at bytes.now }
@@ -92,11 +89,12 @@ fn length_prefix(bytes: &[u8]) -> Option<(usize, &[u8])>
     if *first < 128 {
         return Some((*first as usize, rest));
     }
-    long_length(*first, rest)
+    let length = long_length(*first, rest)?;
+    Some((length, &rest[(*first - 128) as usize..]))
 }
 
 /// The contents of a value after its tag, and what follows them.
-#[inline]
+#[inline(always)]
 #[tactic(auto, unfolding(crate::specs::Value::contents_at))]
 pub fn contents(bytes: &[u8]) -> Option<(&[u8], &[u8])>
     ensures exact { seen_two result ≡ contents_at bytes.now }
@@ -111,7 +109,7 @@ pub fn contents(bytes: &[u8]) -> Option<(&[u8], &[u8])>
 }
 
 /// The value at the front: its tag, its contents, and what follows it.
-#[inline]
+#[inline(always)]
 #[tactic(auto, unfolding(crate::specs::Value::value_at))]
 pub fn value(bytes: &[u8]) -> Option<(u8, &[u8], &[u8])>
     ensures exact { seen_value result ≡ value_at bytes.now }
@@ -126,7 +124,7 @@ pub fn value(bytes: &[u8]) -> Option<(u8, &[u8], &[u8])>
 }
 
 /// The contents of the value of that tag at the front, and what follows it.
-#[inline]
+#[inline(always)]
 #[tactic(auto, unfolding(crate::specs::Value::tagged_at))]
 pub fn tagged(tag: u8, bytes: &[u8]) -> Option<(&[u8], &[u8])>
     ensures exact { seen_two result ≡ tagged_at tag bytes.now }
@@ -140,7 +138,7 @@ pub fn tagged(tag: u8, bytes: &[u8]) -> Option<(&[u8], &[u8])>
 }
 
 /// The contents of the value of that tag, where the bytes are exactly one.
-#[inline]
+#[inline(always)]
 #[tactic(auto, unfolding(crate::specs::Value::whole_at))]
 pub fn whole(tag: u8, bytes: &[u8]) -> Option<&[u8]>
     ensures { seen result ≡ whole_at tag bytes.now }
@@ -154,7 +152,7 @@ pub fn whole(tag: u8, bytes: &[u8]) -> Option<&[u8]>
 }
 
 /// The contents of the value of that tag, if one stands at the front, and what follows it.
-#[inline]
+#[inline(always)]
 #[tactic(auto, unfolding(crate::specs::Value::optional_at))]
 pub fn optional(tag: u8, bytes: &[u8]) -> Option<(Option<&[u8]>, &[u8])>
     ensures { seen_optional result ≡ optional_at tag bytes.now }

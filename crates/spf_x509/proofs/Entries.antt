@@ -1,5 +1,5 @@
 -- The entries of a bundle set, seen without their sharing.
-use Rattle.std.proofs.Common.{◌≡◌, ℕ, Bool, true, false, cond, List, [], ◌∷◌, map, Option, Some, None, refl, ap, ◌∙◌}
+use Rattle.std.proofs.Common.{◌≡◌, ◌<◌, length, take, length-append, arith, sym, ℕ, Bool, true, false, cond, List, [], ◌∷◌, ◌++◌, map, Option, Some, None, refl, ap, ◌∙◌}
 use Rattle.std.specs.Borrow.{Bor}
 use Rattle.std.specs.declared.cmp.Ordering.{Ordering}
 use Rattle.std.specs.declared.cmp.Ordering.TheVariants.{Less, Equal, Greater}
@@ -9,9 +9,10 @@ use Rattle.std.specs.Cmp.Lexicographic.{slice_cmp, texts_ties}
 use Rattle.std.specs.Arc.{arc_value}
 use Rattle.std.specs.declared.sync.Arc.{Arc}
 use Rattle.std.specs.declared.alloc.Global.{Global}
+use Rattle.std.proofs.lemmas.List.{map_push}
 use Rattle.std.specs.BTreeMap.{insert_entry, is_at}
 use Rattle.std.specs.Map.{lookup}
-use Rattle.spf_x509.specs.Bundle.{Bundle, plain_entry, with_entry, find_entry}
+use Rattle.spf_x509.specs.Bundle.{Bundle, HoldsFront, plain_entry, with_entry, with_entries, with_bundles, find_entry}
 
 abbrev Shared : Type 0
 Shared = List ℕ × Arc Bundle Global
@@ -44,3 +45,29 @@ lookup_plain (e ∷ es) k =
 pub seen_arc : (r : Option (Bor (Arc Bundle Global))) (o : Option (Arc Bundle Global)) → option_copied r ≡ o → option_map (λ a. arc_value a.now) r ≡ option_map arc_value o
 seen_arc None o is = ap (option_map arc_value) is
 seen_arc (Some r) o is = ap (option_map arc_value) is
+
+one_more : {V : Type 0} (es fs : List (List ℕ × V)) (f : List ℕ × V) → with_entries es (fs ++ f ∷ []) ≡ with_entry (with_entries es fs) f.0 f.1
+one_more es [] f = refl
+one_more es (g ∷ fs) f = one_more (with_entry es g.0 g.1) fs f
+
+-- one more bundle is added
+pub one_more_bundle : (set : List (List ℕ × Bundle)) (bundles : List Bundle) (b : Bundle)
+    → with_bundles set (bundles ++ b ∷ []) ≡ with_entry (with_bundles set bundles) b.domain b
+one_more_bundle set bundles b =
+    ap (with_entries set) (map_push (λ (x : Bundle). (x.domain, x)) bundles b) ∙ one_more set (map (λ (x : Bundle). (x.domain, x)) bundles) (b.domain, b)
+
+taken : {V : Type 0} (front : List V) (b : V) (rest : List V) → take (length front) (front ++ b ∷ rest) ≡ front
+taken [] b rest = refl
+taken {V} (f ∷ front) b rest = ap (λ (xs : List V). f ∷ xs) (taken front b rest)
+
+counted : {V : Type 0} (front : List V) (b : V) (rest : List V) → length front < length (front ++ b ∷ rest)
+counted front b rest = omega (arith, length-append front (b ∷ rest))
+
+-- a bundle was refused
+pub holds_front : (old : List (List ℕ × Bundle)) (bundles front : List Bundle) (b : Bundle) (rest : List Bundle) (new : List (List ℕ × Bundle))
+    → front ++ b ∷ rest ≡ bundles → new ≡ with_bundles old front → HoldsFront old bundles new
+holds_front old bundles front b rest new is holds = record {
+  count = length front;
+  refused = rw (← is) (counted front b rest);
+  holds = rw (← is, taken front b rest) holds;
+}

@@ -1,5 +1,5 @@
 -- The authorities of a trust domain, and the bundles of several (SPIFFE Trust Domain and Bundle section 4).
-use Rattle.std.specs.Prelude.{ℕ, Bool, ◌&&◌, nat_eq, List, [], ◌∷◌, Option, Some, None, if◌then◌else◌}
+use Rattle.std.specs.Prelude.{◌≡◌, ◌<◌, ℕ, length, take, map, Bool, ◌&&◌, nat_eq, List, [], ◌∷◌, Option, Some, None, if◌then◌else◌}
 use Rattle.std.specs.Ordering.{match_ordering, nat_cmp}
 use Rattle.std.specs.Cmp.Lexicographic.{pointwise, slice_cmp}
 use Rattle.std.specs.Str.{bytes_eq}
@@ -30,6 +30,21 @@ plain_entry e = (e.0, arc_value e.1)
 abbrev pub with_entry : {V : Type 0} → List (List ℕ × V) → List ℕ → V → List (List ℕ × V)
 with_entry [] k v = (k, v) ∷ []
 with_entry (e ∷ es) k v = match_ordering (slice_cmp nat_cmp k e.0) ((k, v) ∷ e ∷ es) ((e.0, v) ∷ es) (e ∷ with_entry es k v)
+
+-- the entries with those put in their places, one after the other
+abbrev pub with_entries : {V : Type 0} → List (List ℕ × V) → List (List ℕ × V) → List (List ℕ × V)
+with_entries es [] = es
+with_entries es (f ∷ fs) = with_entries (with_entry es f.0 f.1) fs
+
+-- the set with those bundles added in order: the last one of a trust domain stands
+abbrev pub with_bundles : List (List ℕ × Bundle) → List Bundle → List (List ℕ × Bundle)
+with_bundles set bundles = with_entries set (map (λ (b : Bundle). (b.domain, b)) bundles)
+
+-- the set with the bundles before one that was refused
+pub record HoldsFront (old : List (List ℕ × Bundle)) (bundles : List Bundle) (new : List (List ℕ × Bundle)) : Type 0 where
+  pub count : ℕ
+  pub refused : count < length bundles
+  pub holds : new ≡ with_bundles old (take count bundles)
 
 -- the value of that trust domain
 abbrev pub find_entry : {V : Type 0} → List ℕ → List (List ℕ × V) → Option V

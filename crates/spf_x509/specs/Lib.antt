@@ -3,3 +3,10 @@ pub mod Svid
 pub mod Bundle
 pub mod Context
 pub mod Laws
+pub mod Places
+pub mod Order
+pub mod Certificate
+pub mod Key
+pub mod Rule
+pub mod Chain
+pub mod BundleRule

@@ -1,10 +1,15 @@
 //! The authorities of one trust domain.
 
-ghost use Rattle.std.specs.Prelude.{◌≡◌, ◌++◌, [], ◌∷◌, IfOk, OnErr, OnOk};
+ghost use Rattle.std.specs.Prelude.{◌≡◌, ◌<◌, ◌++◌, [], ◌∷◌, length, IfOk, OnErr, OnOk};
+ghost use Rattle.spf_io.specs.Rule.{Gives, each};
+ghost use Rattle.spf_x509.specs.Certificate.{certificate_of};
+ghost use Rattle.spf_x509.specs.Chain.{authorities_rule, authority_at};
+ghost use Rattle.spf_x509.specs.Errors.{is_memory_bundle, is_memory_certificate};
+ghost use Rattle.spf_x509.specs.BundleRule.{added_to, bundle_of};
 
 use crate::certificate::{Certificate, copies};
 use crate::error::{CertificateError, X509BundleError};
-use spf_der::read_certificate_view;
+use crate::svid_rule::cut_certificate;
 use spf_id::TrustDomain;
 use spf_io::{Bytes, OutOfMemory};
 use std::alloc::Global;
@@ -41,14 +46,13 @@ impl X509Bundle {
         alloc: Global,
         trust_domain: TrustDomain,
         authorities: &[Bytes],
-    ) -> Result<X509Bundle, X509BundleError> {
-        let mut certificates = Vec::new(alloc);
-        for authority in authorities {
-            certificates.push(Certificate::try_from(alloc, authority.as_slice())?)?;
-        }
+    ) -> Result<X509Bundle, X509BundleError>
+        ensures { Gives is_memory_bundle (λ b. b) result (bundle_of trust_domain (each certificate_of authorities.now)) }
+    {
+        let authorities = certificates_from(alloc, authorities)?;
         Ok(X509Bundle {
             trust_domain,
-            authorities: certificates,
+            authorities,
         })
     }
 
@@ -57,7 +61,9 @@ impl X509Bundle {
         alloc: Global,
         trust_domain: TrustDomain,
         der: &[u8],
-    ) -> Result<X509Bundle, X509BundleError> {
+    ) -> Result<X509Bundle, X509BundleError>
+        ensures { Gives is_memory_bundle (λ b. b) result (bundle_of trust_domain (authorities_rule der.now)) }
+    {
         let authorities = cut_authorities(alloc, der)?;
         Ok(X509Bundle {
             trust_domain,
@@ -69,6 +75,7 @@ impl X509Bundle {
     pub fn add_authority(&mut self, der: &[u8]) -> Result<(), X509BundleError>
         ensures ok { OnOk result (self.new ≡ record { domain = self.old.domain; authorities = self.old.authorities ++ der.now ∷ [] }) }
         ensures err { OnErr result (self.new ≡ self.old) }
+        ensures gives { Gives is_memory_bundle (λ _. self.new) result (added_to self.old (certificate_of der.now)) }
     {
         let alloc = *self.authorities.allocator();
         let certificate = Certificate::try_from(alloc, der)?;
@@ -99,14 +106,41 @@ impl X509Bundle {
     }
 }
 
+/// The certificates that the texts are, in order.
+fn certificates_from(
+    alloc: Global,
+    authorities: &[Bytes],
+) -> Result<Vec<Certificate>, CertificateError>
+    ensures { Gives is_memory_certificate (λ v. v.items) result (each certificate_of authorities.now) }
+{
+    let mut certificates = Vec::new(alloc);
+    for authority in authorities {
+        let certificate = Certificate::try_from(alloc, authority.as_slice())?;
+        certificates.push(certificate)?;
+    }
+    Ok(certificates)
+}
+
+/// A copy of the certificate at the front, and what follows it.
+#[tactic(auto, unfolding(crate::specs::Chain::authority_at))]
+fn cut_authority(alloc: Global, der: &[u8]) -> Result<(Certificate, &[u8]), CertificateError>
+    ensures gives { Gives is_memory_certificate (λ x. (x.0, x.1.now)) result (authority_at der.now) }
+    ensures shorter { IfOk result (λ x. length x.1.now < length der.now) }
+{
+    let (part, rest) = cut_certificate(alloc, der)?;
+    let certificate = Certificate::of_text(alloc, part.der)?;
+    Ok((certificate, rest))
+}
+
 /// Copies of the certificates whose concatenation the bytes are.
-fn cut_authorities(alloc: Global, der: &[u8]) -> Result<Vec<Certificate>, CertificateError> {
+fn cut_authorities(alloc: Global, der: &[u8]) -> Result<Vec<Certificate>, CertificateError>
+    ensures { Gives is_memory_certificate (λ v. v.items) result (authorities_rule der.now) }
+{
     let mut authorities = Vec::new(alloc);
     let mut rest = der;
     while !rest.is_empty() {
-        let (_, length) = read_certificate_view(alloc, rest)?;
-        let (text, after) = rest.split_at(length);
-        authorities.push(Certificate::of_text(alloc, text)?)?;
+        let (authority, after) = cut_authority(alloc, rest)?;
+        authorities.push(authority)?;
         rest = after;
     }
     Ok(authorities)

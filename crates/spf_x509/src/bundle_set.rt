@@ -3,7 +3,7 @@
 ghost use Rattle.std.specs.Prelude.{◌≡◌, ◌==◌, [], IfOk, OnErr, OnOk, length};
 ghost use Rattle.std.specs.Option.{option_map};
 ghost use Rattle.std.specs.Arc.{arc_value};
-ghost use Rattle.spf_x509.specs.Bundle.{find_entry, with_entry};
+ghost use Rattle.spf_x509.specs.Bundle.{HoldsFront, find_entry, with_bundles, with_entry};
 
 use crate::bundle::X509Bundle;
 use crate::source::BundleSource;
@@ -52,7 +52,10 @@ impl X509BundleSet {
     }
 
     /// Adds each bundle in order. After a refusal the set holds those before the refused one.
-    pub fn extend(&mut self, bundles: Vec<X509Bundle>) -> Result<(), OutOfMemory> {
+    pub fn extend(&mut self, bundles: Vec<X509Bundle>) -> Result<(), OutOfMemory>
+        ensures ok { OnOk result (self.new ≡ with_bundles self.old bundles.items) }
+        ensures err { OnErr result (HoldsFront self.old bundles.items self.new) }
+    {
         for bundle in bundles {
             self.add_bundle(bundle)?;
         }
@@ -60,19 +63,20 @@ impl X509BundleSet {
     }
 
     /// The set of the bundles, of which the last of a trust domain stands.
-    pub fn from_iter(
-        alloc: Global,
-        bundles: Vec<X509Bundle>,
-    ) -> Result<X509BundleSet, OutOfMemory> {
+    pub fn from_iter(alloc: Global, bundles: Vec<X509Bundle>) -> Result<X509BundleSet, OutOfMemory>
+        ensures { IfOk result (λ s. s ≡ with_bundles [] bundles.items) }
+    {
         let mut set = X509BundleSet::new(alloc);
         set.extend(bundles)?;
         Ok(set)
     }
 
     /// The same set again, which shares its bundles.
-    pub fn try_clone(&self) -> Result<X509BundleSet, OutOfMemory> {
+    pub fn try_clone(&self) -> Result<X509BundleSet, OutOfMemory>
+        ensures { IfOk result (λ s. s ≡ self.now) }
+    {
         let mut bundles = BTreeMap::new(self.alloc);
-        for (trust_domain, bundle) in &self.bundles {
+        for (trust_domain, bundle) in self.bundles.iter() {
             bundles.insert(trust_domain.try_clone(self.alloc)?, Arc::try_clone(bundle)?)?;
         }
         Ok(X509BundleSet {
@@ -104,7 +108,9 @@ impl X509BundleSet {
     }
 
     /// The pairs of trust domain and bundle, in the order of the trust domains.
-    pub fn iter(&self) -> X509BundleIter<'_> {
+    pub fn iter(&self) -> X509BundleIter<'_>
+        ensures { result ≡ self.now }
+    {
         X509BundleIter {
             inner: self.bundles.iter(),
         }
@@ -136,26 +142,37 @@ impl BundleSource for X509BundleSet {
         &self,
         _seen: &mut (),
         trust_domain: &TrustDomain,
-    ) -> Result<Option<Arc<X509Bundle>>, OutOfMemory> {
+    ) -> Result<Option<Arc<X509Bundle>>, OutOfMemory>
+        ensures { IfOk result (λ o. option_map arc_value o ≡ find_entry trust_domain.now self.now) }
+    {
         self.get(trust_domain)
     }
 }
 
-/// The pairs of a bundle set that are still to come.
+/// The pairs of a bundle set that are still to come, which contracts see as their list.
 #[derive(Drop)]
 pub struct X509BundleIter<'a> {
     inner: btree_map::Iter<'a, TrustDomain, Arc<X509Bundle>>,
 }
 
+impl<'a> Model for X509BundleIter<'a> {
+    ghost use Rattle.std.specs.Prelude.{List, ℕ, map};
+    ghost use Rattle.spf_x509.specs.Bundle.{Bundle, plain_entry};
+
+    ghost Value = { List (List ℕ × Bundle) };
+
+    ghost view = { λ i. map plain_entry i.inner };
+}
+
 impl<'a> Iterator for X509BundleIter<'a> {
-    ghost use Rattle.std.specs.Prelude.{length};
+    ghost use Rattle.std.specs.Arc.{arc_value};
     ghost use Rattle.std.specs.Iterator.{YieldsFirstBy, item_count};
 
     type Item = (&'a TrustDomain, &'a Arc<X509Bundle>);
 
-    ghost next_gives = { YieldsFirstBy (λ p. (p.0.now, p.1.now)) (λ s. s.inner) };
+    ghost next_gives = { YieldsFirstBy (λ p. (p.0.now, arc_value p.1.now)) (λ s. s) };
 
-    ghost remaining = { item_count (λ s. s.inner) };
+    ghost remaining = { item_count (λ s. s) };
 
     fn next(&mut self) -> Option<(&'a TrustDomain, &'a Arc<X509Bundle>)> {
         self.inner.next()

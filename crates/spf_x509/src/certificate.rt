@@ -1,11 +1,14 @@
 //! A certificate, kept as its DER, and the SPIFFE ID that it names.
 
-ghost use Rattle.std.specs.Prelude.{◌≡◌, IfOk};
+ghost use Rattle.std.specs.Prelude.{◌≡◌, IfOk, codes};
+ghost use Rattle.spf_io.specs.Rule.{Gives};
+ghost use Rattle.spf_x509.specs.Certificate.{certificate_of, extension_rule, san_rule, spiffe_id_rule, uri_rule, uris_rule, whole_rule};
+ghost use Rattle.spf_x509.specs.Errors.{is_memory_certificate};
 
 use crate::error::CertificateError;
 use crate::extension::X509ExtensionId;
 use spf_der::{
-    CertView, SUBJECT_ALT_NAME, X509ParseError, X509ParseKind, read_certificate_view,
+    CertView, SUBJECT_ALT_NAME, SanUris, X509ParseError, X509ParseKind, read_certificate_view,
     read_san_uri_views,
 };
 use spf_id::{SpiffeId, uri_has_spiffe_scheme};
@@ -34,16 +37,20 @@ impl Model for Certificate {
 
 impl Certificate {
     /// The certificate that the bytes are, whole.
+    #[tactic(auto, unfolding(crate::specs::Certificate::certificate_of))]
     pub fn try_from(alloc: Global, der: &[u8]) -> Result<Certificate, CertificateError>
-        ensures { IfOk result (λ c. c ≡ der.now) }
+        ensures text { IfOk result (λ c. c ≡ der.now) }
+        ensures gives { Gives is_memory_certificate (λ c. c) result (certificate_of der.now) }
     {
         read_whole(alloc, der)?;
         Ok(Certificate::of_text(alloc, der)?)
     }
 
     /// The same of bytes that are given away.
+    #[tactic(auto, unfolding(crate::specs::Certificate::certificate_of))]
     pub fn try_from_owned(alloc: Global, der: Vec<u8>) -> Result<Certificate, CertificateError>
-        ensures { IfOk result (λ c. c ≡ der.items) }
+        ensures text { IfOk result (λ c. c ≡ der.items) }
+        ensures gives { Gives is_memory_certificate (λ c. c) result (certificate_of der.items) }
     {
         read_whole(alloc, der.as_slice())?;
         Ok(Certificate {
@@ -76,7 +83,9 @@ impl Certificate {
     }
 
     /// The one SPIFFE ID of its subject alternative name.
-    pub fn spiffe_id(&self, alloc: Global) -> Result<SpiffeId, CertificateError> {
+    pub fn spiffe_id(&self, alloc: Global) -> Result<SpiffeId, CertificateError>
+        ensures { Gives is_memory_certificate (λ id. id) result (spiffe_id_rule self.now) }
+    {
         spiffe_id_from_der(alloc, self.der.as_slice())
     }
 }
@@ -93,13 +102,19 @@ pub(crate) fn copies(alloc: Global, chain: &[Certificate]) -> Result<Vec<Certifi
 }
 
 /// The one SPIFFE ID of the certificate that the bytes are, whole.
-pub fn spiffe_id_from_der(alloc: Global, der: &[u8]) -> Result<SpiffeId, CertificateError> {
+#[tactic(auto, unfolding(crate::specs::Certificate::spiffe_id_rule))]
+pub fn spiffe_id_from_der(alloc: Global, der: &[u8]) -> Result<SpiffeId, CertificateError>
+    ensures { Gives is_memory_certificate (λ id. id) result (spiffe_id_rule der.now) }
+{
     let certificate = read_whole(alloc, der)?;
     subject_id(alloc, &certificate)
 }
 
 /// The view of the certificate that the bytes are, with nothing behind it.
-fn read_whole<'a>(alloc: Global, der: &'a [u8]) -> Result<CertView<'a>, CertificateError> {
+#[tactic(auto, unfolding(crate::specs::Certificate::whole_rule))]
+fn read_whole<'a>(alloc: Global, der: &'a [u8]) -> Result<CertView<'a>, CertificateError>
+    ensures { Gives is_memory_certificate (λ c. c) result (whole_rule der.now) }
+{
     let (certificate, length) = read_certificate_view(alloc, der)?;
     if length != der.len() {
         return Err(CertificateError::ParseX509Certificate(X509ParseError::new(
@@ -110,24 +125,32 @@ fn read_whole<'a>(alloc: Global, der: &'a [u8]) -> Result<CertView<'a>, Certific
 }
 
 /// The contents of the one extension with that identifier.
+#[tactic(auto, unfolding(crate::specs::Certificate::extension_rule))]
 pub(crate) fn extension_contents<'a>(
     certificate: &CertView<'a>,
     identifier: &[u8],
     extension: X509ExtensionId,
-) -> Result<&'a [u8], CertificateError> {
+) -> Result<&'a [u8], CertificateError>
+    ensures { Gives is_memory_certificate (λ b. b.now) result (extension_rule identifier.now extension certificate.now) }
+{
     match certificate.extension_unique(identifier)? {
         None => Err(CertificateError::MissingX509Extension(extension)),
         Some(contents) => Ok(contents),
     }
 }
 
-fn unexpected_names(alloc: Global) -> Result<CertificateError, OutOfMemory> {
+fn unexpected_names(alloc: Global) -> Result<CertificateError, OutOfMemory>
+    ensures { IfOk result (λ e. e ≡ CertificateError.UnexpectedExtension (codes "SubjectAlternativeName")) }
+{
     let extension = Text::copy_of(alloc, "SubjectAlternativeName")?;
     Ok(CertificateError::UnexpectedExtension(extension))
 }
 
 /// The ID that a URI name is, where it is meant as one.
-fn id_of_uri(alloc: Global, uri: &str) -> Result<Option<SpiffeId>, CertificateError> {
+#[tactic(auto, unfolding(crate::specs::Certificate::uri_rule))]
+fn id_of_uri(alloc: Global, uri: &str) -> Result<Option<SpiffeId>, CertificateError>
+    ensures { Gives is_memory_certificate (λ id. id) result (uri_rule uri.now) }
+{
     if uri.len() > MAX_URI_BYTES {
         return Err(CertificateError::OversizedUriSan { max: MAX_URI_BYTES });
     }
@@ -137,19 +160,10 @@ fn id_of_uri(alloc: Global, uri: &str) -> Result<Option<SpiffeId>, CertificateEr
     Ok(Some(SpiffeId::new(alloc, uri)?))
 }
 
-/// The SAN rule: the names can be read, and of their URIs, taken in order, the only one is a SPIFFE ID.
-pub(crate) fn subject_id(
-    alloc: Global,
-    certificate: &CertView<'_>,
-) -> Result<SpiffeId, CertificateError> {
-    let contents = extension_contents(
-        certificate,
-        &SUBJECT_ALT_NAME,
-        X509ExtensionId::SubjectAlternativeName,
-    )?;
-    let Some(mut uris) = read_san_uri_views(contents) else {
-        return Err(unexpected_names(alloc)?);
-    };
+/// The one SPIFFE ID of the URIs, taken in order.
+fn id_of_uris(alloc: Global, mut uris: SanUris<'_>) -> Result<SpiffeId, CertificateError>
+    ensures { Gives is_memory_certificate (λ id. id) result (uris_rule uris.entry) }
+{
     let Some(first) = uris.next_uri() else {
         return Err(CertificateError::MissingSpiffeId);
     };
@@ -157,5 +171,27 @@ pub(crate) fn subject_id(
     if uris.next_uri().is_some() {
         return Err(CertificateError::MultipleUriSanEntries);
     }
-    id.ok_or(CertificateError::MissingSpiffeId)
+    match id {
+        None => Err(CertificateError::MissingSpiffeId),
+        Some(id) => Ok(id),
+    }
+}
+
+/// The SAN rule: the names can be read, and of their URIs, taken in order, the only one is a SPIFFE ID.
+#[tactic(auto, unfolding(crate::specs::Certificate::san_rule))]
+pub(crate) fn subject_id(
+    alloc: Global,
+    certificate: &CertView<'_>,
+) -> Result<SpiffeId, CertificateError>
+    ensures { Gives is_memory_certificate (λ id. id) result (san_rule certificate.now) }
+{
+    let contents = extension_contents(
+        certificate,
+        &SUBJECT_ALT_NAME,
+        X509ExtensionId::SubjectAlternativeName,
+    )?;
+    match read_san_uri_views(contents) {
+        None => Err(unexpected_names(alloc)?),
+        Some(uris) => id_of_uris(alloc, uris),
+    }
 }

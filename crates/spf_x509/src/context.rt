@@ -29,7 +29,10 @@ impl Model for X509Context {
     ghost view = { λ c. record { svids = map arc_value c.svids.items; bundles = arc_value c.bundle_set; crls = c.crls.items } };
 }
 
-fn shared_svids(alloc: Global, svids: &[Arc<X509Svid>]) -> Result<Vec<Arc<X509Svid>>, OutOfMemory> {
+/// The same SVIDs, shared.
+fn shared_svids(alloc: Global, svids: &[Arc<X509Svid>]) -> Result<Vec<Arc<X509Svid>>, OutOfMemory>
+    ensures { IfOk result (λ v. map arc_value v.items ≡ map arc_value svids.now) }
+{
     let mut shared = Vec::with_capacity(alloc, svids.len())?;
     for svid in svids {
         shared.push(Arc::try_clone(svid)?)?;
@@ -37,7 +40,10 @@ fn shared_svids(alloc: Global, svids: &[Arc<X509Svid>]) -> Result<Vec<Arc<X509Sv
     Ok(shared)
 }
 
-fn copied_crls(alloc: Global, crls: &[Bytes]) -> Result<Vec<Bytes>, OutOfMemory> {
+/// The same CRLs again.
+fn copied_crls(alloc: Global, crls: &[Bytes]) -> Result<Vec<Bytes>, OutOfMemory>
+    ensures { IfOk result (λ v. v.items ≡ crls.now) }
+{
     let mut copied = Vec::with_capacity(alloc, crls.len())?;
     for crl in crls {
         copied.push(crl.try_clone(alloc)?)?;
@@ -61,7 +67,9 @@ impl X509Context {
     }
 
     /// The same context again, which shares its SVIDs and bundles.
-    pub fn try_clone(&self, alloc: Global) -> Result<X509Context, OutOfMemory> {
+    pub fn try_clone(&self, alloc: Global) -> Result<X509Context, OutOfMemory>
+        ensures { IfOk result (λ c. c ≡ self.now) }
+    {
         Ok(X509Context {
             svids: shared_svids(alloc, self.svids.as_slice())?,
             bundle_set: Arc::try_clone(&self.bundle_set)?,

@@ -1,6 +1,9 @@
 //! A private key, kept as its DER.
 
 ghost use Rattle.std.specs.Prelude.{◌≡◌, IfOk};
+ghost use Rattle.spf_io.specs.Rule.{Gives};
+ghost use Rattle.spf_x509.specs.Errors.{is_memory_key};
+ghost use Rattle.spf_x509.specs.Key.{key_rule};
 
 use crate::error::PrivateKeyError;
 use spf_der::read_key;
@@ -25,8 +28,10 @@ impl Model for PrivateKey {
 
 impl PrivateKey {
     /// The key that the bytes are, whole.
+    #[tactic(auto, unfolding(crate::specs::Key::key_rule))]
     pub fn try_from(alloc: Global, der: &[u8]) -> Result<PrivateKey, PrivateKeyError>
-        ensures { IfOk result (λ k. k ≡ der.now) }
+        ensures text { IfOk result (λ k. k ≡ der.now) }
+        ensures gives { Gives is_memory_key (λ k. k) result (key_rule der.now) }
     {
         read_key(der)?;
         Ok(PrivateKey {
@@ -35,8 +40,10 @@ impl PrivateKey {
     }
 
     /// The same of bytes that are given away.
+    #[tactic(auto, unfolding(crate::specs::Key::key_rule))]
     pub fn try_from_owned(der: Vec<u8>) -> Result<PrivateKey, PrivateKeyError>
-        ensures { IfOk result (λ k. k ≡ der.items) }
+        ensures text { IfOk result (λ k. k ≡ der.items) }
+        ensures gives { Gives is_memory_key (λ k. k) result (key_rule der.items) }
     {
         read_key(der.as_slice())?;
         Ok(PrivateKey { der })

@@ -1,7 +1,10 @@
 //! An X.509 SVID: an identity, the chain that names it, and its key.
 
-ghost use Rattle.std.specs.Prelude.{◌≡◌, IfOk, Some, length, slice_get};
+ghost use Rattle.std.specs.Prelude.{◌≡◌, IfOk, None, Some, map, slice_get};
 ghost use Rattle.std.specs.Option.{option_map};
+ghost use Rattle.spf_io.specs.Rule.{Gives};
+ghost use Rattle.spf_x509.specs.Chain.{plain_part, svid_of, texts};
+ghost use Rattle.spf_x509.specs.Errors.{is_memory_svid};
 
 use crate::certificate::{Certificate, copies};
 use crate::private_key::PrivateKey;
@@ -39,7 +42,7 @@ impl Model for X509Svid {
 
 /// Copies of the certificates of a chain.
 fn certificates_of(alloc: Global, parts: &[ChainPart<'_>]) -> Result<Vec<Certificate>, OutOfMemory>
-    ensures { IfOk result (λ v. length v.items ≡ length parts.now) }
+    ensures { IfOk result (λ v. v.items ≡ texts (map plain_part parts.now)) }
 {
     let mut certificates = Vec::with_capacity(alloc, parts.len())?;
     for part in parts {
@@ -54,17 +57,22 @@ impl X509Svid {
         alloc: Global,
         chain: &[u8],
         key: &[u8],
-    ) -> Result<X509Svid, X509SvidError> {
+    ) -> Result<X509Svid, X509SvidError>
+        ensures { Gives is_memory_svid (λ s. s) result (svid_of chain.now key.now None) }
+    {
         X509Svid::parse_from_der_with_hint(alloc, chain, key, None)
     }
 
     /// The same with a hint.
+    #[tactic(auto, unfolding(crate::specs::Chain::svid_of))]
     pub fn parse_from_der_with_hint(
         alloc: Global,
         chain: &[u8],
         key: &[u8],
         hint: Option<Text>,
-    ) -> Result<X509Svid, X509SvidError> {
+    ) -> Result<X509Svid, X509SvidError>
+        ensures { Gives is_memory_svid (λ s. s) result (svid_of chain.now key.now hint) }
+    {
         let parts = cut_chain(alloc, chain)?;
         let Some((leaf, signers)) = parts.split_first() else {
             return Err(X509SvidError::EmptyChain);

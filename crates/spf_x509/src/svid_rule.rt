@@ -1,5 +1,11 @@
 //! The rules of a chain: how it is cut, what its leaf says, and what each further certificate says.
 
+ghost use Rattle.std.specs.Prelude.{◌≡◌, ◌<◌, codes, length, IfOk, map};
+ghost use Rattle.spf_io.specs.Rule.{Gives};
+ghost use Rattle.spf_x509.specs.Chain.{certificate_text_at, chain_rule, plain_part, signers_rule};
+ghost use Rattle.spf_x509.specs.Errors.{is_memory_certificate, is_memory_svid};
+ghost use Rattle.spf_x509.specs.Rule.{ca_rule, leaf_rule, leaf_usage, sign_rule, usage_rule};
+
 use crate::certificate::{extension_contents, subject_id};
 use crate::error::CertificateError;
 use crate::extension::X509ExtensionId;
@@ -22,11 +28,24 @@ pub(crate) struct ChainPart<'a> {
     pub(crate) der: &'a [u8],
 }
 
-/// The certificates whose concatenation the bytes are.
-pub(crate) fn cut_chain(
+/// The certificate at the front, and what follows it.
+#[tactic(auto, unfolding(crate::specs::Chain::certificate_text_at))]
+pub(crate) fn cut_certificate(
     alloc: Global,
-    chain: &[u8],
-) -> Result<Vec<ChainPart<'_>>, CertificateError> {
+    bytes: &[u8],
+) -> Result<(ChainPart<'_>, &[u8]), CertificateError>
+    ensures gives { Gives is_memory_certificate (λ x. (plain_part x.0, x.1.now)) result (certificate_text_at bytes.now) }
+    ensures shorter { IfOk result (λ x. length x.1.now < length bytes.now) }
+{
+    let (view, length) = read_certificate_view(alloc, bytes)?;
+    let (der, after) = bytes.split_at(length);
+    Ok((ChainPart { view, der }, after))
+}
+
+/// The certificates whose concatenation the bytes are.
+pub(crate) fn cut_chain(alloc: Global, chain: &[u8]) -> Result<Vec<ChainPart<'_>>, CertificateError>
+    ensures { Gives is_memory_certificate (λ v. map plain_part v.items) result (chain_rule chain.now) }
+{
     let mut parts = Vec::new(alloc);
     let mut rest = chain;
     while !rest.is_empty() {
@@ -35,21 +54,25 @@ pub(crate) fn cut_chain(
                 max: MAX_CERTIFICATES,
             });
         }
-        let (view, length) = read_certificate_view(alloc, rest)?;
-        let (der, after) = rest.split_at(length);
-        parts.push(ChainPart { view, der })?;
+        let (part, after) = cut_certificate(alloc, rest)?;
+        parts.push(part)?;
         rest = after;
     }
     Ok(parts)
 }
 
-fn unparseable(alloc: Global, extension: &str) -> Result<X509SvidError, OutOfMemory> {
+fn unparseable(alloc: Global, extension: &str) -> Result<X509SvidError, OutOfMemory>
+    ensures { IfOk result (λ e. e ≡ X509SvidError.UnparseableExtension extension.now) }
+{
     let extension = Text::copy_of(alloc, extension)?;
     Ok(X509SvidError::UnparseableExtension { extension })
 }
 
 /// The key usage of a certificate (RFC 5280 section 4.2.1.3).
-fn key_usage_of(alloc: Global, certificate: &CertView<'_>) -> Result<KeyUsageBits, X509SvidError> {
+#[tactic(auto, unfolding(crate::specs::Rule::usage_rule))]
+fn key_usage_of(alloc: Global, certificate: &CertView<'_>) -> Result<KeyUsageBits, X509SvidError>
+    ensures { Gives is_memory_svid (λ usage. usage) result (usage_rule certificate.now) }
+{
     let contents = extension_contents(certificate, &KEY_USAGE, X509ExtensionId::KeyUsage)?;
     match read_key_usage(contents) {
         None => Err(unparseable(alloc, "KeyUsage")?),
@@ -58,7 +81,10 @@ fn key_usage_of(alloc: Global, certificate: &CertView<'_>) -> Result<KeyUsageBit
 }
 
 /// The CA flag of a certificate (RFC 5280 section 4.2.1.9).
-fn ca_flag_of(alloc: Global, certificate: &CertView<'_>) -> Result<bool, X509SvidError> {
+#[tactic(auto, unfolding(crate::specs::Rule::ca_rule))]
+fn ca_flag_of(alloc: Global, certificate: &CertView<'_>) -> Result<bool, X509SvidError>
+    ensures { Gives is_memory_svid (λ flag. flag) result (ca_rule certificate.now) }
+{
     let contents = extension_contents(
         certificate,
         &BASIC_CONSTRAINTS,
@@ -70,12 +96,10 @@ fn ca_flag_of(alloc: Global, certificate: &CertView<'_>) -> Result<bool, X509Svi
     }
 }
 
-/// The rule of the leaf (SPIFFE X.509-SVID section 4): its one ID, and its expiry in Unix seconds.
-pub(crate) fn leaf_rule(
-    alloc: Global,
-    leaf: &CertView<'_>,
-) -> Result<(SpiffeId, i64), X509SvidError> {
-    let usage = key_usage_of(alloc, leaf)?;
+/// The rule of the key usage of a leaf: it signs, and signs neither CRLs nor certificates.
+fn leaf_usage_rule(usage: KeyUsageBits) -> Result<(), X509SvidError>
+    ensures { Gives is_memory_svid (λ u. u) result (leaf_usage usage) }
+{
     if !usage.digital_signature {
         return Err(X509SvidError::LeafCertificateMissingDigitalSignature);
     }
@@ -85,6 +109,19 @@ pub(crate) fn leaf_rule(
     if usage.key_cert_sign {
         return Err(X509SvidError::LeafCertificateHasKeyCertSign);
     }
+    Ok(())
+}
+
+/// The rule of the leaf (SPIFFE X.509-SVID section 4): its one ID, and its expiry in Unix seconds.
+#[tactic(auto, unfolding(crate::specs::Rule::leaf_rule))]
+pub(crate) fn leaf_rule(
+    alloc: Global,
+    leaf: &CertView<'_>,
+) -> Result<(SpiffeId, i64), X509SvidError>
+    ensures { Gives is_memory_svid (λ x. (x.0, x.1)) result (leaf_rule leaf.now) }
+{
+    let usage = key_usage_of(alloc, leaf)?;
+    leaf_usage_rule(usage)?;
     if ca_flag_of(alloc, leaf)? {
         return Err(X509SvidError::LeafCertificateHasCaFlag);
     }
@@ -96,7 +133,10 @@ pub(crate) fn leaf_rule(
 }
 
 /// The rule of a further certificate: it may sign certificates.
-fn signing_rule(alloc: Global, certificate: &CertView<'_>) -> Result<(), X509SvidError> {
+#[tactic(auto, unfolding(crate::specs::Rule::sign_rule))]
+fn signing_rule(alloc: Global, certificate: &CertView<'_>) -> Result<(), X509SvidError>
+    ensures { Gives is_memory_svid (λ u. u) result (sign_rule certificate.now) }
+{
     if !ca_flag_of(alloc, certificate)? {
         return Err(X509SvidError::SigningCertificateMissingCaFlag);
     }
@@ -110,7 +150,9 @@ fn signing_rule(alloc: Global, certificate: &CertView<'_>) -> Result<(), X509Svi
 pub(crate) fn signing_rules(
     alloc: Global,
     certificates: &[ChainPart<'_>],
-) -> Result<(), X509SvidError> {
+) -> Result<(), X509SvidError>
+    ensures { Gives is_memory_svid (λ u. u) result (signers_rule (map plain_part certificates.now)) }
+{
     for certificate in certificates {
         signing_rule(alloc, &certificate.view)?;
     }

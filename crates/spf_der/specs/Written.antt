@@ -1,0 +1,95 @@
+-- The texts that are written (RFC 5280 section 4.1, RFC 5958 section 2): names, public keys and signatures are empty.
+use Rattle.std.specs.Prelude.{◌≡◌, ℕ, ◌+◌, List, [], ◌∷◌, ◌++◌, flat_map, Option, Some, None, Bool, if◌then◌else◌, codes}
+use Rattle.spf_der.specs.Value.{value_text}
+use Rattle.spf_der.specs.WrittenTime.{IsTimeText}
+use Rattle.spf_der.specs.declared.extensions.KeyUsageBits.{KeyUsageBits}
+use Rattle.spf_der.specs.declared.writer.CertSpec.{CertSpec}
+
+-- an AlgorithmIdentifier of 1.3.101.112 (RFC 8410 section 3)
+abbrev pub algorithm_text : List ℕ
+algorithm_text = value_text 48 (value_text 6 (43 ∷ 101 ∷ 112 ∷ []))
+
+-- a BIT STRING of no bits
+abbrev pub no_bits : List ℕ
+no_bits = value_text 3 (0 ∷ [])
+
+-- an empty Name
+abbrev pub no_name : List ℕ
+no_name = value_text 48 []
+
+-- the octet of a key usage that holds all its bits
+abbrev pub usage_octet : KeyUsageBits → ℕ
+usage_octet bits = (if bits.digital_signature then 128 else 0) + (if bits.key_cert_sign then 4 else 0) + (if bits.crl_sign then 2 else 0)
+
+-- the contents octets of a key usage, which ends with its last bit that is set
+abbrev pub usage_octets : KeyUsageBits → List ℕ
+usage_octets bits =
+    if bits.crl_sign then 1 ∷ usage_octet bits ∷ []
+    else (if bits.key_cert_sign then 2 ∷ usage_octet bits ∷ []
+    else (if bits.digital_signature then 7 ∷ usage_octet bits ∷ []
+    else 0 ∷ []))
+
+abbrev pub usage_text : KeyUsageBits → List ℕ
+usage_text bits = value_text 3 (usage_octets bits)
+
+abbrev pub constraints_text : Bool → List ℕ
+constraints_text ca = value_text 48 (if ca then value_text 1 (255 ∷ []) else [])
+
+abbrev pub names_text : List (List ℕ) → List ℕ
+names_text uris = value_text 48 (flat_map (value_text 134) uris)
+
+-- an Extension without a BOOLEAN
+abbrev pub extension_text : List ℕ → List ℕ → List ℕ
+extension_text oid contents = value_text 48 (value_text 6 oid ++ value_text 4 contents)
+
+abbrev pub usage_part : Option KeyUsageBits → List ℕ
+usage_part None = []
+usage_part (Some bits) = extension_text (85 ∷ 29 ∷ 15 ∷ []) (usage_text bits)
+
+abbrev pub constraints_part : Option Bool → List ℕ
+constraints_part None = []
+constraints_part (Some ca) = extension_text (85 ∷ 29 ∷ 19 ∷ []) (constraints_text ca)
+
+abbrev pub names_part : List (List ℕ) → List ℕ
+names_part [] = []
+names_part (uri ∷ uris) = extension_text (85 ∷ 29 ∷ 17 ∷ []) (names_text (uri ∷ uris))
+
+-- the text of the extensions
+abbrev pub extensions_text : CertSpec → List ℕ
+extensions_text spec = usage_part spec.key_usage ++ constraints_part spec.ca ++ names_part spec.uris
+
+-- a version of 2 exactly where there are extensions
+abbrev pub version_text : List ℕ → List ℕ
+version_text [] = []
+version_text (x ∷ extensions) = value_text 160 (value_text 2 (2 ∷ []))
+
+abbrev pub extensions_part : List ℕ → List ℕ
+extensions_part [] = []
+extensions_part (x ∷ extensions) = value_text 163 (value_text 48 (x ∷ extensions))
+
+-- from the first second of 1970 to that time
+abbrev pub validity_text : List ℕ → List ℕ
+validity_text time = value_text 48 (value_text 23 (codes "700101000000Z") ++ time)
+
+abbrev pub public_key_text : List ℕ
+public_key_text = value_text 48 (algorithm_text ++ no_bits)
+
+-- the contents of tbsCertificate, with that text of the expiry
+abbrev pub tbs_text : CertSpec → List ℕ → List ℕ
+tbs_text spec time =
+    version_text (extensions_text spec) ++ value_text 2 (spec.serial ∷ []) ++ algorithm_text ++ no_name
+    ++ validity_text time ++ no_name ++ public_key_text ++ extensions_part (extensions_text spec)
+
+-- the certificate, with that text of the expiry
+abbrev pub certificate_text : CertSpec → List ℕ → List ℕ
+certificate_text spec time = value_text 48 (value_text 48 (tbs_text spec time) ++ algorithm_text ++ no_bits)
+
+-- the certificate of the spec
+pub record IsCertificateOf (spec : CertSpec) (text : List ℕ) : Type 0 where
+  pub time : List ℕ
+  pub expiry : IsTimeText spec.expiry time
+  pub spelled : text ≡ certificate_text spec time
+
+-- a key of one octet
+abbrev pub key_text : ℕ → List ℕ
+key_text serial = value_text 48 (value_text 2 (0 ∷ []) ++ algorithm_text ++ value_text 4 (serial ∷ []))

@@ -1,0 +1,22 @@
+-- An answer that is no fault.
+use Rattle.std.proofs.Common.{◌≡◌, ℕ, ◌≤◌, Bool, true, false, Result, Ok, Err, refl, subst}
+use Rattle.std.specs.Prelude.{IfErr}
+use Rattle.spf_feed.specs.declared.follow_error.FollowError.{FollowError}
+use Rattle.spf_feed.specs.declared.follow_error.FollowError.TheVariants as answers
+use Rattle.spf_feed.specs.Following.{is_fault, HasFaults}
+
+-- an answer that is no fault is not this fault
+not_this : (fault e : FollowError) (r : Result ℕ FollowError) → is_fault fault ≡ true → is_fault e ≡ false → r ≡ Err e → r ≡ Err fault → ⊥
+not_this fault e r is_one is_none p q =
+    let same : e ≡ fault = cc in
+    let both : is_fault fault ≡ false = subst (λ (x : FollowError). is_fault x ≡ false) same is_none in
+    cc
+
+pub no_fault : (a a' b b' : ℕ) (r : Result ℕ FollowError) → IfErr r (λ e. is_fault e ≡ false) → a ≤ a' → b ≤ b' → HasFaults a a' b b' r
+no_fault a a' b b' (Ok n) calm reads writes = record { reads_later = reads; writes_later = writes; read = λ p. absurd cc; write = λ p. absurd cc }
+no_fault a a' b b' (Err e) calm reads writes = record {
+  reads_later = reads;
+  writes_later = writes;
+  read = λ p. absurd (not_this answers.ReadFault e (Err e) refl calm refl p);
+  write = λ p. absurd (not_this answers.WriteFault e (Err e) refl calm refl p);
+}

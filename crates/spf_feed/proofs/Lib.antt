@@ -1,0 +1,7 @@
+pub mod FaultLemmas
+pub mod Filled
+pub mod LineLemmas
+pub mod Mapped
+pub mod Parts
+pub mod Sizes
+pub mod Whole

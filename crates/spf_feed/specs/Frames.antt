@@ -1,0 +1,64 @@
+-- Frames: a kind octet, four octets of length, and so many octets.
+use Rattle.std.specs.Prelude.{◌≡◌, ◌≢◌, ℕ, ◌≤◌, ◌^◌, Bool, false, ◌==◌, ◌||◌, IsTrue, List, [], ◌∷◌, ◌++◌, length, Option, None, Some, IfSome, Result, Ok, Err}
+use Rattle.std.specs.Io.KnownBytes.{Consumes, IsAtEnd}
+use Rattle.std.specs.Int.{w32, to_be_bytes}
+use Rattle.spf_feed.specs.declared.frame.Phase.{Phase}
+use Rattle.spf_feed.specs.declared.frame.Phase.TheVariants as phases
+use Rattle.spf_feed.specs.declared.frame.RawFrame.{RawFrame}
+use Rattle.spf_feed.specs.declared.frame.FrameError.{FrameError}
+use Rattle.spf_feed.specs.declared.frame.FrameError.TheVariants as errors
+use Rattle.spf_feed.specs.Parts.{Took}
+
+-- the kinds that may stand
+abbrev pub allows : Phase → ℕ → Bool
+allows phases.Client kind = kind == 1 || kind == 2 || kind == 8 || kind == 9
+allows phases.Connect kind = kind == 3 || kind == 4 || kind == 8 || kind == 9
+allows phases.Next kind = kind == 5 || kind == 6 || kind == 7 || kind == 8 || kind == 9
+
+-- four octets of length, and so many octets
+unfoldable pub sized : List ℕ → List ℕ
+sized payload = to_be_bytes w32 (length payload) ++ payload
+
+abbrev pub IsShort : List ℕ → Type 0
+IsShort payload = length payload ≤ 2 ^ 24
+
+abbrev pub raw_text : ℕ → List ℕ → List ℕ
+raw_text kind payload = kind ∷ sized payload
+
+-- no frame of a kind that may stand begins these bytes
+abbrev pub NoFrame : Phase → List ℕ → Type 0
+NoFrame phase bytes = (kind : ℕ) (payload rest : List ℕ) → IsTrue (allows phase kind) → IsShort payload → bytes ≡ raw_text kind payload ++ rest → ⊥
+
+-- the frame that was read
+pub record IsRead (phase : Phase) (allowed : Bool) (old new : Option (List ℕ)) (raw : RawFrame) : Type 0 where
+  pub leave : IsTrue allowed
+  pub kind : IsTrue (allows phase raw.kind)
+  pub short : IsShort raw.payload
+  pub taken : Consumes old new (raw_text raw.kind raw.payload)
+
+-- why no frame was read
+abbrev pub IsUnread : Phase → Bool → Option (List ℕ) → Option (List ℕ) → FrameError → Type 0
+IsUnread phase allowed old new errors.TooLong = (allowed ≡ false) × ((x : ℕ) × Consumes old new (x ∷ []))
+IsUnread phase allowed old new errors.BadFrame = IsTrue allowed × Took old new (λ given. (given ≢ []) × IfSome old (NoFrame phase))
+IsUnread phase allowed old new errors.ReadFault = Took old new (λ given. NoFrame phase given × (allowed ≡ false → given ≡ []))
+IsUnread phase allowed old new errors.OutOfMemory = IsTrue allowed × Took old new (λ _. Unit {0})
+
+abbrev pub FrameRead : Phase → Bool → Option (List ℕ) → Option (List ℕ) → Result (Option RawFrame) FrameError → Type 0
+FrameRead phase allowed old new (Ok None) = Consumes old new [] × IsAtEnd old
+FrameRead phase allowed old new (Ok (Some raw)) = IsRead phase allowed old new raw
+FrameRead phase allowed old new (Err e) = IsUnread phase allowed old new e
+
+-- the frame of a kind, whose payload stands in a buffer
+abbrev pub with_payload : Result (Option ℕ) FrameError → List ℕ → Result (Option RawFrame) FrameError
+with_payload (Ok None) payload = Ok None
+with_payload (Ok (Some kind)) payload = Ok (Some (record { kind = kind; payload = payload }))
+with_payload (Err e) payload = Err e
+
+-- one octet was read, or the end
+abbrev pub KindRead : Option (List ℕ) → Option (List ℕ) → Result (Option ℕ) FrameError → Type 0
+KindRead old new (Ok None) = Consumes old new [] × IsAtEnd old
+KindRead old new (Ok (Some kind)) = Consumes old new (kind ∷ [])
+KindRead old new (Err errors.ReadFault) = Consumes old new []
+KindRead old new (Err errors.TooLong) = ⊥
+KindRead old new (Err errors.BadFrame) = ⊥
+KindRead old new (Err errors.OutOfMemory) = ⊥

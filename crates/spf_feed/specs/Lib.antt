@@ -1,0 +1,14 @@
+pub mod Errors
+pub mod Following
+pub mod Frames
+pub mod Limits
+pub mod Lines
+pub mod Names
+pub mod Parts
+pub mod Pick
+pub mod Prepared
+pub mod Records
+pub mod Standing
+pub mod States
+pub mod Steps
+pub mod Turns

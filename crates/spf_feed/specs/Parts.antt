@@ -1,0 +1,39 @@
+-- Reading one part of a frame from a source.
+use Rattle.std.specs.Prelude.{◌≡◌, ℕ, ◌≤◌, ◌<◌, List, ◌++◌, length, take, Option, IfSome, Result, MatchResult, IsErrOf}
+use Rattle.std.specs.Io.KnownBytes.{Consumes, IsAtEnd}
+use Rattle.spf_io.specs.Outside.{Rose}
+use Rattle.spf_feed.specs.declared.frame.FrameError.{FrameError}
+use Rattle.spf_feed.specs.declared.frame.FrameError.TheVariants as errors
+
+-- the buffer was filled, or filled up to the end of the source; after a fault it is filled in part
+abbrev pub Fills : {E : Type 0} → Option (List ℕ) → Option (List ℕ) → Result ℕ E → List ℕ → Type 0
+Fills old new r buf = MatchResult r
+    (λ n. (n ≤ length buf) × Consumes old new (take n buf) × (n < length buf → IsAtEnd new))
+    (λ _. (n : ℕ) × (n < length buf) × Consumes old new (take n buf))
+
+-- no part begins these bytes
+abbrev pub NoPart : {X : Type 0} → (X → List ℕ) → (X → Type 0) → List ℕ → Type 0
+NoPart {X} text Fits bytes = (x : X) (rest : List ℕ) → Fits x → bytes ≡ text x ++ rest → ⊥
+
+-- some bytes were taken
+abbrev pub Took : Option (List ℕ) → Option (List ℕ) → (List ℕ → Type 0) → Type 0
+Took old new P = (given : List ℕ) × Consumes old new given × P given
+
+-- a part was read, or none begins what is left
+abbrev pub PartFails : {X : Type 0} → (X → List ℕ) → (X → Type 0) → Option (List ℕ) → Option (List ℕ) → FrameError → Type 0
+PartFails text Fits old new errors.TooLong = ⊥
+PartFails text Fits old new errors.BadFrame = Took old new (λ _. IfSome old (NoPart text Fits))
+PartFails text Fits old new errors.ReadFault = Took old new (NoPart text Fits)
+PartFails text Fits old new errors.OutOfMemory = Took old new (λ _. Unit {0})
+
+abbrev pub PartRead : {X : Type 0} → (X → List ℕ) → (X → Type 0) → Option (List ℕ) → Option (List ℕ) → Result X FrameError → Type 0
+PartRead text Fits old new r = MatchResult r (λ x. Fits x × Consumes old new (text x)) (PartFails text Fits old new)
+
+-- the same of a part that was put into a buffer
+abbrev pub PartPut : {X : Type 0} → (X → List ℕ) → (X → Type 0) → Option (List ℕ) → Option (List ℕ) → Result (Unit {0}) FrameError → X → Type 0
+PartPut text Fits old new r x = MatchResult r (λ _. Fits x × Consumes old new (text x)) (PartFails text Fits old new)
+
+-- the count never falls, and `ReadFault` comes only where it rose
+pub record HasFault {T : Type 0} (before now : ℕ) (result : Result T FrameError) : Type 0 where
+  pub later : before ≤ now
+  pub failed : IsErrOf result errors.ReadFault → Rose before now

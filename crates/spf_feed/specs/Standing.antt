@@ -1,0 +1,15 @@
+-- What a snapshot keeps.
+use Rattle.std.specs.Prelude.{IsTrue}
+use Rattle.std.specs.Arc.{arc_value}
+use Rattle.spf_feed.specs.declared.snapshot.Standing.{Standing}
+use Rattle.spf_feed.specs.declared.snapshot.Standing.TheVariants as standing
+use Rattle.spf_feed.specs.Steps.{PlainStep, View, Withdrawn, shown_by, is_accept}
+
+abbrev pub view_in : Standing → View
+view_in (standing.Permitted held) = shown_by held
+view_in (standing.Withdrawn reason) = Withdrawn (arc_value reason)
+
+-- a permitted one keeps an Accept
+abbrev pub IsKept : Standing → Type 0
+IsKept (standing.Permitted held) = IsTrue (is_accept held)
+IsKept (standing.Withdrawn reason) = Unit {0}

@@ -1,0 +1,37 @@
+//! Update streams: frames, limits, the choice of an SVID, the snapshot that steps change, and the lines that show it.
+#![tactic(auto)]
+
+mod event;
+mod follow_error;
+mod following;
+mod frame;
+mod limits;
+mod line;
+mod payload;
+mod picker;
+mod prepared;
+mod ready;
+mod record;
+mod snapshot;
+mod sorted;
+mod source;
+mod state;
+mod step;
+mod turn;
+
+pub use event::Event;
+pub use follow_error::FollowError;
+pub use following::follow_x509;
+pub use frame::{FrameError, Phase, RawFrame, read_frame};
+pub use limits::{LimitBroken, LimitKind, ResourceLimits, validate_limits};
+pub use line::state_line;
+pub use picker::{FnPicker, HintPicker, NoPicker, PickFunction, SvidPicker, select_svid};
+pub use prepared::Prepared;
+pub use ready::Ready;
+pub use record::{MemRecorder, MetricsErrorKind, MetricsRecord, MetricsRecorder, NoRecorder};
+pub use snapshot::Snapshot;
+pub use state::{X509SourceError, X509SourceState};
+pub use step::{Denial, MemPublisher, Publisher, Step};
+
+#[cfg(test)]
+mod tests;

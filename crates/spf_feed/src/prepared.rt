@@ -1,0 +1,157 @@
+//! A step with the places of its context in order.
+
+ghost use Rattle.std.specs.Prelude.{◌≡◌, IfOk};
+ghost use Rattle.std.specs.Option.{option_map, option_and_then};
+ghost use Rattle.std.specs.Arc.{arc_value};
+ghost use Rattle.spf_feed.specs.Steps.{plain, is_accept, material_in, chosen_of};
+
+use crate::sorted::{Sorted, chosen, is_same, places_in, sorted_of};
+use crate::step::Step;
+use spf_id::TrustDomain;
+use spf_io::OutOfMemory;
+use spf_x509::{X509Context, X509Svid};
+use std::alloc::Global;
+use std::marker::Model;
+use std::sync::Arc;
+
+/// A step with its sorted lists, which a clone shares. A Deny has none. Contracts see the step.
+#[derive(Debug, Drop)]
+pub struct Prepared {
+    step: Step,
+    places: Option<Arc<Sorted>>,
+}
+
+impl Model for Prepared {
+    ghost use Rattle.spf_feed.specs.Steps.{PlainStep};
+
+    ghost Value = { PlainStep };
+
+    ghost use Rattle.spf_feed.specs.Steps.{plain};
+    ghost use Rattle.spf_feed.specs.Prepared.{IsPlaced};
+
+    ghost view = { λ p. plain p.step };
+
+    ghost invariant = { λ p. IsPlaced p.step p.places };
+}
+
+impl Prepared {
+    /// A refusal drops the step.
+    pub fn new(alloc: Global, step: Step) -> Result<Prepared, OutOfMemory>
+        ensures { IfOk result (λ p. p ≡ plain step) }
+    {
+        let places = match &step {
+            Step::Accept { context, .. } => { Some(Arc::new(alloc, sorted_of(alloc, context)?)?) }
+            Step::Deny { .. } => None,
+        };
+        Ok(Prepared { step, places })
+    }
+
+    pub fn step(&self) -> &Step
+        ensures { plain result.now ≡ self.now }
+    {
+        &self.step
+    }
+
+    pub(crate) fn into_step(self) -> Step
+        ensures { plain result ≡ self }
+    {
+        self.step
+    }
+
+    /// The places of the SVIDs, sorted. None for a Deny.
+    pub fn svid_positions(&self) -> &[usize] {
+        match &self.places {
+            Some(places) => places.svids.as_slice(),
+            None => &[],
+        }
+    }
+
+    /// The places of the authorities of a trust domain, sorted.
+    pub fn authority_positions(&self, td: &TrustDomain) -> Option<&[usize]> {
+        match (&self.step, &self.places) {
+            (Step::Accept { context, .. }, Some(places)) => {
+                places_in(context.bundle_set(), places.authorities.as_slice(), td)
+            }
+            _ => None,
+        }
+    }
+
+    /// The places of the revocation lists, sorted. None for a Deny.
+    pub fn crl_positions(&self) -> &[usize] {
+        match &self.places {
+            Some(places) => places.crls.as_slice(),
+            None => &[],
+        }
+    }
+
+    /// The same step, which shares its lists.
+    pub fn try_clone(&self) -> Result<Prepared, OutOfMemory>
+        ensures { IfOk result (λ p. p ≡ self.now) }
+    {
+        let places = match &self.places {
+            Some(places) => Some(Arc::try_clone(places)?),
+            None => None,
+        };
+        Ok(Prepared {
+            step: self.step.try_clone()?,
+            places,
+        })
+    }
+
+    /// Whether both are accepted and the same.
+    pub(crate) fn is_same(&self, other: &Prepared) -> bool {
+        match (&self.step, &self.places, &other.step, &other.places) {
+            (
+                Step::Accept {
+                    context: a,
+                    choice: a_choice,
+                    ..
+                },
+                Some(a_places),
+                Step::Accept {
+                    context: b,
+                    choice: b_choice,
+                    ..
+                },
+                Some(b_places),
+            ) => is_same(a, *a_choice, a_places, b, *b_choice, b_places),
+            _ => false,
+        }
+    }
+
+    pub(crate) fn is_accept(&self) -> bool
+        ensures { result ≡ is_accept self.now }
+    {
+        matches!(self.step, Step::Accept { .. })
+    }
+
+    pub(crate) fn sorted(&self) -> Option<&Sorted> {
+        match &self.places {
+            Some(places) => Some(places),
+            None => None,
+        }
+    }
+
+    pub(crate) fn context(&self) -> Option<&Arc<X509Context>>
+        ensures { option_map (λ a. arc_value a.now) result ≡ option_map (λ m. m.context) (material_in self.now) }
+    {
+        match &self.step {
+            Step::Accept { context, .. } => Some(context),
+            Step::Deny { .. } => None,
+        }
+    }
+
+    /// The chosen SVID.
+    pub(crate) fn chosen(&self) -> Option<&Arc<X509Svid>>
+        ensures { option_map (λ a. arc_value a.now) result ≡ option_and_then chosen_of (material_in self.now) }
+    {
+        match &self.step {
+            Step::Accept {
+                context,
+                choice,
+                ..
+            } => chosen(context, *choice),
+            Step::Deny { .. } => None,
+        }
+    }
+}

@@ -1,0 +1,128 @@
+//! What the steps so far make visible.
+
+ghost use Rattle.std.specs.Prelude.{◌≡◌, ◌⊎◌, IsTrue, IfOk, is_some};
+ghost use Rattle.std.specs.Option.{option_and_then};
+ghost use Rattle.spf_feed.specs.Steps.{is_accept, chosen_of, shown_by, held_in, raised};
+ghost use Rattle.spf_feed.specs.Prepared.{usable as usable_of};
+ghost use Rattle.spf_feed.specs.Standing.{view_in, IsKept};
+
+use crate::prepared::Prepared;
+use crate::state::{X509SourceState, usable};
+use crate::step::{Denial, Step};
+use spf_io::OutOfMemory;
+use std::marker::Model;
+use std::sync::Arc;
+
+/// What is visible: a permitted context, which is an Accept, or the reason of a withdrawal.
+#[derive(Debug, Drop)]
+pub(crate) enum Standing {
+    Permitted(Prepared),
+    Withdrawn(Arc<Denial>),
+}
+
+impl Standing {
+    fn try_clone(&self) -> Result<Standing, OutOfMemory>
+        ensures view { IfOk result (λ s. view_in s ≡ view_in self.now) }
+        ensures kept { IsKept self.now → IfOk result IsKept }
+    {
+        match self {
+            Standing::Permitted(held) => Ok(Standing::Permitted(held.try_clone()?)),
+            Standing::Withdrawn(reason) => Ok(Standing::Withdrawn(Arc::try_clone(reason)?)),
+        }
+    }
+}
+
+fn standing_of(step: Prepared) -> Standing
+    ensures view { view_in result ≡ shown_by step }
+    ensures kept { IsKept result }
+{
+    if step.is_accept() {
+        return Standing::Permitted(step);
+    }
+    match step.into_step() {
+        Step::Accept { .. } => unreachable!(),
+        Step::Deny { reason } => Standing::Withdrawn(reason),
+    }
+}
+
+/// The revision, and the held context or the reason of the withdrawal.
+#[derive(Debug, Drop)]
+pub struct Snapshot {
+    revision: u64,
+    standing: Standing,
+}
+
+impl Model for Snapshot {
+    ghost use Rattle.spf_feed.specs.Steps.{Kept};
+
+    ghost Value = { Kept };
+
+    ghost use Rattle.spf_feed.specs.Standing.{view_in, IsKept};
+
+    ghost view = { λ s. record { revision = s.revision; view = view_in s.standing } };
+
+    ghost invariant = { λ s. IsKept s.standing };
+}
+
+impl Snapshot {
+    /// The snapshot of a first accepted context.
+    pub fn opening(step: Prepared) -> Snapshot
+        requires { IsTrue (is_accept step) }
+        ensures { result ≡ record { revision = 0; view = shown_by step } }
+    {
+        Snapshot {
+            revision: 0,
+            standing: standing_of(step),
+        }
+    }
+
+    /// Whether the step makes something else visible.
+    pub(crate) fn is_changed_by(&self, step: &Prepared) -> bool {
+        match &self.standing {
+            Standing::Permitted(held) => !held.is_same(step),
+            Standing::Withdrawn(_) => step.is_accept(),
+        }
+    }
+
+    pub(crate) fn show(&mut self, step: Prepared)
+        ensures { self.new ≡ record { revision = raised self.old.revision; view = shown_by step } }
+    {
+        self.revision = self.revision.saturating_add(1);
+        self.standing = standing_of(step);
+    }
+
+    /// One more step. Unchanged material keeps the older context.
+    pub fn apply(&mut self, step: Prepared)
+        ensures { (self.new ≡ self.old) ⊎ (self.new ≡ record { revision = raised self.old.revision; view = shown_by step }) }
+    {
+        if self.is_changed_by(&step) {
+            self.show(step);
+        }
+    }
+
+    pub fn state(&self, closed: bool) -> Result<X509SourceState, OutOfMemory> {
+        Ok(X509SourceState::new(self.revision, closed, self.standing.try_clone()?))
+    }
+
+    pub(crate) fn revision(&self) -> u64
+        ensures { result ≡ self.now.revision }
+    {
+        self.revision
+    }
+
+    pub(crate) fn standing(&self) -> &Standing
+        ensures { view_in result.now ≡ self.now.view }
+    {
+        &self.standing
+    }
+
+    /// Whether a line shows the choice at the moment.
+    pub(crate) fn shows_choice(&self, now: Option<i64>) -> bool
+        ensures { result ≡ is_some (usable_of (option_and_then chosen_of (held_in self.now.view)) now) }
+    {
+        match &self.standing {
+            Standing::Permitted(held) => usable(held.chosen(), now).is_some(),
+            Standing::Withdrawn(_) => false,
+        }
+    }
+}

@@ -1,0 +1,119 @@
+//! The steps that a session publishes.
+
+ghost use Rattle.std.specs.Prelude.{◌≡◌, IfOk, List, Option, Some, [], map};
+ghost use Rattle.spf_feed.specs.Records.{RecordAppends};
+ghost use Rattle.spf_feed.specs.Steps.{PlainStep, plain, MayFollow};
+
+use crate::limits::ResourceLimits;
+use spf_io::{OutOfMemory, Text};
+use spf_x509::X509Context;
+use std::alloc::Global;
+use std::sync::Arc;
+use thiserror::Error;
+
+/// Why nothing is issued.
+#[derive(Debug, PartialEq, Eq, Drop, Error)]
+pub enum Denial {
+    #[error("permission denied: {0}")]
+    PermissionDenied(Text),
+    #[error("no identity issued")]
+    NoIdentityIssued,
+}
+
+/// One accepted context with the limits that it keeps and the index of its choice, or one denial.
+#[derive(Debug, Drop)]
+pub enum Step {
+    Accept {
+        context: Arc<X509Context>,
+        limits: ResourceLimits,
+        choice: Option<usize>,
+    },
+    Deny {
+        reason: Arc<Denial>,
+    },
+}
+
+impl Step {
+    /// The same step, which shares its context or reason.
+    pub fn try_clone(&self) -> Result<Step, OutOfMemory>
+        ensures { IfOk result (λ s. plain s ≡ plain self.now) }
+    {
+        match self {
+            Step::Accept {
+                context,
+                limits,
+                choice,
+            } => Ok(Step::Accept {
+                context: Arc::try_clone(context)?,
+                limits: *limits,
+                choice: *choice,
+            }),
+            Step::Deny { reason } => Ok(Step::Deny {
+                reason: Arc::try_clone(reason)?,
+            }),
+        }
+    }
+}
+
+/// What steps are handed to. It keeps memory of its own, which may run out.
+pub trait Publisher {
+    // The steps so far, where the publisher tells.
+    ghost steps: { Self → Option (List PlainStep) };
+
+    fn publish(&mut self, step: Step) -> Result<(), OutOfMemory>
+        requires { MayFollow (steps self.old) (plain step) }
+        ensures { RecordAppends (steps self.old) (steps self.new) result (plain step) };
+}
+
+/// A publisher that keeps the steps, and tells them.
+#[derive(Debug, Drop)]
+pub struct MemPublisher {
+    steps: Vec<Step>,
+    calls: u64,
+    refused: Option<u64>,
+}
+
+impl MemPublisher {
+    pub fn new(alloc: Global) -> MemPublisher
+        ensures { ⟦<MemPublisher as Publisher>⟧.steps result ≡ Some [] }
+    {
+        MemPublisher {
+            steps: Vec::new(alloc),
+            calls: 0,
+            refused: None,
+        }
+    }
+
+    /// A publisher that answers want of memory at its publish number `at`, from 1, and keeps nothing of that step.
+    pub fn refusing(alloc: Global, at: u64) -> MemPublisher
+        ensures { ⟦<MemPublisher as Publisher>⟧.steps result ≡ Some [] }
+    {
+        MemPublisher {
+            steps: Vec::new(alloc),
+            calls: 0,
+            refused: Some(at),
+        }
+    }
+
+    pub fn steps(&self) -> &[Step]
+        ensures { ⟦<MemPublisher as Publisher>⟧.steps self.now ≡ Some (map plain result.now) }
+    {
+        self.steps.as_slice()
+    }
+}
+
+impl Publisher for MemPublisher {
+    ghost use Rattle.std.specs.Prelude.{map, Some};
+    ghost use Rattle.spf_feed.specs.Steps.{plain};
+
+    ghost steps = { λ p. Some (map plain p.steps.items) };
+
+    fn publish(&mut self, step: Step) -> Result<(), OutOfMemory> {
+        self.calls = self.calls.saturating_add(1);
+        if self.refused == Some(self.calls) {
+            return Err(OutOfMemory);
+        }
+        self.steps.push(step)?;
+        Ok(())
+    }
+}

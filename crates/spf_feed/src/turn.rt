@@ -1,0 +1,283 @@
+//! What an event does: the step and the records that it makes, or the answer that it ends the session with.
+
+ghost use Rattle.std.specs.Prelude.{true, false};
+ghost use Rattle.std.specs.Option.{ForSome};
+ghost use Rattle.spf_feed.specs.declared.limits.ResourceLimits.{ResourceLimits};
+ghost use Rattle.spf_feed.specs.Turns.{MayTake};
+
+use crate::follow_error::FollowError;
+use crate::limits::{LimitKind, ResourceLimits, validate_limits};
+use crate::payload::Received;
+use crate::picker::{SvidPicker, select_svid};
+use crate::ready::Ready;
+use crate::record::{MetricsErrorKind, MetricsRecord};
+use crate::sorted::chosen;
+use crate::state::usable;
+use crate::step::Denial;
+use spf_api::{ClientFault, GrpcStatusError, WorkloadApiError};
+use spf_x509::X509Context;
+
+/// The records of an event that is not accepted, in order.
+#[derive(Clone, Copy, Debug, PartialEq, Eq)]
+pub(crate) struct Records {
+    pub(crate) error: Option<MetricsErrorKind>,
+    pub(crate) end: Option<MetricsRecord>,
+}
+
+impl Records {
+    fn none() -> Records {
+        Records {
+            error: None,
+            end: None,
+        }
+    }
+
+    /// The attempt ended, with this error.
+    fn ended(begun: bool, error: Option<MetricsErrorKind>) -> Records {
+        let end = if begun {
+            MetricsRecord::Reconnect
+        } else {
+            MetricsRecord::Error(MetricsErrorKind::InitialSyncFailed)
+        };
+        Records {
+            error,
+            end: Some(end),
+        }
+    }
+
+    /// An update was rejected, by this limit.
+    fn over(begun: bool, kind: LimitKind) -> Records {
+        let end = if begun {
+            MetricsErrorKind::UpdateRejected
+        } else {
+            MetricsErrorKind::InitialSyncFailed
+        };
+        Records {
+            error: Some(limit_error(kind)),
+            end: Some(MetricsRecord::Error(end)),
+        }
+    }
+}
+
+fn limit_error(kind: LimitKind) -> MetricsErrorKind {
+    match kind {
+        LimitKind::MaxSvids => MetricsErrorKind::LimitMaxSvids,
+        LimitKind::MaxBundles => MetricsErrorKind::LimitMaxBundles,
+        LimitKind::MaxBundleDerBytes => MetricsErrorKind::LimitMaxBundleDerBytes,
+        LimitKind::MaxCrlBytes => MetricsErrorKind::LimitMaxCrlBytes,
+    }
+}
+
+/// How an event ends a session before any accepted item.
+#[derive(Debug, PartialEq, Eq, Drop)]
+pub(crate) enum Terminal {
+    Source(WorkloadApiError),
+    UnsupportedRpc(WorkloadApiError),
+    InitialSyncTimeout,
+    Closed,
+}
+
+impl From<Terminal> for FollowError {
+    ghost use Rattle.std.specs.Prelude.{◌≡◌};
+    ghost use Rattle.spf_feed.specs.Following.{answer_to};
+
+    ghost from_gives = { λ t e. e ≡ answer_to t };
+
+    fn from(terminal: Terminal) -> FollowError {
+        match terminal {
+            Terminal::Source(e) => FollowError::Source(e),
+            Terminal::UnsupportedRpc(e) => FollowError::UnsupportedRpc(e),
+            Terminal::InitialSyncTimeout => FollowError::InitialSyncTimeout,
+            Terminal::Closed => FollowError::Closed,
+        }
+    }
+}
+
+/// What an event does.
+#[derive(Debug, Drop)]
+pub(crate) enum Turn {
+    Terminal(Terminal),
+    Accepted {
+        context: X509Context,
+        choice: Option<usize>,
+    },
+    Denied {
+        reason: Denial,
+        records: Records,
+    },
+    Passed(Records),
+}
+
+/// A status before any accepted item: only a request that cannot succeed ends the session.
+fn initial_turn(answer: WorkloadApiError, error: Option<MetricsErrorKind>) -> Turn
+    ensures { (limits : ResourceLimits) → MayTake limits false result }
+{
+    if answer.is_invalid_argument() {
+        return Turn::Terminal(Terminal::Source(answer));
+    }
+    if answer.is_unimplemented() {
+        return Turn::Terminal(Terminal::UnsupportedRpc(answer));
+    }
+    Turn::Passed(Records::ended(false, error))
+}
+
+/// A status once an item was accepted: a denial withdraws, and nothing ends the session.
+fn synced_turn(answer: WorkloadApiError, error: Option<MetricsErrorKind>) -> Turn
+    ensures { (limits : ResourceLimits) → MayTake limits true result }
+{
+    let records = Records::ended(true, error);
+    match answer {
+        WorkloadApiError::NoIdentityIssued => Turn::Denied {
+            reason: Denial::NoIdentityIssued,
+            records,
+        },
+        WorkloadApiError::PermissionDenied(message) => Turn::Denied {
+            reason: Denial::PermissionDenied(message),
+            records,
+        },
+        _ => Turn::Passed(records),
+    }
+}
+
+fn status_turn(begun: bool, answer: WorkloadApiError, error: Option<MetricsErrorKind>) -> Turn
+    ensures { (limits : ResourceLimits) → MayTake limits begun result }
+{
+    if begun {
+        synced_turn(answer, error)
+    } else {
+        initial_turn(answer, error)
+    }
+}
+
+/// That no identity is issued is no error of the connection.
+fn connect_error(answer: &WorkloadApiError) -> Option<MetricsErrorKind> {
+    match answer {
+        WorkloadApiError::NoIdentityIssued => None,
+        _ => Some(MetricsErrorKind::StreamConnect),
+    }
+}
+
+fn connect_turn(begun: bool, status: GrpcStatusError) -> Turn
+    ensures { (limits : ResourceLimits) → MayTake limits begun result }
+{
+    let answer = WorkloadApiError::from_status(status);
+    let error = connect_error(&answer);
+    status_turn(begun, answer, error)
+}
+
+fn item_status_turn(begun: bool, status: GrpcStatusError) -> Turn
+    ensures { (limits : ResourceLimits) → MayTake limits begun result }
+{
+    let answer = WorkloadApiError::from_status(status);
+    status_turn(begun, answer, Some(MetricsErrorKind::StreamError))
+}
+
+/// A client failure never is a denial.
+fn failure_turn(begun: bool, fault: ClientFault) -> Turn
+    ensures { (limits : ResourceLimits) → MayTake limits begun result }
+{
+    if let ClientFault::Status(status) = fault
+        && !begun
+    {
+        let answer = WorkloadApiError::from_status(status);
+        if answer.is_invalid_argument() {
+            return Turn::Terminal(Terminal::Source(answer));
+        }
+    }
+    Turn::Passed(Records::ended(begun, Some(MetricsErrorKind::ClientCreation)))
+}
+
+fn moment_turn(begun: bool, deadline: Option<i64>, moment: i64) -> Turn
+    ensures { (limits : ResourceLimits) → MayTake limits begun result }
+{
+    match deadline {
+        Some(deadline) if !begun && deadline <= moment => {
+            Turn::Terminal(Terminal::InitialSyncTimeout)
+        }
+        _ => Turn::Passed(Records::none()),
+    }
+}
+
+fn close_turn(begun: bool) -> Turn
+    ensures { (limits : ResourceLimits) → MayTake limits begun result }
+{
+    if begun {
+        Turn::Passed(Records::none())
+    } else {
+        Turn::Terminal(Terminal::Closed)
+    }
+}
+
+/// Whether the first accepted item may be this one.
+fn may_begin(context: &X509Context, choice: Option<usize>, ready: Ready, now: Option<i64>) -> bool {
+    match ready {
+        Ready::Usable => usable(chosen(context, choice), now).is_some(),
+        Ready::Any => true,
+    }
+}
+
+fn item_turn<C: SvidPicker>(
+    begun: bool,
+    now: Option<i64>,
+    limits: ResourceLimits,
+    picker: Option<&C>,
+    ready: Ready,
+    context: X509Context,
+) -> Turn
+    requires { ForSome picker (λ p. C.can_pick p.now) }
+    ensures { MayTake limits begun result }
+{
+    if let Err(broken) = validate_limits(&context, limits) {
+        return Turn::Passed(Records::over(begun, broken.kind));
+    }
+    let choice = select_svid(&context, picker);
+    if !begun && !may_begin(&context, choice, ready, now) {
+        return Turn::Passed(Records::ended(false, Some(MetricsErrorKind::NoSuitableSvid)));
+    }
+    Turn::Accepted { context, choice }
+}
+
+/// The rules of a session, but for its picker and its most frames.
+#[derive(Debug, Drop)]
+pub(crate) struct Setting {
+    pub(crate) limits: ResourceLimits,
+    pub(crate) deadline: Option<i64>,
+    pub(crate) ready: Ready,
+}
+
+/// What an event does, where an item was accepted before it or not, and at the last moment before it.
+pub(crate) fn turn_of<C: SvidPicker>(
+    event: Received,
+    begun: bool,
+    now: Option<i64>,
+    setting: &Setting,
+    picker: Option<&C>,
+) -> Turn
+    requires { ForSome picker (λ p. C.can_pick p.now) }
+    ensures { MayTake setting.now.limits begun result }
+{
+    match event {
+        Received::ClientMade | Received::Connected => Turn::Passed(Records::none()),
+        Received::ClientFailed(fault) => failure_turn(begun, fault),
+        Received::ConnectStatus(status) => connect_turn(begun, status),
+        Received::ItemStatus(status) => item_status_turn(begun, status),
+        Received::Item(None) => Turn::Passed(Records::ended(
+            begun,
+            Some(MetricsErrorKind::StreamError),
+        )),
+        Received::Item(Some(context)) => item_turn(
+            begun,
+            now,
+            setting.limits,
+            picker,
+            setting.ready,
+            context,
+        ),
+        Received::StreamEnd => Turn::Passed(Records::ended(
+            begun,
+            Some(MetricsErrorKind::StreamEnded),
+        )),
+        Received::Moment(moment) => moment_turn(begun, setting.deadline, moment),
+        Received::Close => close_turn(begun),
+    }
+}

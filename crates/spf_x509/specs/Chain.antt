@@ -1,0 +1,62 @@
+-- Concatenated certificates, and the SVID of a chain (SPIFFE X.509-SVID sections 3 and 4).
+use Rattle.std.specs.Prelude.{ℕ, List, [], ◌∷◌, length, take, drop, map, Option, Result, Ok, Err}
+use Rattle.spf_io.specs.Rule.{◌>>=◌, broken_as, each, many}
+use Rattle.spf_der.specs.Part.{Parts}
+use Rattle.spf_der.specs.Read.{certificate_rule}
+use Rattle.spf_der.specs.declared.error.X509ParseKind.TheVariants.{InvalidCertificate}
+use Rattle.spf_x509.specs.declared.error.CertificateError.{CertificateError}
+use Rattle.spf_x509.specs.declared.error.CertificateError.TheVariants.{TooManyCertificates, ParseX509Certificate}
+use Rattle.spf_x509.specs.declared.svid_error.X509SvidError.{X509SvidError}
+use Rattle.spf_x509.specs.declared.svid_error.X509SvidError.TheVariants.{EmptyChain}
+use Rattle.spf_x509.specs.declared.svid_rule.ChainPart.{ChainPart}
+use Rattle.spf_x509.specs.Errors.{of_read, svid_of_certificate, svid_of_key}
+use Rattle.spf_x509.specs.Svid.{Svid}
+use Rattle.spf_x509.specs.Key.{key_rule}
+use Rattle.spf_x509.specs.Rule.{leaf_rule, sign_rule}
+
+-- the certificate at the front, as what is kept of it and as its bytes, and what follows it
+unfoldable pub certificate_text_at : List ℕ → Result ((Parts × List ℕ) × List ℕ) CertificateError
+certificate_text_at bytes = do
+  read ← broken_as of_read (certificate_rule bytes)
+  Ok ((read.0, take read.1 bytes), drop read.1 bytes)
+
+-- the certificates whose concatenation the bytes are, at most 16
+unfoldable pub chain_rule : List ℕ → Result (List (Parts × List ℕ)) CertificateError
+chain_rule chain = many certificate_text_at (TooManyCertificates 16) 16 chain
+
+-- the bytes of the certificate at the front, and what follows it
+unfoldable pub authority_at : List ℕ → Result (List ℕ × List ℕ) CertificateError
+authority_at bytes = do
+  read ← certificate_text_at bytes
+  Ok (read.0.1, read.1)
+
+-- the certificates whose concatenation the bytes are, as many as there are
+unfoldable pub authorities_rule : List ℕ → Result (List (List ℕ)) CertificateError
+authorities_rule der = many authority_at (ParseX509Certificate InvalidCertificate) (length der) der
+
+-- a certificate of a chain without where it lies
+abbrev pub plain_part : ChainPart → Parts × List ℕ
+plain_part p = (p.view, p.der.now)
+
+-- the bytes of certificates
+abbrev pub texts : List (Parts × List ℕ) → List (List ℕ)
+texts parts = map (λ (p : Parts × List ℕ). p.1) parts
+
+-- SignRule of each further certificate, in order: the first that breaks it decides
+abbrev pub signers_rule : List (Parts × List ℕ) → Result (Unit {0}) X509SvidError
+signers_rule signers = each (λ (p : Parts × List ℕ). sign_rule p.0) signers >>= λ _. Ok tt
+
+-- the rules of the leaf, of each further certificate in order, and of the key
+abbrev pub svid_of_parts : List ℕ → Option (List ℕ) → List (Parts × List ℕ) → Result Svid X509SvidError
+svid_of_parts key hint [] = Err EmptyChain
+svid_of_parts key hint (leaf ∷ signers) = do
+  found ← leaf_rule leaf.0
+  _ ← signers_rule signers
+  kept ← broken_as svid_of_key (key_rule key)
+  Ok (record { id = found.0; hint = hint; chain = texts (leaf ∷ signers); key = kept; expiry = found.1 })
+
+-- SvidOf: the SVID of a chain and a key, or the first broken rule
+unfoldable pub svid_of : List ℕ → List ℕ → Option (List ℕ) → Result Svid X509SvidError
+svid_of chain key hint = do
+  parts ← broken_as svid_of_certificate (chain_rule chain)
+  svid_of_parts key hint parts
