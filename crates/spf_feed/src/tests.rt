@@ -1,3 +1,5 @@
+ghost use Rattle.std.specs.Option.{ForSome};
+
 mod fixtures;
 mod values;
 
@@ -33,7 +35,9 @@ fn run<C: SvidPicker>(
     frames: &str,
     mut publisher: MemPublisher,
     picker: Option<&C>,
-) -> Result<Followed, Fail> {
+) -> Result<Followed, Fail>
+    requires { ForSome picker (λ p. C.can_pick p.now) }
+{
     let mut source = MemSource::new(session(alloc, frames)?, Vec::new(alloc), Vec::new(alloc));
     let mut sink = MemSink::new(alloc, 65536, Vec::new(alloc))?;
     let mut recorder = MemRecorder::new(alloc);
