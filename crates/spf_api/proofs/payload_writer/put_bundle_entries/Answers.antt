@@ -1,0 +1,20 @@
+use Rattle.std.proofs.Common.{length, ◌≡◌, ◌∙◌, sym, ap, append_assoc, ◌++◌, List, ℕ, arith}
+use Rattle.std.specs.Int.{w32, to_be_bytes}
+use Rattle.spf_api.specs.Layout.{bundle_entry_text, IsBundleEntry, list_text}
+use Rattle.spf_api.proofs.Laid.{laid_more, laid_list, laid_octets}
+use Rattle.spf_api.proofs.payload_writer.put_bundle_entries.Goals as goal
+
+pub loop-entry-preserved : goal.loop-entry-preserved
+loop-entry-preserved c =
+    laid_more bundle_entry_text IsBundleEntry c.put_number.new.out.items c.loop-entry.out.items c.put_bundle_entry.new.out.items c.args.entries.now c.loop-entry.entry-index c.entry-item.result
+    c.loop-entry.invariant c.loop-entry-test.true c.entry-item.is c.in_ok-put_bundle_entry.ensures.octets c.in_ok-put_bundle_entry.ensures.fits
+
+pub returns-clause-fits : goal.returns-clause-fits
+returns-clause-fits c =
+    laid_list bundle_entry_text IsBundleEntry c.put_number.new.out.items c.loop-entry.out.items c.args.entries.now c.loop-entry.entry-index c.loop-entry.invariant (omega arith) c.in_ok-put_number.ensures.short
+
+pub returns-clause-octets : goal.returns-clause-octets
+unfolding list_text
+returns-clause-octets c =
+    laid_octets bundle_entry_text IsBundleEntry c.args.out.now.items (to_be_bytes w32 (length c.args.entries.now)) c.put_number.new.out.items c.loop-entry.out.items c.args.entries.now
+    c.loop-entry.entry-index c.loop-entry.invariant (omega arith) c.in_ok-put_number.ensures.octets

@@ -1,0 +1,7 @@
+pub mod Errors
+pub mod Layout
+pub mod Parsed
+pub mod Reading
+pub mod Refused
+pub mod Status
+pub mod Views

@@ -1,0 +1,235 @@
+//! Why a call of the Workload API fails.
+
+ghost use Rattle.std.specs.Prelude.{◌≡◌, ◌↔◌, IsTrue, Some, codes};
+ghost use Rattle.spf_api.specs.Status.{holds};
+ghost use Rattle.spf_api.specs.Errors.{status_reading, status_code_of};
+ghost use Rattle.spf_api.specs.declared.status.GrpcStatusCode.TheVariants as code;
+
+use crate::endpoint_error::EndpointError;
+use crate::jwt_error::{JwtBundleError, JwtSvidError};
+use crate::status::{GrpcStatusCode, GrpcStatusError, TransportError};
+use memchr::memmem;
+use spf_id::SpiffeIdError;
+use spf_io::{OutOfMemory, Text};
+use spf_x509::{X509BundleError, X509SvidError};
+use std::alloc::{AllocError, AllocFailed};
+use thiserror::Error;
+
+/// Why a call of the Workload API fails.
+#[derive(Debug, PartialEq, Eq, Drop, Error)]
+pub enum WorkloadApiError {
+    #[error("missing SPIFFE endpoint socket path (SPIFFE_ENDPOINT_SOCKET)")]
+    MissingEndpointSocket,
+    #[error("SPIFFE endpoint socket path is not a valid UTF-8 string")]
+    NotUnicodeEndpointSocket,
+    #[error("empty Workload API response")]
+    EmptyResponse,
+    /// A field that a response must have is absent or empty.
+    #[error("Workload API response is missing required field: {field}")]
+    MissingRequiredField { field: Text },
+    #[error("Workload API response has invalid field: {field}")]
+    InvalidResponseField { field: Text },
+    #[error("invalid workload api endpoint: {0}")]
+    Endpoint(EndpointError),
+    /// The agent knows no registration entry of this workload.
+    #[error("no identity issued")]
+    NoIdentityIssued,
+    #[error("permission denied: {0}")]
+    PermissionDenied(Text),
+    #[error("no JWT-SVID found with hint: {0}")]
+    HintNotFound(Text),
+    #[error("{0}")]
+    Transport(TransportError),
+    #[error("failed to parse X.509 SVID: {0}")]
+    X509Svid(X509SvidError),
+    #[error("failed to parse JWT-SVID: {0}")]
+    JwtSvid(JwtSvidError),
+    #[error("failed to parse X.509 bundle: {0}")]
+    X509Bundle(X509BundleError),
+    #[error("failed to parse JWT bundle: {0}")]
+    JwtBundle(JwtBundleError),
+    #[error("failed to parse SPIFFE ID: {0}")]
+    SpiffeId(SpiffeIdError),
+    #[error("out of memory")]
+    OutOfMemory,
+}
+
+/// Whether the agent says that it knows no registration entry.
+fn tells_no_identity(message: &str) -> bool
+    ensures { result ≡ holds (codes "no identity issued") message.now }
+{
+    memmem::find(message.as_bytes(), b"no identity issued").is_some()
+}
+
+impl WorkloadApiError {
+    /// How a status reads: PERMISSION_DENIED is a denial, of which a message can tell that no identity was issued.
+    pub fn from_status(status: GrpcStatusError) -> WorkloadApiError
+        ensures { result ≡ status_reading status }
+    {
+        match status.code() {
+            GrpcStatusCode::PermissionDenied => {
+                if tells_no_identity(status.message()) {
+                    WorkloadApiError::NoIdentityIssued
+                } else {
+                    WorkloadApiError::PermissionDenied(status.into_message())
+                }
+            }
+            _ => WorkloadApiError::Transport(TransportError::Status(status)),
+        }
+    }
+
+    /// Whether it is a status INVALID_ARGUMENT of the transport.
+    pub fn is_invalid_argument(&self) -> bool
+        ensures { IsTrue result ↔ (status_code_of self.now ≡ Some code.InvalidArgument) }
+    {
+        match self {
+            WorkloadApiError::Transport(TransportError::Status(status)) => {
+                matches!(status.code(), GrpcStatusCode::InvalidArgument)
+            }
+            _ => false,
+        }
+    }
+
+    /// Whether it is a status UNIMPLEMENTED of the transport.
+    pub fn is_unimplemented(&self) -> bool
+        ensures { IsTrue result ↔ (status_code_of self.now ≡ Some code.Unimplemented) }
+    {
+        match self {
+            WorkloadApiError::Transport(TransportError::Status(status)) => {
+                matches!(status.code(), GrpcStatusCode::Unimplemented)
+            }
+            _ => false,
+        }
+    }
+}
+
+impl From<SpiffeIdError> for WorkloadApiError {
+    ghost use Rattle.std.specs.Prelude.{◌≡◌};
+    ghost use Rattle.spf_api.specs.Errors.{api_of_id};
+
+    ghost from_gives = { λ e r. r ≡ api_of_id e };
+
+    fn from(e: SpiffeIdError) -> WorkloadApiError {
+        match e {
+            SpiffeIdError::OutOfMemory => WorkloadApiError::OutOfMemory,
+            e => WorkloadApiError::SpiffeId(e),
+        }
+    }
+}
+
+impl From<EndpointError> for WorkloadApiError {
+    ghost use Rattle.std.specs.Prelude.{◌≡◌};
+    ghost use Rattle.spf_api.specs.Errors.{api_of_endpoint};
+
+    ghost from_gives = { λ e r. r ≡ api_of_endpoint e };
+
+    fn from(e: EndpointError) -> WorkloadApiError {
+        match e {
+            EndpointError::OutOfMemory => WorkloadApiError::OutOfMemory,
+            e => WorkloadApiError::Endpoint(e),
+        }
+    }
+}
+
+impl From<TransportError> for WorkloadApiError {
+    ghost use Rattle.std.specs.Prelude.{◌≡◌};
+    ghost use Rattle.spf_api.specs.Errors.{api_of_transport};
+
+    ghost from_gives = { λ e r. r ≡ api_of_transport e };
+
+    fn from(e: TransportError) -> WorkloadApiError {
+        match e {
+            TransportError::OutOfMemory => WorkloadApiError::OutOfMemory,
+            e => WorkloadApiError::Transport(e),
+        }
+    }
+}
+
+impl From<X509SvidError> for WorkloadApiError {
+    ghost use Rattle.std.specs.Prelude.{◌≡◌};
+    ghost use Rattle.spf_api.specs.Errors.{api_of_svid};
+
+    ghost from_gives = { λ e r. r ≡ api_of_svid e };
+
+    fn from(e: X509SvidError) -> WorkloadApiError {
+        match e {
+            X509SvidError::OutOfMemory => WorkloadApiError::OutOfMemory,
+            e => WorkloadApiError::X509Svid(e),
+        }
+    }
+}
+
+impl From<JwtSvidError> for WorkloadApiError {
+    ghost use Rattle.std.specs.Prelude.{◌≡◌};
+    ghost use Rattle.spf_api.specs.Errors.{api_of_jwt_svid};
+
+    ghost from_gives = { λ e r. r ≡ api_of_jwt_svid e };
+
+    fn from(e: JwtSvidError) -> WorkloadApiError {
+        match e {
+            JwtSvidError::OutOfMemory => WorkloadApiError::OutOfMemory,
+            e => WorkloadApiError::JwtSvid(e),
+        }
+    }
+}
+
+impl From<X509BundleError> for WorkloadApiError {
+    ghost use Rattle.std.specs.Prelude.{◌≡◌};
+    ghost use Rattle.spf_api.specs.Errors.{api_of_bundle};
+
+    ghost from_gives = { λ e r. r ≡ api_of_bundle e };
+
+    fn from(e: X509BundleError) -> WorkloadApiError {
+        match e {
+            X509BundleError::OutOfMemory => WorkloadApiError::OutOfMemory,
+            e => WorkloadApiError::X509Bundle(e),
+        }
+    }
+}
+
+impl From<JwtBundleError> for WorkloadApiError {
+    ghost use Rattle.std.specs.Prelude.{◌≡◌};
+    ghost use Rattle.spf_api.specs.Errors.{api_of_jwt_bundle};
+
+    ghost from_gives = { λ e r. r ≡ api_of_jwt_bundle e };
+
+    fn from(e: JwtBundleError) -> WorkloadApiError {
+        match e {
+            JwtBundleError::OutOfMemory => WorkloadApiError::OutOfMemory,
+            e => WorkloadApiError::JwtBundle(e),
+        }
+    }
+}
+
+impl From<OutOfMemory> for WorkloadApiError {
+    ghost use Rattle.std.specs.Prelude.{◌≡◌};
+    ghost use Rattle.spf_api.specs.declared.error.WorkloadApiError.TheVariants as errors;
+
+    ghost from_gives = { λ _ e. e ≡ errors.OutOfMemory };
+
+    fn from(_e: OutOfMemory) -> WorkloadApiError {
+        WorkloadApiError::OutOfMemory
+    }
+}
+
+impl From<AllocError> for WorkloadApiError {
+    ghost use Rattle.std.specs.Prelude.{◌≡◌};
+    ghost use Rattle.spf_api.specs.declared.error.WorkloadApiError.TheVariants as errors;
+
+    ghost from_gives = { λ _ e. e ≡ errors.OutOfMemory };
+
+    fn from(_e: AllocError) -> WorkloadApiError {
+        WorkloadApiError::OutOfMemory
+    }
+}
+
+impl<T: Drop> From<AllocFailed<T>> for WorkloadApiError {
+    ghost use Rattle.std.specs.Prelude.{◌≡◌};
+    ghost use Rattle.spf_api.specs.declared.error.WorkloadApiError.TheVariants as errors;
+
+    ghost from_gives = { λ _ e. e ≡ errors.OutOfMemory };
+
+    fn from(_e: AllocFailed<T>) -> WorkloadApiError {
+        WorkloadApiError::OutOfMemory
+    }
+}

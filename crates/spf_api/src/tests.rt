@@ -1,0 +1,4 @@
+mod fixtures;
+mod payloads;
+mod rules;
+mod texts;
