@@ -1,0 +1,6 @@
+//! The named rows of the program.
+
+mod fixtures;
+mod made;
+mod refusals;
+mod sessions;
