@@ -27,10 +27,11 @@ fn is_written_again(alloc: Global, kind: ResponseKind, payload: &[u8]) -> Result
 #[test]
 fn payload(rt: HostRuntime) -> Result<(), Fail> {
     let alloc = rt.alloc();
-    let bytes = first_payload(alloc)?;
+    let mut bytes = first_payload(alloc)?;
     assert_eq!(rt; bytes.len(), 282);
     assert!(rt; is_written_again(alloc, ResponseKind::Context, bytes.as_slice())?);
-    assert!(rt; !lays_out(alloc, ResponseKind::Context, &bytes.as_slice()[..281])?);
+    bytes.truncate(281);
+    assert!(rt; !lays_out(alloc, ResponseKind::Context, bytes.as_slice())?);
     assert!(rt; !lays_out(alloc, ResponseKind::Context, &[255, 255, 255, 255])?);
     Ok(())
 }
