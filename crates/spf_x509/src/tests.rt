@@ -6,7 +6,6 @@ use spf_der::{
 use spf_id::{SpiffeIdError, TrustDomain};
 use spf_io::{Bytes, List, OutOfMemory, Text};
 use std::alloc::Global;
-use std::process::Abort;
 use std::sync::Arc;
 use std::test::Fail;
 
@@ -75,45 +74,67 @@ fn edited(alloc: Global, text: &[u8], old: &[u8], new: &[u8]) -> Result<Vec<u8>,
     Ok(out)
 }
 
-fn invalid_certificate() -> CertificateError {
-    CertificateError::ParseX509Certificate(X509ParseError::new(X509ParseKind::InvalidCertificate))
+/// How a chain with that key is refused.
+fn refused_with(alloc: Global, chain: &[u8], key: &[u8]) -> Result<String, Fail> {
+    match X509Svid::parse_from_der(alloc, chain, key) {
+        Ok(_) => Ok(String::from_str(alloc, "accepted")?),
+        Err(error) => Ok(format!(in alloc; "{error:?}")?),
+    }
 }
 
-fn unparseable(alloc: Global, extension: &str) -> Result<X509SvidError, OutOfMemory> {
-    Ok(X509SvidError::UnparseableExtension {
-        extension: Text::copy_of(alloc, extension)?,
-    })
-}
-
-/// The error with which a chain and KEY1 are refused.
-fn refusal(rt: &impl Abort, alloc: Global, chain: &[u8]) -> Result<X509SvidError, OutOfMemory> {
+/// How a chain with KEY1 is refused.
+fn refused(alloc: Global, chain: &[u8]) -> Result<String, Fail> {
     let key = write_key(alloc, 1)?;
-    Ok(X509Svid::parse_from_der(alloc, chain, key.as_slice()).expect_err(rt, "a refusal"))
+    refused_with(alloc, chain, key.as_slice())
 }
+
+/// How the look at a certificate's ID ends.
+fn id_text(alloc: Global, der: &[u8]) -> Result<String, Fail> {
+    match spiffe_id_from_der(alloc, der) {
+        Ok(id) => Ok(String::from_str(alloc, id.as_str())?),
+        Err(error) => Ok(format!(in alloc; "{error:?}")?),
+    }
+}
+
+/// How a text is refused as a certificate.
+fn certificate_text(alloc: Global, der: &[u8]) -> Result<String, Fail> {
+    match Certificate::try_from(alloc, der) {
+        Ok(_) => Ok(String::from_str(alloc, "accepted")?),
+        Err(error) => Ok(format!(in alloc; "{error:?}")?),
+    }
+}
+
+const INVALID: &str = "ParseX509Certificate(X509ParseError { kind: InvalidCertificate })";
+
+const DUPLICATE: &str =
+    "Certificate(ParseX509Certificate(X509ParseError { kind: DuplicateExtensions }))";
 
 #[test]
 fn certificate_row(rt: HostRuntime) -> Result<(), Fail> {
     let alloc = rt.alloc();
     let mut der = leaf1(alloc)?;
+    assert_eq!(rt; id_text(alloc, der.as_slice())?.as_str(), URI);
+    der.push(0)?;
+    assert_eq!(rt; certificate_text(alloc, der.as_slice())?.as_str(), INVALID);
+    assert_eq!(rt;
+        id_text(alloc, root(alloc, 1)?.as_slice())?.as_str(),
+        "MissingX509Extension(SubjectAlternativeName)"
+    );
+    assert_eq!(rt;
+        X509ExtensionId::SubjectAlternativeName.as_str(),
+        "2.5.29.17"
+    );
+    Ok(())
+}
+
+#[test]
+fn certificates_equal_their_copies(rt: HostRuntime) -> Result<(), Fail> {
+    let alloc = rt.alloc();
+    let der = leaf1(alloc)?;
     let leaf = Certificate::try_from(alloc, der.as_slice())?;
-    assert_eq!(rt; leaf.spiffe_id(alloc)?.as_str(), URI);
     assert_eq!(rt; leaf.as_bytes(), der.as_slice());
     assert!(rt; leaf.try_clone(alloc)? == leaf);
-    assert!(rt; Certificate::try_from_owned(alloc, leaf1(alloc)?)? == leaf);
-    der.push(0)?;
-    assert_eq!(rt;
-        Certificate::try_from(alloc, der.as_slice()),
-        Err(invalid_certificate())
-    );
-    let missing = CertificateError::MissingX509Extension(X509ExtensionId::SubjectAlternativeName);
-    assert_eq!(rt;
-        missing.to_string(alloc)?.as_str(),
-        "X.509 extension is missing: 2.5.29.17"
-    );
-    assert_eq!(rt;
-        spiffe_id_from_der(alloc, root(alloc, 1)?.as_slice()),
-        Err(missing)
-    );
+    assert!(rt; Certificate::try_from_owned(alloc, der)? == leaf);
     Ok(())
 }
 
@@ -127,9 +148,8 @@ fn private_key(rt: HostRuntime) -> Result<(), Fail> {
         "PrivateKey { len: 15 }"
     );
     assert!(rt; key.try_clone(alloc)? == key);
-    assert!(rt; PrivateKey::try_from_owned(write_key(alloc, 1)?)? == key);
-    let refused = PrivateKeyError::DecodePkcs8(Pkcs8DecodeError);
-    assert_eq!(rt; PrivateKey::try_from(alloc, b""), Err(refused));
+    assert!(rt; PrivateKey::try_from_owned(der)? == key);
+    assert!(rt; PrivateKey::try_from(alloc, b"").is_err());
     Ok(())
 }
 
@@ -137,21 +157,18 @@ fn private_key(rt: HostRuntime) -> Result<(), Fail> {
 fn san_rule(rt: HostRuntime) -> Result<(), Fail> {
     let alloc = rt.alloc();
     let long = String::from_utf8(vec![in alloc; b'a'; 2049]?)?;
-    let oversized = CertificateError::OversizedUriSan { max: 2048 };
-    for (names, error) in [
-        ([long.as_str(), "https://a"].as_slice(), oversized),
+    let table: [(&[&str], &str); 4] = [
         (
-            &["https://a", "https://a"],
-            CertificateError::MultipleUriSanEntries,
+            &[long.as_str(), "https://a"],
+            "OversizedUriSan { max: 2048 }",
         ),
-        (&["https://a"], CertificateError::MissingSpiffeId),
-        (
-            &["SPIFFE://example.org/w"],
-            CertificateError::InvalidSpiffeId(SpiffeIdError::WrongScheme),
-        ),
-    ] {
+        (&["https://a", "https://a"], "MultipleUriSanEntries"),
+        (&["https://a"], "MissingSpiffeId"),
+        (&["SPIFFE://example.org/w"], "InvalidSpiffeId(WrongScheme)"),
+    ];
+    for (names, error) in table {
         let der = leaf_named(alloc, names)?;
-        assert_eq!(rt; spiffe_id_from_der(alloc, der.as_slice()), Err(error));
+        assert_eq!(rt; id_text(alloc, der.as_slice())?.as_str(), error);
     }
     Ok(())
 }
@@ -159,55 +176,78 @@ fn san_rule(rt: HostRuntime) -> Result<(), Fail> {
 #[test]
 fn chain_limit(rt: HostRuntime) -> Result<(), Fail> {
     let alloc = rt.alloc();
-    let key = write_key(alloc, 1)?;
     let mut chain = leaf1(alloc)?;
     for _ in 0..15 {
         chain.extend_from_slice(inter1(alloc)?.as_slice())?;
     }
-    let svid = X509Svid::parse_from_der(alloc, chain.as_slice(), key.as_slice())?;
-    assert_eq!(rt; svid.cert_chain().len(), 16);
+    assert_eq!(rt; refused(alloc, chain.as_slice())?.as_str(), "accepted");
     chain.push(0)?;
-    let too_many = X509SvidError::Certificate(CertificateError::TooManyCertificates { max: 16 });
-    assert_eq!(rt; refusal(&rt, alloc, chain.as_slice())?, too_many);
+    let too_many = "Certificate(TooManyCertificates { max: 16 })";
+    assert_eq!(rt; refused(alloc, chain.as_slice())?.as_str(), too_many);
     let mut short = leaf1(alloc)?;
     short.extend_from_slice(inter1(alloc)?.as_slice())?;
     short.push(0)?;
-    let invalid = X509SvidError::Certificate(invalid_certificate());
-    assert_eq!(rt; refusal(&rt, alloc, short.as_slice())?, invalid);
+    let text = refused(alloc, short.as_slice())?;
+    assert_eq!(rt;
+        text.as_str(),
+        format!(in alloc; "Certificate({INVALID})")?.as_str()
+    );
     Ok(())
+}
+
+/// An SVID of LEAF1 and INTER1 with KEY1.
+fn svid_with(alloc: Global, hint: Option<Text>) -> Result<X509Svid, Fail> {
+    let key = write_key(alloc, 1)?;
+    let mut chain = leaf1(alloc)?;
+    chain.extend_from_slice(inter1(alloc)?.as_slice())?;
+    let chain = chain.as_slice();
+    Ok(X509Svid::parse_from_der_with_hint(alloc, chain, key.as_slice(), hint)?)
 }
 
 #[test]
 fn svid(rt: HostRuntime) -> Result<(), Fail> {
     let alloc = rt.alloc();
+    let leaf = leaf1(alloc)?;
     let key = write_key(alloc, 1)?;
-    let mut chain = leaf1(alloc)?;
-    chain.extend_from_slice(inter1(alloc)?.as_slice())?;
-    let hint = Text::copy_of(alloc, "internal")?;
-    let svid = X509Svid::parse_from_der_with_hint(
-        alloc,
-        chain.as_slice(),
-        key.as_slice(),
-        Some(hint),
-    )?;
+    let svid = svid_with(alloc, Some(Text::copy_of(alloc, "internal")?))?;
     assert_eq!(rt; svid.spiffe_id().as_str(), URI);
     assert_eq!(rt; svid.hint(), Some("internal"));
     assert_eq!(rt; svid.expiry_unix(), 1000);
-    assert_eq!(rt; svid.leaf().as_bytes(), leaf1(alloc)?.as_slice());
+    assert_eq!(rt; svid.cert_chain().len(), 2);
+    assert_eq!(rt; svid.leaf().as_bytes(), leaf.as_slice());
     assert_eq!(rt; svid.private_key().as_bytes(), key.as_slice());
-    let plain = X509Svid::parse_from_der(alloc, chain.as_slice(), key.as_slice())?;
-    assert!(rt; cmp_svid_for_update(&plain, &svid) == std::cmp::Ordering::Less);
-    assert!(rt; svid.try_clone(alloc)? == svid);
-    assert_eq!(rt; refusal(&rt, alloc, b"")?, X509SvidError::EmptyChain);
-    let refused = X509Svid::parse_from_der(alloc, leaf1(alloc)?.as_slice(), b"\x00");
-    let bad_key = PrivateKeyError::DecodePkcs8(Pkcs8DecodeError);
-    assert_eq!(rt; refused, Err(X509SvidError::PrivateKey(bad_key)));
+    Ok(())
+}
+
+#[test]
+fn svids_are_ordered(rt: HostRuntime) -> Result<(), Fail> {
+    let alloc = rt.alloc();
+    let hinted = svid_with(alloc, Some(Text::copy_of(alloc, "internal")?))?;
+    let plain = svid_with(alloc, None)?;
+    assert!(rt; cmp_svid_for_update(&plain, &hinted) == std::cmp::Ordering::Less);
+    assert!(rt; plain.try_clone(alloc)? == plain);
+    Ok(())
+}
+
+#[test]
+fn refused_chains(rt: HostRuntime) -> Result<(), Fail> {
+    let alloc = rt.alloc();
+    assert_eq!(rt; refused(alloc, b"")?.as_str(), "EmptyChain");
+    let leaf = leaf1(alloc)?;
+    assert_eq!(rt;
+        refused_with(alloc, leaf.as_slice(), b"\0")?.as_str(),
+        "PrivateKey(DecodePkcs8(Pkcs8DecodeError))"
+    );
+    let inter = inter1(alloc)?;
+    assert_eq!(rt;
+        refused(alloc, inter.as_slice())?.as_str(),
+        "LeafCertificateMissingDigitalSignature"
+    );
     let mut rooted = leaf1(alloc)?;
     rooted.extend_from_slice(root(alloc, 1)?.as_slice())?;
-    let missing = CertificateError::MissingX509Extension(X509ExtensionId::BasicConstraints);
     assert_eq!(rt;
-        refusal(&rt, alloc, rooted.as_slice())?,
-        X509SvidError::Certificate(missing)
+        refused(alloc, rooted.as_slice())?.as_str(),
+        "Certificate(MissingX509Extension(BasicConstraints))"
     );
     Ok(())
 }
@@ -215,127 +255,114 @@ fn svid(rt: HostRuntime) -> Result<(), Fail> {
 #[test]
 fn hostile_leaves(rt: HostRuntime) -> Result<(), Fail> {
     let alloc = rt.alloc();
-    let twice = || X509ParseError::new(X509ParseKind::DuplicateExtensions);
-    let names = || Text::copy_of(alloc, "SubjectAlternativeName");
-    let certificate = X509SvidError::Certificate;
     let leaf = leaf1(alloc)?;
-    let table: [(&[u8], &[u8], X509SvidError); 12] = [
-        (
-            b"\x55\x1d\x13",
-            b"\x55\x1d\x0f",
-            certificate(CertificateError::ParseX509Certificate(twice())),
-        ),
-        (
-            b"\x55\x1d\x11",
-            b"\x55\x1d\x13",
-            certificate(CertificateError::ParseX509Certificate(twice())),
-        ),
+    let usage = b"\x03\x02\x07\x80".as_slice();
+    let key_usage = "UnparseableExtension { extension: Text { string: \"KeyUsage\" } }";
+    let constraints = "UnparseableExtension { extension: Text { string: \"BasicConstraints\" } }";
+    let names = "Certificate(UnexpectedExtension(Text { string: \"SubjectAlternativeName\" }))";
+    let table: [(&[u8], &[u8], &str); 12] = [
+        (b"\x55\x1d\x13", b"\x55\x1d\x0f", DUPLICATE),
+        (b"\x55\x1d\x11", b"\x55\x1d\x13", DUPLICATE),
         (
             b"\x55\x1d\x0f",
             b"\x55\x1d\x0e",
-            certificate(CertificateError::MissingX509Extension(X509ExtensionId::KeyUsage)),
+            "Certificate(MissingX509Extension(KeyUsage))",
         ),
+        (usage, b"\x03\x02\x08\x80", key_usage),
         (
-            b"\x03\x02\x07\x80",
-            b"\x03\x02\x08\x80",
-            unparseable(alloc, "KeyUsage")?,
-        ),
-        (
-            b"\x03\x02\x07\x80",
+            usage,
             b"\x03\x02\x07\x04",
-            X509SvidError::LeafCertificateMissingDigitalSignature,
+            "LeafCertificateMissingDigitalSignature",
         ),
-        (
-            b"\x03\x02\x07\x80",
-            b"\x03\x02\x07\x84",
-            X509SvidError::LeafCertificateHasKeyCertSign,
-        ),
-        (
-            b"\x03\x02\x07\x80",
-            b"\x03\x02\x07\x86",
-            X509SvidError::LeafCertificateHasCrlSign,
-        ),
-        (
-            b"\x04\x02\x30\x00",
-            b"\x04\x02\x05\x00",
-            unparseable(alloc, "BasicConstraints")?,
-        ),
-        (
-            b"\x86\x16s",
-            b"\x82\x16s",
-            certificate(CertificateError::MissingSpiffeId),
-        ),
-        (
-            b"\x86\x16s",
-            b"\xa6\x16s",
-            certificate(CertificateError::UnexpectedExtension(names()?)),
-        ),
-        (
-            b"/w",
-            b"/\xf7",
-            certificate(CertificateError::UnexpectedExtension(names()?)),
-        ),
-        (
-            b"/w",
-            b"/.",
-            certificate(CertificateError::InvalidSpiffeId(SpiffeIdError::DotSegment)),
-        ),
+        (usage, b"\x03\x02\x07\x84", "LeafCertificateHasKeyCertSign"),
+        (usage, b"\x03\x02\x07\x86", "LeafCertificateHasCrlSign"),
+        (b"\x04\x02\x30\x00", b"\x04\x02\x05\x00", constraints),
+        (b"\x86\x16s", b"\x82\x16s", "Certificate(MissingSpiffeId)"),
+        (b"\x86\x16s", b"\xa6\x16s", names),
+        (b"/w", b"/\xf7", names),
+        (b"/w", b"/.", "Certificate(InvalidSpiffeId(DotSegment))"),
     ];
     for (old, new, error) in table {
         let chain = edited(alloc, leaf.as_slice(), old, new)?;
-        assert_eq!(rt; refusal(&rt, alloc, chain.as_slice())?, error);
+        assert_eq!(rt; refused(alloc, chain.as_slice())?.as_str(), error);
     }
-    let inter = refusal(&rt, alloc, inter1(alloc)?.as_slice())?;
-    assert_eq!(rt;
-        inter,
-        X509SvidError::LeafCertificateMissingDigitalSignature
-    );
     Ok(())
+}
+
+/// A bundle of ROOT1 and ROOT2.
+fn two_roots(alloc: Global) -> Result<X509Bundle, Fail> {
+    let mut both = root(alloc, 1)?;
+    both.extend_from_slice(root(alloc, 2)?.as_slice())?;
+    let domain = TrustDomain::new(alloc, "example.org")?;
+    Ok(X509Bundle::parse_from_der(alloc, domain, both.as_slice())?)
 }
 
 #[test]
 fn bundle(rt: HostRuntime) -> Result<(), Fail> {
     let alloc = rt.alloc();
-    let mut both = root(alloc, 1)?;
-    both.extend_from_slice(root(alloc, 2)?.as_slice())?;
-    let domain = TrustDomain::new(alloc, "example.org")?;
-    let mut cut = X509Bundle::parse_from_der(alloc, domain, both.as_slice())?;
-    let texts = vec![in alloc; Bytes::new(root(alloc, 1)?), Bytes::new(root(alloc, 2)?)]?;
-    let domain = TrustDomain::new(alloc, "example.org")?;
-    assert!(rt; cut == X509Bundle::from_x509_authorities(alloc, domain, texts.as_slice())?);
-    assert!(rt; cut.add_authority(b"\x00").is_err());
-    assert_eq!(rt; cut.authorities().len(), 2);
-    cut.add_authority(root(alloc, 3)?.as_slice())?;
-    assert_eq!(rt; cut.authorities().len(), 3);
-    assert_eq!(rt; cut.trust_domain().as_str(), "example.org");
-    assert!(rt; cut.try_clone(alloc)? == cut);
+    let third = root(alloc, 3)?;
+    let mut bundle = two_roots(alloc)?;
+    assert!(rt; bundle.add_authority(b"\0").is_err());
+    assert_eq!(rt; bundle.authorities().len(), 2);
+    bundle.add_authority(third.as_slice())?;
+    assert_eq!(rt; bundle.authorities().len(), 3);
+    assert_eq!(rt; bundle.trust_domain().as_str(), "example.org");
     assert_eq!(rt;
-        sorted_authorities(alloc, &cut)?.as_slice(),
+        sorted_authorities(alloc, &bundle)?.as_slice(),
         [0, 1, 2].as_slice()
     );
     Ok(())
 }
 
 #[test]
+fn bundles_equal_their_copies(rt: HostRuntime) -> Result<(), Fail> {
+    let alloc = rt.alloc();
+    let first = Bytes::new(root(alloc, 1)?);
+    let second = Bytes::new(root(alloc, 2)?);
+    let texts = vec![in alloc; first, second]?;
+    let domain = TrustDomain::new(alloc, "example.org")?;
+    let listed = X509Bundle::from_x509_authorities(alloc, domain, texts.as_slice())?;
+    assert!(rt; two_roots(alloc)? == listed);
+    assert!(rt; listed.try_clone(alloc)? == listed);
+    Ok(())
+}
+
+/// A bundle with the authority of that serial.
+fn one_root(alloc: Global, name: &str, serial: u8) -> Result<X509Bundle, Fail> {
+    let authority = root(alloc, serial)?;
+    let domain = TrustDomain::new(alloc, name)?;
+    Ok(X509Bundle::parse_from_der(alloc, domain, authority.as_slice())?)
+}
+
+fn three_bundles(alloc: Global) -> Result<X509BundleSet, Fail> {
+    let mut bundles = Vec::new(alloc);
+    bundles.push(one_root(alloc, "example.org", 1)?)?;
+    bundles.push(one_root(alloc, "other.org", 2)?)?;
+    bundles.push(one_root(alloc, "example.org", 3)?)?;
+    Ok(X509BundleSet::from_iter(alloc, bundles)?)
+}
+
+#[test]
 fn bundle_set(rt: HostRuntime) -> Result<(), Fail> {
     let alloc = rt.alloc();
-    let mut bundles = Vec::new(alloc);
-    for (name, serial) in [("example.org", 1), ("other.org", 2), ("example.org", 3)] {
-        let domain = TrustDomain::new(alloc, name)?;
-        bundles.push(X509Bundle::parse_from_der(alloc, domain, root(alloc, serial)?.as_slice())?)?;
-    }
-    let mut set = X509BundleSet::from_iter(alloc, bundles)?;
+    let domain = TrustDomain::new(alloc, "example.org")?;
+    let third = one_root(alloc, "example.org", 3)?;
+    let mut set = three_bundles(alloc)?;
     set.extend(Vec::new(alloc))?;
     assert_eq!(rt; set.len(), 2);
     assert!(rt; !set.is_empty());
-    assert!(rt; set.try_clone()? == set);
-    let domain = TrustDomain::new(alloc, "example.org")?;
-    let third = set.get(&domain)?.ok_or("no bundle")?;
-    assert_eq!(rt;
-        third.authorities()[0].as_bytes(),
-        root(alloc, 3)?.as_slice()
-    );
+    match set.get(&domain)? {
+        Some(bundle) => assert!(rt; *bundle == third),
+        None => assert!(rt; false),
+    }
     assert!(rt; set.bundle_for_trust_domain(&mut (), &domain)?.is_some());
+    assert!(rt; set.try_clone()? == set);
+    Ok(())
+}
+
+#[test]
+fn bundles_stand_in_order(rt: HostRuntime) -> Result<(), Fail> {
+    let set = three_bundles(rt.alloc())?;
     let mut names = set.iter();
     assert!(rt;
         names
@@ -351,18 +378,21 @@ fn bundle_set(rt: HostRuntime) -> Result<(), Fail> {
     Ok(())
 }
 
+fn named_svid(alloc: Global, name: &str) -> Result<Arc<X509Svid>, Fail> {
+    let key = write_key(alloc, 1)?;
+    let chain = leaf_named(alloc, &[name])?;
+    let svid = X509Svid::parse_from_der(alloc, chain.as_slice(), key.as_slice())?;
+    Ok(Arc::new(alloc, svid)?)
+}
+
 #[test]
 fn context(rt: HostRuntime) -> Result<(), Fail> {
     let alloc = rt.alloc();
-    let key = write_key(alloc, 1)?;
     let mut svids = Vec::new(alloc);
-    for name in ["spiffe://example.org/w", "spiffe://example.org/v"] {
-        let chain = leaf_named(alloc, &[name])?;
-        let svid = X509Svid::parse_from_der(alloc, chain.as_slice(), key.as_slice())?;
-        svids.push(Arc::new(alloc, svid)?)?;
-    }
-    let set = Arc::new(alloc, X509BundleSet::new(alloc))?;
+    svids.push(named_svid(alloc, URI)?)?;
+    svids.push(named_svid(alloc, "spiffe://example.org/v")?)?;
     let crls = vec![in alloc; Bytes::copy_of(alloc, b"\x0a")?]?;
+    let set = Arc::new(alloc, X509BundleSet::new(alloc))?;
     let context = X509Context::new(svids, set, crls);
     assert_eq!(rt;
         sorted_svids(alloc, &context)?.as_slice(),

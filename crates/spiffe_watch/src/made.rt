@@ -100,7 +100,7 @@ fn signer(alloc: Global) -> Result<Template, OutOfMemory> {
 
 fn make_workload(
     alloc: Global,
-    place: u8,
+    serial: u8,
     identity: &'static str,
 ) -> Result<Workload, OutOfMemory> {
     let usage = KeyUsageBits {
