@@ -39,10 +39,10 @@ impl Source for MadeSource {
             }
             self.part = self.part.saturating_add(1);
         }
-        let rest = self.frames.get(self.at..).unwrap_or(b"");
-        let n = buf.len().min(rest.len());
-        buf[..n].copy_from_slice(&rest[..n]);
-        self.at = self.at.saturating_add(n);
+        let at = self.at.min(self.frames.len());
+        let n = buf.len().min(self.frames.len() - at);
+        buf[..n].copy_from_slice(&self.frames[at..at + n]);
+        self.at = at + n;
         Ok(n)
     }
 }
@@ -77,10 +77,13 @@ impl Sink for Tally {
 /// The octets before the first space, and those behind it.
 fn first_word(line: &[u8]) -> (&[u8], &[u8]) {
     match memchr(b' ', line) {
-        None => (line, b""),
+        None => line.split_at(line.len()),
         Some(place) => {
             let (word, rest) = line.split_at(place.min(line.len()));
-            (word, rest.get(1..).unwrap_or(b""))
+            match rest {
+                [_, behind @ ..] => (word, behind),
+                [] => (word, rest),
+            }
         }
     }
 }

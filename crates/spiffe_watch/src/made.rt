@@ -205,35 +205,44 @@ impl MadeSession {
         Ok(())
     }
 
+    /// The entry of the workload at that place.
+    fn push_entry(&mut self, place: usize, variant: Variant) -> Result<(), OutOfMemory> {
+        let Some(workload) = self.workloads.get(place) else {
+            return Ok(());
+        };
+        let key = match variant {
+            Variant::BadKey if place == 0 => BAD_KEY,
+            _ => workload.key.as_slice(),
+        };
+        let expiry = self.expiry.as_slice();
+        push_field(&mut self.payload, workload.identity.as_bytes())?;
+        self.field.clear();
+        workload.leaf.push(expiry, &mut self.field)?;
+        self.signer.push(expiry, &mut self.field)?;
+        push_field(&mut self.payload, self.field.as_slice())?;
+        push_field(&mut self.payload, key)?;
+        self.field.clear();
+        if variant == Variant::Turned {
+            self.root_b.push(expiry, &mut self.field)?;
+            self.root_a.push(expiry, &mut self.field)?;
+        } else {
+            self.root_a.push(expiry, &mut self.field)?;
+            self.root_b.push(expiry, &mut self.field)?;
+        }
+        push_field(&mut self.payload, self.field.as_slice())?;
+        push_field(&mut self.payload, NO_HINT)
+    }
+
     /// The frame of an item of this generation.
     fn push_item(&mut self, variant: Variant, frames: &mut Vec<u8>) -> Result<(), OutOfMemory> {
         self.payload.clear();
         push_count(&mut self.payload, 3)?;
-        let [first, second, third] = &self.workloads;
         let order = match variant {
-            Variant::Turned => [first, third, second],
-            Variant::Plain | Variant::BadKey => [first, second, third],
+            Variant::Turned => [0, 2, 1],
+            Variant::Plain | Variant::BadKey => [0, 1, 2],
         };
-        for (place, workload) in order.iter().enumerate() {
-            let key = match variant {
-                Variant::BadKey if place == 0 => BAD_KEY,
-                _ => workload.key.as_slice(),
-            };
-            push_field(&mut self.payload, workload.identity.as_bytes())?;
-            self.field.clear();
-            workload.leaf.push(self.expiry.as_slice(), &mut self.field)?;
-            self.signer.push(self.expiry.as_slice(), &mut self.field)?;
-            push_field(&mut self.payload, self.field.as_slice())?;
-            push_field(&mut self.payload, key)?;
-            let (upper, lower) = match variant {
-                Variant::Turned => (&self.root_b, &self.root_a),
-                Variant::Plain | Variant::BadKey => (&self.root_a, &self.root_b),
-            };
-            self.field.clear();
-            upper.push(self.expiry.as_slice(), &mut self.field)?;
-            lower.push(self.expiry.as_slice(), &mut self.field)?;
-            push_field(&mut self.payload, self.field.as_slice())?;
-            push_field(&mut self.payload, NO_HINT)?;
+        for place in order {
+            self.push_entry(place, variant)?;
         }
         push_count(&mut self.payload, 1)?;
         push_field(&mut self.payload, b"other.org")?;

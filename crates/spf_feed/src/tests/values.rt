@@ -32,6 +32,10 @@ fn frame_reader(rt: HostRuntime) -> Result<(), Fail> {
     Ok(())
 }
 
+fn text_of(alloc: Global, error: X509SourceError) -> Result<String, Fail> {
+    Ok(error.to_string(alloc)?)
+}
+
 #[test]
 fn names(rt: HostRuntime) -> Result<(), Fail> {
     let alloc = rt.alloc();
@@ -41,20 +45,20 @@ fn names(rt: HostRuntime) -> Result<(), Fail> {
         format!(in alloc; "{kind} {error}")?.as_str(),
         "max_crl_bytes limit_max_bundle_der_bytes"
     );
-    let reason = Denial::PermissionDenied(Text::copy_of(alloc, "no")?);
-    let withdrawn = X509SourceError::Withdrawn(Arc::new(alloc, reason)?);
-    assert_eq!(rt;
-        format!(in alloc; "{withdrawn}")?.as_str(),
-        "material withdrawn: permission denied: no"
-    );
     let passed = X509SourceError::ResourceLimitExceeded {
         kind,
         limit: 1,
         actual: 2,
     };
     assert_eq!(rt;
-        format!(in alloc; "{passed}")?.as_str(),
+        text_of(alloc, passed)?.as_str(),
         "resource limit exceeded: max_crl_bytes (limit=1, actual=2)"
+    );
+    let reason = Denial::PermissionDenied(Text::copy_of(alloc, "no")?);
+    let withdrawn = X509SourceError::Withdrawn(Arc::new(alloc, reason)?);
+    assert_eq!(rt;
+        text_of(alloc, withdrawn)?.as_str(),
+        "material withdrawn: permission denied: no"
     );
     Ok(())
 }
@@ -130,24 +134,62 @@ fn prepared(rt: HostRuntime) -> Result<(), Fail> {
     Ok(())
 }
 
-/// The line and the getters of an opened and then withdrawn state.
-#[test]
-fn states(rt: HostRuntime) -> Result<(), Fail> {
-    let alloc = rt.alloc();
-    let mut snapshot = Snapshot::opening(prepared_item(alloc, "I1")?);
-    let state = snapshot.state(false)?;
-    let shown = state_line(alloc, &state, None)?.into_string();
-    assert!(rt; shown.as_str().starts_with("0 permitted - - - example.org="));
-    assert!(rt; state.svid(Some(999)).is_ok() && state.context().is_ok());
-    assert!(rt; matches!(state.svid(Some(1000)), Err(X509SourceError::NoSuitableSvid)));
+/// The snapshot of an accepted I1.
+fn opened(alloc: Global) -> Result<Snapshot, Fail> {
+    let step = Step::Accept {
+        context: Arc::new(alloc, context(alloc, "I1")?)?,
+        limits: ResourceLimits::default(),
+        choice: Some(0),
+    };
+    let step = Prepared::new(alloc, step)?;
+    Ok(Snapshot::opening(step))
+}
+
+/// The same after a denial.
+fn withdrawn(alloc: Global) -> Result<Snapshot, Fail> {
+    let mut snapshot = opened(alloc)?;
     snapshot.apply(prepared_denial(alloc)?);
-    let state = snapshot.state(true)?;
-    assert_eq!(rt; state.revision(), 1);
+    Ok(snapshot)
+}
+
+fn line_at(alloc: Global, snapshot: &Snapshot, now: Option<i64>) -> Result<String, Fail> {
+    let state = snapshot.state(false)?;
+    Ok(state_line(alloc, &state, now)?.into_string())
+}
+
+/// What a state says of its SVID at a moment.
+fn svid_at(snapshot: &Snapshot, now: i64) -> Result<&'static str, Fail> {
+    let state = snapshot.state(false)?;
+    match state.svid(Some(now)) {
+        Ok(_) => Ok("svid"),
+        Err(X509SourceError::NoSuitableSvid) => Ok("no suitable svid"),
+        Err(X509SourceError::Withdrawn(_)) => Ok("withdrawn"),
+        Err(_) => Ok("another"),
+    }
+}
+
+#[test]
+fn permitted_states(rt: HostRuntime) -> Result<(), Fail> {
+    let alloc = rt.alloc();
+    let snapshot = opened(alloc)?;
+    let shown = line_at(alloc, &snapshot, None)?;
+    assert!(rt; shown.as_str().starts_with("0 permitted - - - example.org="));
+    assert_eq!(rt; svid_at(&snapshot, 999)?, "svid");
+    assert_eq!(rt; svid_at(&snapshot, 1000)?, "no suitable svid");
+    Ok(())
+}
+
+#[test]
+fn withdrawn_states(rt: HostRuntime) -> Result<(), Fail> {
+    let alloc = rt.alloc();
+    let snapshot = withdrawn(alloc)?;
     assert_eq!(rt;
-        state_line(alloc, &state, Some(5))?.as_str(),
+        line_at(alloc, &snapshot, Some(5))?.as_str(),
         "1 withdrawn no_identity_issued\n"
     );
+    assert_eq!(rt; svid_at(&snapshot, 5)?, "withdrawn");
+    let state = snapshot.state(true)?;
+    assert_eq!(rt; state.revision(), 1);
     assert!(rt; state.is_closed() && !state.is_usable(Some(5)) && state.context_ref().is_none());
-    assert!(rt; matches!(state.svid(Some(5)), Err(X509SourceError::Withdrawn(_))));
     Ok(())
 }
