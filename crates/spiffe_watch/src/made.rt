@@ -35,7 +35,7 @@ const IDENTITIES: [&str; 3] = [
 /// One identity of the session: its text, its leaf, and its key.
 #[derive(Drop)]
 struct Workload {
-    identity: &'static str,
+    identity: Text,
     leaf: Template,
     key: Vec<u8>,
 }
@@ -98,11 +98,7 @@ fn signer(alloc: Global) -> Result<Template, OutOfMemory> {
     Template::new(alloc, &spec(alloc, 20, Some(usage), Some(true), None)?)
 }
 
-fn make_workload(
-    alloc: Global,
-    serial: u8,
-    identity: &'static str,
-) -> Result<Workload, OutOfMemory> {
+fn make_workload(alloc: Global, serial: u8, identity: &str) -> Result<Workload, OutOfMemory> {
     let usage = KeyUsageBits {
         digital_signature: true,
         key_cert_sign: false,
@@ -110,7 +106,7 @@ fn make_workload(
     };
     let leaf = spec(alloc, serial, Some(usage), Some(false), Some(identity))?;
     Ok(Workload {
-        identity,
+        identity: Text::copy_of(alloc, identity)?,
         leaf: Template::new(alloc, &leaf)?,
         key: write_key(alloc, serial)?,
     })
@@ -210,17 +206,17 @@ impl MadeSession {
         let Some(workload) = self.workloads.get(place) else {
             return Ok(());
         };
-        let key = match variant {
-            Variant::BadKey if place == 0 => BAD_KEY,
-            _ => workload.key.as_slice(),
-        };
         let expiry = self.expiry.as_slice();
-        push_field(&mut self.payload, workload.identity.as_bytes())?;
+        push_field(&mut self.payload, workload.identity.as_str().as_bytes())?;
         self.field.clear();
         workload.leaf.push(expiry, &mut self.field)?;
         self.signer.push(expiry, &mut self.field)?;
         push_field(&mut self.payload, self.field.as_slice())?;
-        push_field(&mut self.payload, key)?;
+        if variant == Variant::BadKey && place == 0 {
+            push_field(&mut self.payload, BAD_KEY)?;
+        } else {
+            push_field(&mut self.payload, workload.key.as_slice())?;
+        }
         self.field.clear();
         if variant == Variant::Turned {
             self.root_b.push(expiry, &mut self.field)?;
