@@ -85,6 +85,32 @@ pub(crate) const I1F: Item<'_> = Item {
     crls: &[],
 };
 
+/// I1 with a federated bundle that holds no authority.
+pub(crate) const EMPTYFED: Item<'_> = Item {
+    entries: &[ONE],
+    federated: &[("other.org", &[])],
+    crls: &[],
+};
+
+/// I1 with two CRLs, with the same in turn, and with one of them.
+pub(crate) const I1C: Item<'_> = Item {
+    entries: &[ONE],
+    federated: &[],
+    crls: &["0a", "0b"],
+};
+
+pub(crate) const I1C_TURNED: Item<'_> = Item {
+    entries: &[ONE],
+    federated: &[],
+    crls: &["0b", "0a"],
+};
+
+pub(crate) const I1C_ONE: Item<'_> = Item {
+    entries: &[ONE],
+    federated: &[],
+    crls: &["0a"],
+};
+
 /// The bytes that hexadecimal texts spell, one behind the other.
 fn bytes_of(alloc: Global, texts: &[&str]) -> Result<Vec<u8>, Fail> {
     let mut bytes = Vec::new(alloc);
@@ -203,7 +229,7 @@ pub(crate) fn run(
         texts.push(String::from_str(alloc, *word)?)?;
     }
     let mut source = MemSource::new(bytes, cuts, failing_reads);
-    let mut out = MemSink::new(alloc, 1 << 20, failing_puts)?;
+    let mut out = MemSink::new(alloc, 1 << 24, failing_puts)?;
     let mut faults = MemSink::new(alloc, 1 << 10, Vec::new(alloc))?;
     let status = crate::watch(alloc, texts.as_slice(), &mut source, &mut out, &mut faults);
     Ok(Ran {

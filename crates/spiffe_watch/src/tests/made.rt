@@ -29,3 +29,35 @@ fn bench(rt: HostRuntime) -> Result<(), Fail> {
     }
     Ok(())
 }
+
+/// The summary that lines give: how many there are, the last revision, and how many say withdrawn.
+fn summary_of(alloc: Global, lines: &[u8]) -> Result<String, Fail> {
+    let mut events: u64 = 0;
+    let mut revision: u64 = 0;
+    let mut withdrawn: u64 = 0;
+    for line in str::from_utf8(lines)?.lines() {
+        events = events.saturating_add(1);
+        let mut words = line.split(' ').skip(1);
+        if let Some(word) = words.next() {
+            revision = word.parse::<u64>().unwrap_or(revision);
+        }
+        if words.next() == Some("withdrawn") {
+            withdrawn = withdrawn.saturating_add(1);
+        }
+    }
+    let summary = format!(in alloc; "events {events} revision {revision} withdrawn {withdrawn}\n")?;
+    Ok(summary)
+}
+
+#[test]
+fn made_session(rt: HostRuntime) -> Result<(), Fail> {
+    let alloc = rt.alloc();
+    let made = ran(alloc, &["make", "10000", "1"], Vec::new(alloc))?;
+    let frames = Vec::from_slice(alloc, made.out.bytes())?;
+    let followed = ran(alloc, &["x509"], frames)?;
+    assert_eq!(rt; followed.status, 0);
+    let told = ran(alloc, &["bench", "10000", "1"], Vec::new(alloc))?;
+    let summary = summary_of(alloc, followed.out.bytes())?;
+    assert_eq!(rt; str::from_utf8(told.out.bytes()), Ok(summary.as_str()));
+    Ok(())
+}

@@ -113,16 +113,7 @@ fn bundle_bytes_limit(rt: HostRuntime) -> Result<(), Fail> {
 
 #[test]
 fn crl_bytes_limit(rt: HostRuntime) -> Result<(), Fail> {
-    let update = Item {
-        entries: &[ONE],
-        federated: &[],
-        crls: &["0a", "0b"],
-    };
-    let frames = [
-        Frames::Moment(999),
-        Frames::Connected,
-        Frames::Item(&update),
-    ];
+    let frames = [Frames::Moment(999), Frames::Connected, Frames::Item(&I1C)];
     row(
         &rt,
         &["x509", "--max-crl-bytes", "1"],

@@ -203,16 +203,10 @@ fn empty_federated_bundle(rt: HostRuntime) -> Result<(), Fail> {
     let lines = format!(in rt.alloc();
         "1 waiting\n2 waiting\n3 waiting\n4 0 permitted {P1} other.org=\n"
     )?;
-    let federated: [(&str, &[&str]); 1] = [("other.org", &[])];
-    let update = Item {
-        entries: &[ONE],
-        federated: &federated,
-        crls: &[],
-    };
     let frames = [
         Frames::Moment(999),
         Frames::Connected,
-        Frames::Item(&update),
+        Frames::Item(&EMPTYFED),
     ];
     row(&rt, X509, &frames, lines.as_str(), 0, "")
 }
@@ -260,28 +254,13 @@ fn crls(rt: HostRuntime) -> Result<(), Fail> {
     let lines = format!(in rt.alloc();
         "1 waiting\n2 waiting\n3 waiting\n4 0 permitted {P1} #0a,0b\n5 0 permitted {P1} #0a,0b\n6 0 permitted {P1} #0a,0b\n7 0 permitted {P1} #0a,0b\n8 1 permitted {P1} #0a\n"
     )?;
-    let both = Item {
-        entries: &[ONE],
-        federated: &[],
-        crls: &["0a", "0b"],
-    };
-    let turned = Item {
-        entries: &[ONE],
-        federated: &[],
-        crls: &["0b", "0a"],
-    };
-    let one = Item {
-        entries: &[ONE],
-        federated: &[],
-        crls: &["0a"],
-    };
     let frames = [
         Frames::Moment(999),
         Frames::Connected,
-        Frames::Item(&both),
+        Frames::Item(&I1C),
         Frames::Connected,
-        Frames::Item(&turned),
-        Frames::Item(&one),
+        Frames::Item(&I1C_TURNED),
+        Frames::Item(&I1C_ONE),
     ];
     row(&rt, X509, &frames, lines.as_str(), 0, "")
 }
