@@ -3,3 +3,4 @@ pub mod Each
 pub mod Exact
 pub mod Many
 pub mod Reading
+mod Rows

@@ -1,11 +1,13 @@
 //! What bytes are put to.
 
-ghost use Rattle.std.specs.Prelude.{◌≡◌, ◌≤◌, ◌<◌, ◌+◌, ◌^◌, ℕ, List, Option, [], Some, IfOk, length, vec_len, vec_capacity};
+ghost use Rattle.std.specs.Prelude.{◌≡◌, ◌↔◌, ◌++◌, ℕ, List, Option, [], Some, IfOk, IsErr, IsTrue, OnErr, length};
+ghost use Rattle.spf_io.specs.Memory.{faults_after, is_refused, next_number};
 ghost use Rattle.spf_io.specs.Outside.{HasCause, PutAppends};
 
 use crate::memory::{Failed, OutOfMemory};
 use std::alloc::Global;
 use std::io::Write;
+use std::marker::Model;
 
 /// A sink of bytes, which counts how often it failed.
 pub trait Sink {
@@ -20,7 +22,7 @@ pub trait Sink {
         ensures cause { HasCause (faults self.old) (faults self.new) result };
 }
 
-/// A sink with room for so many bytes, which tells what it holds.
+/// A sink with room for so many bytes, which tells what it holds, and how it will answer.
 #[derive(Debug, Drop)]
 pub struct MemSink {
     held: Vec<u8>,
@@ -28,8 +30,17 @@ pub struct MemSink {
     failing: Vec<u64>,
     puts: u64,
     failed: u64,
-    ghost fits: { vec_len held ≤ room },
-    ghost has_room: { room ≤ vec_capacity held },
+}
+
+impl Model for MemSink {
+    ghost use Rattle.std.specs.Prelude.{◌≤◌, vec_len, vec_capacity};
+    ghost use Rattle.spf_io.specs.Memory.{MemoryPut};
+
+    ghost Value = { MemoryPut };
+
+    ghost view = { λ s. record { held = s.held.items; room = s.room; failing = s.failing.items; puts = s.puts; faults = s.failed } };
+
+    ghost invariant = { λ s. (vec_len s.held ≤ s.room) × (s.room ≤ vec_capacity s.held) };
 }
 
 impl MemSink {
@@ -38,6 +49,7 @@ impl MemSink {
     pub fn new(alloc: Global, room: usize, failing: Vec<u64>) -> Result<MemSink, OutOfMemory>
         ensures held { IfOk result (λ s. ⟦<MemSink as Sink>⟧.held s ≡ Some []) }
         ensures faults { IfOk result (λ s. ⟦<MemSink as Sink>⟧.faults s ≡ 0) }
+        ensures made { IfOk result (λ s. s ≡ record { held = []; room = room; failing = failing.items; puts = 0; faults = 0 }) }
     {
         let held = Vec::with_capacity(alloc, room)?;
         Ok(MemSink {
@@ -57,11 +69,17 @@ impl MemSink {
 }
 
 impl Sink for MemSink {
-    ghost held = { λ s. Some s.held.items };
+    ghost held = { λ s. Some s.held };
 
-    ghost faults = { λ s. s.failed };
+    ghost faults = { λ s. s.faults };
 
-    fn put(&mut self, piece: &[u8]) -> Result<(), Failed> {
+    fn put(&mut self, piece: &[u8]) -> Result<(), Failed>
+        ensures bytes { PutAppends (Some self.old.held) (Some self.new.held) result piece.now }
+        ensures cause { HasCause self.old.faults self.new.faults result }
+        ensures fails { IsErr result ↔ IsTrue (is_refused self.old (length piece.now)) }
+        ensures nothing { OnErr result (self.new.held ≡ self.old.held) }
+        ensures counts { self.new ≡ record self.old { held = self.new.held; puts = next_number self.old.puts; faults = faults_after result self.old.faults } }
+    {
         self.puts = self.puts.saturating_add(1);
         if self.failing.contains(&self.puts) || piece.len() > self.room - self.held.len() {
             self.failed = self.failed.saturating_add(1);
@@ -84,7 +102,8 @@ pub struct StdSink<W> {
 
 impl<W: Write> StdSink<W> {
     pub fn new(writer: W) -> StdSink<W>
-        ensures { ⟦<StdSink<W> as Sink>⟧.faults result ≡ 0 }
+        ensures held { ⟦<StdSink<W> as Sink>⟧.held result ≡ W.contents writer }
+        ensures faults { ⟦<StdSink<W> as Sink>⟧.faults result ≡ 0 }
     {
         StdSink { writer, failed: 0 }
     }

@@ -1,12 +1,14 @@
 //! What bytes are read from.
 
-ghost use Rattle.std.specs.Prelude.{◌≡◌, ◌≤◌, ◌<◌, ◌+◌, ◌^◌, ℕ, List, Option, Some, drop, vec_len};
+ghost use Rattle.std.specs.Prelude.{◌≡◌, ◌↔◌, ℕ, List, Option, Some, IfOk, IsErr, IsTrue, length, option_map};
 ghost use Rattle.std.specs.Io.{ReadsAtMost};
 ghost use Rattle.std.specs.Io.KnownBytes.{ReadConsumes};
+ghost use Rattle.spf_io.specs.Memory.{cut_to, given, faults_after, is_failing, next_number};
 ghost use Rattle.spf_io.specs.Outside.{HasCause};
 
 use crate::memory::Failed;
 use std::io::Read;
+use std::marker::Model;
 
 /// A source of bytes, which counts how often it failed.
 pub trait Source {
@@ -22,7 +24,7 @@ pub trait Source {
         ensures cause { HasCause (faults self.old) (faults self.new) result };
 }
 
-/// A source of these bytes, which tells them.
+/// A source of these bytes, which tells them, and how it will answer.
 #[derive(Debug, Drop)]
 pub struct MemSource {
     bytes: Vec<u8>,
@@ -31,7 +33,17 @@ pub struct MemSource {
     failing: Vec<u64>,
     reads: u64,
     failed: u64,
-    ghost in_range: { at ≤ vec_len bytes },
+}
+
+impl Model for MemSource {
+    ghost use Rattle.std.specs.Prelude.{◌≤◌, drop, vec_len};
+    ghost use Rattle.spf_io.specs.Memory.{MemoryRead};
+
+    ghost Value = { MemoryRead };
+
+    ghost view = { λ s. record { left = drop s.at s.bytes.items; cuts = s.cuts.items; failing = s.failing.items; reads = s.reads; faults = s.failed } };
+
+    ghost invariant = { λ s. s.at ≤ vec_len s.bytes };
 }
 
 impl MemSource {
@@ -40,6 +52,7 @@ impl MemSource {
     pub fn new(bytes: Vec<u8>, cuts: Vec<usize>, failing: Vec<u64>) -> MemSource
         ensures left { ⟦<MemSource as Source>⟧.left result ≡ Some bytes.items }
         ensures faults { ⟦<MemSource as Source>⟧.faults result ≡ 0 }
+        ensures made { result ≡ record { left = bytes.items; cuts = cuts.items; failing = failing.items; reads = 0; faults = 0 } }
     {
         MemSource {
             bytes,
@@ -52,22 +65,36 @@ impl MemSource {
     }
 }
 
+/// So many bytes, or the cut of a read where that is less.
+fn within(cut: Option<&usize>, n: usize) -> usize
+    ensures { result ≡ cut_to (option_map (λ c. c.now) cut.entry) n }
+{
+    match cut {
+        None => n,
+        Some(cut) => n.min((*cut).max(1)),
+    }
+}
+
 impl Source for MemSource {
-    ghost left = { λ s. Some (drop s.at s.bytes.items) };
+    ghost left = { λ s. Some s.left };
 
-    ghost faults = { λ s. s.failed };
+    ghost faults = { λ s. s.faults };
 
-    fn read(&mut self, buf: &mut [u8]) -> Result<usize, Failed> {
+    fn read(&mut self, buf: &mut [u8]) -> Result<usize, Failed>
+        ensures bound { ReadsAtMost result buf.new }
+        ensures bytes { ReadConsumes (Some self.old.left) (Some self.new.left) result buf.new }
+        ensures cause { HasCause self.old.faults self.new.faults result }
+        ensures fails { IsErr result ↔ IsTrue (is_failing self.old.failing (next_number self.old.reads)) }
+        ensures gives { IfOk result (λ n. n ≡ given self.old (length buf.old)) }
+        ensures counts { self.new ≡ record self.old { left = self.new.left; reads = next_number self.old.reads; faults = faults_after result self.old.faults } }
+    {
         self.reads = self.reads.saturating_add(1);
         if self.failing.contains(&self.reads) {
             self.failed = self.failed.saturating_add(1);
             return Err(Failed);
         }
-        let mut cut = usize::MAX;
-        if self.reads <= self.cuts.len() as u64 {
-            cut = self.cuts[(self.reads - 1) as usize];
-        }
-        let n = buf.len().min(self.bytes.len() - self.at).min(cut.max(1));
+        let room = buf.len().min(self.bytes.len() - self.at);
+        let n = within(self.cuts.get((self.reads - 1) as usize), room);
         buf[..n].copy_from_slice(&self.bytes[self.at..self.at + n]);
         self.at += n;
         Ok(n)
@@ -83,7 +110,8 @@ pub struct StdSource<R> {
 
 impl<R: Read> StdSource<R> {
     pub fn new(reader: R) -> StdSource<R>
-        ensures { ⟦<StdSource<R> as Source>⟧.faults result ≡ 0 }
+        ensures left { ⟦<StdSource<R> as Source>⟧.left result ≡ R.remaining reader }
+        ensures faults { ⟦<StdSource<R> as Source>⟧.faults result ≡ 0 }
     {
         StdSource { reader, failed: 0 }
     }
