@@ -10,21 +10,21 @@ use crate::trust_domain::TrustDomain;
 use std::cmp::Ordering;
 
 /// Two trust domains are equal exactly where their names are.
-fn is_same_domain(a: &TrustDomain, b: &TrustDomain) -> bool
+pub fn is_same_domain(a: &TrustDomain, b: &TrustDomain) -> bool
     ensures { IsTrue result ↔ (a.now ≡ b.now) }
 {
     *a == *b
 }
 
 /// Trust domains are in the order of their names.
-fn domain_order(a: &TrustDomain, b: &TrustDomain) -> Ordering
+pub fn domain_order(a: &TrustDomain, b: &TrustDomain) -> Ordering
     ensures { result ≡ slice_cmp nat_cmp a.now b.now }
 {
     a.cmp(b)
 }
 
 /// Two IDs are equal exactly where their texts are, and then their parts are too.
-fn is_same_id(a: &SpiffeId, b: &SpiffeId) -> bool
+pub fn is_same_id(a: &SpiffeId, b: &SpiffeId) -> bool
     ensures parts { IsTrue result ↔ (a.now ≡ b.now) }
     ensures text { IsTrue result ↔ (id_text a.now ≡ id_text b.now) }
 {
@@ -34,7 +34,7 @@ fn is_same_id(a: &SpiffeId, b: &SpiffeId) -> bool
 }
 
 /// IDs are in the order of their texts.
-fn id_order(a: &SpiffeId, b: &SpiffeId) -> Ordering
+pub fn id_order(a: &SpiffeId, b: &SpiffeId) -> Ordering
     ensures { result ≡ slice_cmp nat_cmp (id_text a.now) (id_text b.now) }
 {
     let _a = a.as_str();

@@ -2,7 +2,7 @@
 #![tactic(auto)]
 
 mod error;
-mod laws;
+pub mod laws;
 mod path;
 mod separator;
 mod spiffe_id;
