@@ -4,3 +4,12 @@ pub mod Shorter
 pub mod NameWalk
 pub mod Unique
 pub mod WrittenTimes
+pub mod Values
+pub mod Pieces
+pub mod Certificates
+pub mod Texts
+pub mod Exact
+pub mod Keys
+pub mod WrittenTexts
+pub mod Rows
+pub mod ExtensionTexts

@@ -4,7 +4,7 @@ use Rattle.std.proofs.lemmas.Bool.Decides.{nat_tests}
 use Rattle.std.specs.Prelude.{bit_and}
 use Rattle.spf_der.proofs.Steps.{chosen, bind_some, pair_parts, triple_parts}
 use Rattle.spf_der.specs.Option.{◌>>=◌}
-use Rattle.spf_der.specs.Value.{length_at, long_length_at, one_octet, two_octets, three_octets, four_octets, contents_at, value_at}
+use Rattle.spf_der.specs.Value.{length_at, long_length_at, contents_at, value_at}
 
 long_length_leaves : (n : ℕ) (bytes : List ℕ) (m : ℕ) (rest : List ℕ) → long_length_at n bytes ≡ Some (m, rest) → length rest ≤ length bytes
 unfolding long_length_at

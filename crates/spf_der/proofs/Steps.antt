@@ -1,5 +1,5 @@
 -- What a step that found something says.
-use Rattle.std.proofs.Common.{◌≡◌, ◌⊎◌, inl, inr, Bool, true, false, cond, Option, Some, None, refl, ap, unwrap_or}
+use Rattle.std.proofs.Common.{◌≡◌, ◌⊎◌, inl, inr, Bool, true, false, cond, Option, Some, None, refl, ap, unwrap_or, ◌&&◌}
 use Rattle.spf_der.specs.Option.{◌>>=◌}
 
 -- which way a test went
@@ -18,3 +18,17 @@ pair_parts {A} {B} x y e = let p = ap (λ (o : Option (A × B)). unwrap_or o x) 
 
 pub triple_parts : {A B C : Type 0} (x y : A × B × C) → Some x ≡ Some y → (x.0 ≡ y.0) × (x.1 ≡ y.1) × (x.2 ≡ y.2)
 triple_parts {A} {B} {C} x y e = let p = ap (λ (o : Option (A × B × C)). unwrap_or o x) e in (ap (λ (z : A × B × C). z.0) p, ap (λ (z : A × B × C). z.1) p, ap (λ (z : A × B × C). z.2) p)
+
+-- a test that had to pass, and one that had to fail
+pub passed : {A : Type 0} (b : Bool) (x y : A) → cond b (Some x) None ≡ Some y → (b ≡ true) × (x ≡ y)
+passed {A} true x y e = (refl, ap (λ (o : Option A). unwrap_or o x) e)
+passed false x y e = cc
+
+pub failed : {A : Type 0} (b : Bool) (x y : A) → cond b None (Some x) ≡ Some y → (b ≡ false) × (x ≡ y)
+failed true x y e = cc
+failed {A} false x y e = (refl, ap (λ (o : Option A). unwrap_or o x) e)
+
+-- two tests that both passed
+pub both_true : (a b : Bool) → (a && b) ≡ true → (a ≡ true) × (b ≡ true)
+both_true true b is = (refl, is)
+both_true false b is = cc

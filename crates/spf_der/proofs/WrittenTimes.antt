@@ -1,6 +1,6 @@
 -- What is written of a time is read as that time.
-use Rattle.std.proofs.Common.{◌≡◌, ℕ, suc, ◌+◌, ◌*◌, ◌/◌, ◌%◌, ◌^◌, ◌<◌, ◌≤◌, ◌⊎◌, ⊎_elim, Bool, true, false, cond, List, [], ◌∷◌, Some, nat_le, nat_lt, nat_eq, refl, sym, subst, ap, ◌∙◌, arith, ℤ, pos, negsuc, ◌<ℤ◌, ◌≤ℤ◌}
-use Rattle.std.specs.Prelude.{◌+ℤ◌, ◌*ℤ◌, unsigned_abs}
+use Rattle.std.proofs.Common.{◌≡◌, ℕ, ◌+◌, ◌*◌, ◌/◌, ◌%◌, ◌^◌, ◌<◌, ◌≤◌, ◌⊎◌, ⊎_elim, true, cond, List, Some, nat_le, refl, sym, subst, ap, ◌∙◌, arith, ℤ, pos, negsuc, ◌≤ℤ◌}
+use Rattle.std.specs.Prelude.{unsigned_abs}
 use Rattle.std.proofs.lemmas.Bool.{cases_order, le-leb, lt-ltb, le-ltb}
 use Rattle.std.proofs.lemmas.Bool.Decides.{nat_tests}
 use Rattle.jiff_core.specs.Calendar.{IsCivilDate, day_count, days_from_civil}
@@ -8,10 +8,9 @@ use Rattle.jiff_core.proofs.CalendarLemmas.{day_count-epoch, days_from_civil-day
 use Rattle.jiff_core.proofs.MarchLemmas.{day_count-late}
 use Rattle.jiff_core.proofs.SignedLemmas.{signed_arith}
 use borrow.Author.Differences.{up, down}
-use Rattle.spf_der.specs.Option.{◌>>=◌}
 use Rattle.spf_der.specs.Time.{pair_of, is_day, day_number_of, moment_of, clock_of, utc_time, generalized_time, unix_of}
 use Rattle.spf_der.specs.Value.{value_text}
-use Rattle.spf_der.specs.WrittenTime.{two, utc_text, generalized_text, time_tag, IsTimeText, IsWritable}
+use Rattle.spf_der.specs.WrittenTime.{utc_text, generalized_text, time_tag, IsTimeText, IsWritable}
 
 -- two digits are read as what they spell
 pair_digits : (n : ℕ) → pair_of (48 + n / 10 % 10) (48 + n % 10) ≡ Some (n % 100)
@@ -74,7 +73,7 @@ year_from (negsuc n) m d day civil is =
     let less = day_count-lt_year (negsuc n) m d (pos 1970) 1 1 civil (omega arith) (omega (arith, signed_arith)) in
     absurd (omega (arith, less, day_count-epoch, count_from (negsuc n) m d day is))
 
-day_count-2049 : day_count (pos 2049) 12 31 ≡ 4401172
+pub day_count-2049 : day_count (pos 2049) 12 31 ≡ 4401172
 day_count-2049 = day_count-late (pos 2049) 12049 12 31 refl (omega arith) (omega arith) (omega arith)
 
 -- and before 2050 where it has one of these numbers

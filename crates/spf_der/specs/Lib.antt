@@ -11,3 +11,6 @@ pub mod Names
 pub mod Key
 pub mod WrittenTime
 pub mod Written
+pub mod Grammar
+pub mod ReadsBack
+pub mod ExtensionGrammar

@@ -1,5 +1,5 @@
 -- What is kept of a certificate.
-use Rattle.std.specs.Prelude.{List, ℕ, ℤ}
+use Rattle.std.specs.Prelude.{List, ℤ}
 use Rattle.spf_der.specs.declared.certificate.ExtensionView.{ExtensionView}
 use Rattle.spf_der.specs.declared.certificate.ExtensionPart.{ExtensionPart}
 

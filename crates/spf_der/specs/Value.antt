@@ -1,6 +1,7 @@
 -- Values of DER: a tag octet, the shortest length, and that many contents octets (X.690 sections 8.1 and 10.1).
 use Rattle.std.specs.Prelude.{◌≡◌, ◌≢◌, ℕ, ◌+◌, ◌*◌, ◌/◌, ◌%◌, ◌^◌, ◌<◌, ◌≤◌, List, [], ◌∷◌, ◌++◌, length, take, drop, Option, Some, None, MatchOption, nat_lt, ◌==◌, if◌then◌else◌, bit_and}
 use Rattle.std.specs.Borrow.{Bor}
+use Rattle.std.specs.List.{All}
 use Rattle.std.specs.Option.{option_map}
 use Rattle.spf_der.specs.Option.{◌>>=◌}
 
@@ -26,6 +27,15 @@ pub record Fits (tag : ℕ) (contents : List ℕ) : Type 0 where
 -- the one spelling of a value
 abbrev pub value_text : ℕ → List ℕ → List ℕ
 value_text tag contents = tag ∷ length_octets (length contents) ++ contents
+
+-- the bytes are the value of that tag with these contents
+pub record Value (bytes : List ℕ) (tag : ℕ) (contents : List ℕ) : Type 0 where
+  pub fits : Fits tag contents
+  pub spelled : bytes ≡ value_text tag contents
+
+-- each number is an octet
+abbrev pub IsBytes : List ℕ → Type 0
+IsBytes bytes = All (λ b. b < 256) bytes
 
 -- the octets of a length after the first, which says how many there are
 abbrev pub one_octet : List ℕ → Option (ℕ × List ℕ)

@@ -1,5 +1,5 @@
 -- The times that are written (RFC 5280 section 4.1.2.5).
-use Rattle.std.specs.Prelude.{◌≡◌, ℕ, ◌+◌, ◌*◌, ◌/◌, ◌%◌, List, [], ◌∷◌, Some, nat_lt, if◌then◌else◌, ℤ, pos, unsigned_abs, ◌≤ℤ◌}
+use Rattle.std.specs.Prelude.{◌≡◌, ℕ, ◌+◌, ◌/◌, ◌%◌, List, [], ◌∷◌, Some, nat_lt, if◌then◌else◌, ℤ, pos, unsigned_abs, ◌≤ℤ◌}
 use Rattle.spf_der.specs.Value.{value_text}
 use Rattle.spf_der.specs.Time.{unix_of}
 

@@ -9,6 +9,7 @@ mod certificate;
 mod error;
 mod extensions;
 mod key;
+pub mod laws;
 mod time;
 mod types;
 mod value;

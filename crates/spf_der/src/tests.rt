@@ -201,6 +201,27 @@ fn hostile_certificates(rt: HostRuntime) -> Result<(), Fail> {
     Ok(())
 }
 
+/// ROOT1 whose issuer has 100,000 contents octets 30, lengths adjusted.
+fn long_issuer(alloc: Global) -> Result<Vec<u8>, OutOfMemory> {
+    let mut der = hex(alloc, "30830186ec30830186dd020101300506032b657030830186a0")?;
+    der.extend_from_slice(vec![in alloc; 0x30; 100_000]?.as_slice())?;
+    let after_issuer =
+        "301e170d3730303130313030303030305a170d3730303130313030313634305a3000300a300506032b6570030100300506032b6570030100";
+    der.extend_from_slice(hex(alloc, after_issuer)?.as_slice())?;
+    Ok(der)
+}
+
+#[test]
+fn hostile_long_issuer(rt: HostRuntime) -> Result<(), Fail> {
+    let alloc = rt.alloc();
+    let der = long_issuer(alloc)?;
+    let (parts, length) = read_certificate(alloc, der.as_slice())?;
+    assert_eq!(rt; parts.expiry(), 1000);
+    assert_eq!(rt; length, der.len());
+    assert_eq!(rt; parts.extensions().len(), 0);
+    Ok(())
+}
+
 #[test]
 fn hostile_keys(rt: HostRuntime) -> Result<(), Fail> {
     let alloc = rt.alloc();

@@ -1,4 +1,4 @@
-use Rattle.std.proofs.Common.{sym, ◌∙◌, ap, Err}
+use Rattle.std.proofs.Common.{sym}
 use Rattle.spf_der.proofs.Unique.{unique_more, unique_skip, unique_twice}
 use Rattle.spf_der.proofs.certificate.unique_contents.Goals as goal
 use Rattle.spf_der.proofs.certificate.unique_contents.Goals.{then-eq+else-is_some, else-eq}

@@ -1,4 +1,4 @@
-use Rattle.std.proofs.Common.{◌≡◌, ◌<◌, ◌∙◌, List, ℕ, Option, length, arith, sym, ap}
+use Rattle.std.proofs.Common.{◌<◌, ◌∙◌, List, ℕ, Option, length, arith, sym, ap}
 use Rattle.std.proofs.lemmas.Bool.Decides.{nat_tests}
 use Rattle.std.specs.Borrow.{Bor}
 use Rattle.spf_der.specs.Names.{with_name, uris_left}

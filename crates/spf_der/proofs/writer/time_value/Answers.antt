@@ -1,8 +1,7 @@
-use Rattle.std.proofs.Common.{◌≡◌, ◌∙◌, ◌/◌, ◌<◌, ◌^◌, sym, ap, subst, List, ℕ, pos, w64, arith}
+use Rattle.std.proofs.Common.{◌≡◌, ◌∙◌, ◌/◌, sym, ap, subst, List, ℕ, w64}
 use Rattle.std.specs.Prelude.{unsigned_abs}
 use Rattle.std.proofs.lemmas.Int.{to_z_pos, to_z-of_z}
 use Rattle.std.proofs.lemmas.Result.{IfOk-weaker}
-use mir.Val.{to_z}
 use Rattle.spf_der.specs.WrittenTime.{IsTimeText}
 use Rattle.spf_der.proofs.WrittenTimes.{early_time, late_time, day_fits}
 use Rattle.spf_der.proofs.writer.time_value.Goals as goal
