@@ -44,10 +44,11 @@ all_at_end {V} front (f ∷ es) rises =
     let rises_on : Rises ((front ++ f ∷ []) ++ es) = subst P (sym (append_assoc front (f ∷ []) es)) rises in
     rw (at_end front f es rises) (all_at_end (front ++ f ∷ []) es rises_on ∙ append_assoc front (f ∷ []) es)
 
-abbrev Shared : Type 0
+abbrev pub Shared : Type 0
 Shared = List ℕ × Arc Bundle Global
 
-same_keys : (es : List Shared) → keys_of es ≡ keys_of (map plain_entry es)
+-- the trust domains are seen without sharing
+pub same_keys : (es : List Shared) → keys_of es ≡ keys_of (map plain_entry es)
 same_keys [] = refl
 same_keys (e ∷ es) = ap (λ (ks : List (List ℕ)). e.0 ∷ ks) (same_keys es)
 

@@ -1,7 +1,9 @@
 -- The authorities of a trust domain, and the bundles of several (SPIFFE Trust Domain and Bundle section 4).
-use Rattle.std.specs.Prelude.{◌≡◌, ◌<◌, ℕ, length, take, map, Bool, ◌&&◌, nat_eq, List, [], ◌∷◌, Option, Some, None, if◌then◌else◌}
+use Rattle.std.specs.Prelude.{◌≡◌, ◌≢◌, ◌<◌, ℕ, length, take, map, Bool, ◌&&◌, nat_eq, List, [], ◌∷◌, Option, Some, None, if◌then◌else◌}
 use Rattle.std.specs.Ordering.{match_ordering, nat_cmp}
 use Rattle.std.specs.Cmp.Lexicographic.{pointwise, slice_cmp}
+use Rattle.std.specs.List.Sorted.{IsStrictlySortedBy}
+use Rattle.std.specs.Map.{keys_of}
 use Rattle.std.specs.Str.{bytes_eq}
 use Rattle.std.specs.Arc.{arc_value}
 use Rattle.std.specs.declared.sync.Arc.{Arc}
@@ -50,3 +52,11 @@ pub record HoldsFront (old : List (List ℕ × Bundle)) (bundles : List Bundle) 
 abbrev pub find_entry : {V : Type 0} → List ℕ → List (List ℕ × V) → Option V
 find_entry k [] = None
 find_entry k (e ∷ es) = if bytes_eq k e.0 then Some e.1 else find_entry k es
+
+-- each trust domain stands before those after it in the order of their bytes, so none stands twice
+abbrev pub IsInDomainOrder : {V : Type 0} → List (List ℕ × V) → Type 0
+IsInDomainOrder es = IsStrictlySortedBy (slice_cmp nat_cmp) (keys_of es)
+
+-- each other trust domain has the bundle that it had
+abbrev pub KeepsOthers : List ℕ → List (List ℕ × Bundle) → List (List ℕ × Bundle) → Type 0
+KeepsOthers changed old new = (domain : List ℕ) → domain ≢ changed → find_entry domain new ≡ find_entry domain old

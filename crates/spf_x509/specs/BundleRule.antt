@@ -1,5 +1,5 @@
 -- How a bundle comes from certificates (SPIFFE Trust Domain and Bundle section 4).
-use Rattle.std.specs.Prelude.{ℕ, List, [], ◌∷◌, ◌++◌, Result, Ok, Err}
+use Rattle.std.specs.Prelude.{ℕ, List, [], ◌∷◌, ◌++◌, Result, Ok}
 use Rattle.spf_io.specs.Rule.{◌>>=◌, broken_as}
 use Rattle.spf_x509.specs.declared.error.CertificateError.{CertificateError}
 use Rattle.spf_x509.specs.declared.error.X509BundleError.{X509BundleError}

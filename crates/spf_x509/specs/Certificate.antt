@@ -1,5 +1,5 @@
 -- A certificate, and the SPIFFE ID that it names (SPIFFE X.509-SVID section 2).
-use Rattle.std.specs.Prelude.{ℕ, List, [], ◌∷◌, length, Option, Some, None, Result, Ok, Err, Bool, not, nat_lt, ◌==◌, if◌then◌else◌, codes}
+use Rattle.std.specs.Prelude.{ℕ, List, [], ◌∷◌, length, Option, Some, None, Result, Ok, Err, not, nat_lt, ◌==◌, if◌then◌else◌, codes}
 use Rattle.spf_io.specs.Rule.{◌>>=◌, broken_as}
 use Rattle.spf_id.specs.Id.{Id}
 use Rattle.spf_id.specs.Rule.{id_rule, has_spiffe_scheme}

@@ -1,9 +1,11 @@
 pub mod Errors
+pub mod Extension
 pub mod Svid
 pub mod Bundle
 pub mod Context
 pub mod Laws
 pub mod Places
+pub mod Bag
 pub mod Order
 pub mod Certificate
 pub mod Key

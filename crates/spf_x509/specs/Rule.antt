@@ -1,5 +1,5 @@
 -- The rules of the certificates of an SVID (SPIFFE X.509-SVID sections 4 and 5).
-use Rattle.std.specs.Prelude.{ℕ, ℤ, List, [], ◌∷◌, length, Option, Some, None, Result, Ok, Err, Bool, not, ◌==◌, if◌then◌else◌, codes}
+use Rattle.std.specs.Prelude.{ℕ, ℤ, List, length, Option, Some, None, Result, Ok, Err, Bool, not, ◌==◌, if◌then◌else◌, codes}
 use Rattle.spf_io.specs.Rule.{◌>>=◌, broken_as}
 use Rattle.spf_id.specs.Id.{Id}
 use Rattle.spf_der.specs.Part.{Parts}

@@ -1,9 +1,9 @@
 //! The bundles of several trust domains.
 
-ghost use Rattle.std.specs.Prelude.{◌≡◌, ◌==◌, [], IfOk, OnErr, OnOk, length};
+ghost use Rattle.std.specs.Prelude.{◌≡◌, ◌==◌, [], IfOk, Some, OnErr, OnOk, length};
 ghost use Rattle.std.specs.Option.{option_map};
 ghost use Rattle.std.specs.Arc.{arc_value};
-ghost use Rattle.spf_x509.specs.Bundle.{HoldsFront, find_entry, with_bundles, with_entry};
+ghost use Rattle.spf_x509.specs.Bundle.{HoldsFront, IsInDomainOrder, KeepsOthers, find_entry, with_bundles, with_entry};
 
 use crate::bundle::X509Bundle;
 use crate::source::BundleSource;
@@ -43,6 +43,8 @@ impl X509BundleSet {
     /// Puts the bundle in the place of that of its trust domain.
     pub fn add_bundle(&mut self, bundle: X509Bundle) -> Result<(), OutOfMemory>
         ensures ok { OnOk result (self.new ≡ with_entry self.old bundle.domain bundle) }
+        ensures found { OnOk result (find_entry bundle.domain self.new ≡ Some bundle) }
+        ensures others { OnOk result (KeepsOthers bundle.domain self.old self.new) }
         ensures err { OnErr result (self.new ≡ self.old) }
     {
         let trust_domain = bundle.trust_domain().try_clone(self.alloc)?;
@@ -109,7 +111,8 @@ impl X509BundleSet {
 
     /// The pairs of trust domain and bundle, in the order of the trust domains.
     pub fn iter(&self) -> X509BundleIter<'_>
-        ensures { result ≡ self.now }
+        ensures pairs { result ≡ self.now }
+        ensures order { IsInDomainOrder self.now }
     {
         X509BundleIter {
             inner: self.bundles.iter(),
@@ -138,13 +141,13 @@ impl BundleSource for X509BundleSet {
 
     ghost fits = { λ _ _. Unit {0} };
 
+    ghost answers = { λ set _ domain bundle. bundle ≡ find_entry domain set };
+
     fn bundle_for_trust_domain(
         &self,
         _seen: &mut (),
         trust_domain: &TrustDomain,
-    ) -> Result<Option<Arc<X509Bundle>>, OutOfMemory>
-        ensures { IfOk result (λ o. option_map arc_value o ≡ find_entry trust_domain.now self.now) }
-    {
+    ) -> Result<Option<Arc<X509Bundle>>, OutOfMemory> {
         self.get(trust_domain)
     }
 }

@@ -8,6 +8,7 @@ mod certificate;
 mod context;
 mod error;
 mod extension;
+pub mod laws;
 mod order;
 mod private_key;
 mod source;

@@ -75,6 +75,11 @@ impl Drop for PrivateKey {
 }
 
 impl fmt::Debug for PrivateKey {
+    ghost use Rattle.std.specs.Prelude.{Some};
+    ghost use Rattle.spf_x509.specs.Key.{shown};
+
+    ghost debug_output = { λ k. Some (shown k) };
+
     fn fmt<W: fmt::Write>(&self, f: &mut fmt::Formatter<W>) -> fmt::Result {
         let length = self.der.len();
         write!(f, "PrivateKey {{ len: {length} }}")

@@ -1,4 +1,4 @@
-use Rattle.std.proofs.Common.{◌≡◌, ◌<◌, length, arith}
+use Rattle.std.proofs.Common.{◌<◌, length, arith}
 use Rattle.spf_der.specs.declared.error.X509ParseKind.TheVariants.{InvalidCertificate}
 use Rattle.spf_x509.specs.declared.error.CertificateError.TheVariants.{ParseX509Certificate}
 use Rattle.spf_io.proofs.Many.{many_starts, many_more}

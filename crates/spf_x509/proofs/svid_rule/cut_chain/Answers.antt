@@ -1,4 +1,4 @@
-use Rattle.std.proofs.Common.{◌≡◌, ◌≢◌, ◌<◌, length, map, arith}
+use Rattle.std.proofs.Common.{◌≢◌, ◌<◌, length, map, arith}
 use Rattle.std.proofs.lemmas.List.{map_push, length-map}
 use Rattle.spf_x509.specs.declared.error.CertificateError.TheVariants.{TooManyCertificates}
 use Rattle.spf_x509.specs.Chain.{certificate_text_at, chain_rule, plain_part}

@@ -1,13 +1,11 @@
-use Rattle.std.proofs.Common.{◌≡◌, List, Ok, Err, ◌∷◌, [], ◌++◌, map, ap, sym, ◌∙◌, refl, take}
+use Rattle.std.proofs.Common.{Ok, ◌∷◌, [], ◌++◌}
 use Rattle.std.proofs.lemmas.List.{take_all}
 use Rattle.std.proofs.lemmas.Result.{err_from_is_err_and}
-use Rattle.spf_io.specs.Rule.{◌>>=◌, each}
 use Rattle.spf_io.proofs.Each.{each_more, each_fails, unless}
 use Rattle.spf_x509.specs.declared.svid_rule.ChainPart.{ChainPart}
-use Rattle.spf_x509.specs.Chain.{plain_part}
 use Rattle.spf_x509.specs.Errors.{is_memory_svid}
 use Rattle.spf_x509.specs.Rule.{sign_rule}
-use Rattle.spf_x509.proofs.Chain.{each-map, signers_at}
+use Rattle.spf_x509.proofs.Chain.{signers_at}
 use Rattle.spf_x509.proofs.svid_rule.signing_rules.Goals as goal
 
 pub returns-in_err-signing_rule : goal.returns-in_err-signing_rule

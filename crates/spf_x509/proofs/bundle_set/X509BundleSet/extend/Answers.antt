@@ -1,6 +1,6 @@
-use Rattle.std.proofs.Common.{◌≡◌, ◌<◌, ◌++◌, ◌∷◌, [], length, take, ap, sym, ◌∙◌, append_assoc, length-append, arith}
+use Rattle.std.proofs.Common.{◌≡◌, ◌++◌, ◌∷◌, [], ap, sym, ◌∙◌, append_assoc, arith}
 use Rattle.std.proofs.lemmas.Result.{err_from_is_err_and}
-use Rattle.spf_x509.specs.Bundle.{HoldsFront, with_bundles, with_entry}
+use Rattle.spf_x509.specs.Bundle.{with_entry}
 use Rattle.spf_x509.proofs.Entries.{holds_front, one_more_bundle}
 use Rattle.spf_x509.proofs.bundle_set.X509BundleSet.extend.Goals as goal
 

@@ -1,4 +1,4 @@
-use Rattle.std.proofs.Common.{◌≡◌, ◌∷◌, [], map, ap, sym, ◌∙◌, refl}
+use Rattle.std.proofs.Common.{◌≡◌, [], map, ap, sym, ◌∙◌, refl}
 use Rattle.spf_x509.specs.Bundle.{plain_entry, with_entries}
 use Rattle.spf_x509.proofs.Rising.{again, one_put}
 use Rattle.spf_x509.proofs.bundle_set.X509BundleSet.try_clone.Goals as goal
