@@ -1,13 +1,14 @@
 -- A rule that each member keeps, as a loop applies it.
-use Rattle.std.proofs.Common.{◌≡◌, ℕ, ◌+◌, ◌<◌, ◌≤◌, List, [], ◌∷◌, ◌++◌, length, get_or, take, map, Result, Ok, Err, zero, suc, refl, sym, ap, ◌∙◌, subst, arith}
+use Rattle.std.proofs.Common.{◌≡◌, ℕ, ◌+◌, ◌<◌, ◌≤◌, List, [], ◌∷◌, ◌++◌, length, get_or, take, map, Result, Ok, Err, zero, suc, refl, sym, ap, ◌∙◌, arith}
 use Rattle.std.proofs.lemmas.List.{take_all}
 use Rattle.spf_io.specs.Rule.{◌>>=◌, each}
 use Rattle.spf_io.proofs.Each.{each_more, each_fails}
 use Rattle.spf_api.specs.declared.response.SvidEntryView.{SvidEntryView}
+use Rattle.spf_api.specs.declared.response.BundleEntryView.{BundleEntryView}
 use Rattle.spf_api.specs.Parsed.{kept_by_each}
 
 -- within the list the default does not matter
-get_or_same : {A : Type 0} (xs : List A) (i : ℕ) (d e : A) → i < length xs → get_or xs i d ≡ get_or xs i e
+pub get_or_same : {A : Type 0} (xs : List A) (i : ℕ) (d e : A) → i < length xs → get_or xs i d ≡ get_or xs i e
 get_or_same [] i d e lt = absurd (omega arith)
 get_or_same (x ∷ xs) zero d e lt = refl
 get_or_same (x ∷ xs) (suc i) d e lt = get_or_same xs i d e (omega arith)
@@ -22,7 +23,8 @@ pub kept_more : {A E : Type 0} (rule : A → Result (Unit {0}) E) (xs : List A) 
 kept_more rule xs i d kept lt keeps =
     record { answers = kept.answers ++ tt ∷ []; are = each_more rule xs i (get_or xs i d) kept.answers tt kept.are lt (get_or_same xs i d (get_or xs i d) lt) keeps }
 
-each-map : {A B C E : Type 0} (f : B → Result C E) (g : A → B) (xs : List A) → each f (map g xs) ≡ each (λ x. f (g x)) xs
+-- a rule for what is behind a function
+pub each-map : {A B C E : Type 0} (f : B → Result C E) (g : A → B) (xs : List A) → each f (map g xs) ≡ each (λ x. f (g x)) xs
 each-map f g [] = refl
 each-map f g (x ∷ xs) = ap (λ r. f (g x) >>= λ y. r >>= λ ys. Ok (y ∷ ys)) (each-map f g xs)
 
@@ -47,3 +49,6 @@ no_entry = record {
   bundle = record { ref_ptr = (0, 0); now = [] };
   hint = record { ref_ptr = (0, 0); now = [] };
 }
+
+abbrev pub no_bundle : BundleEntryView
+no_bundle = record { name = record { ref_ptr = (0, 0); now = [] }; bundle = record { ref_ptr = (0, 0); now = [] } }

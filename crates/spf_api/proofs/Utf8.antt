@@ -1,5 +1,5 @@
 -- The test for UTF-8.
-use Rattle.std.proofs.Common.{◌≡◌, ◌⊎◌, true, false, ℕ, List, ⊎_elim}
+use Rattle.std.proofs.Common.{◌≡◌, false, ℕ, List, ⊎_elim}
 use Rattle.std.proofs.lemmas.Bool.{cases_Bool}
 use Rattle.std.proofs.lemmas.Str.{IsUtf8-from_is_utf8}
 use Rattle.std.specs.Str.{IsUtf8, is_utf8}

@@ -1,6 +1,7 @@
 pub mod Errors
 pub mod Layout
 pub mod Parsed
+pub mod Payload
 pub mod Reading
 pub mod Refused
 pub mod Status

@@ -4,6 +4,7 @@
 mod endpoint_error;
 mod error;
 mod jwt_error;
+mod laws;
 mod layout;
 mod link;
 mod owned;

@@ -1,7 +1,8 @@
 //! The payload of each kind of response, both ways.
 
-ghost use Rattle.std.specs.Prelude.{◌≡◌, IfOk};
+ghost use Rattle.std.specs.Prelude.{◌≡◌, IfOk, OnOk};
 ghost use Rattle.std.specs.Option.{option_map};
+ghost use Rattle.spf_api.specs.Payload.{kind_of, HasLayout, Finds, Payload, Appends};
 ghost use Rattle.spf_api.specs.Reading.{bundles_at, IsRead};
 
 use crate::owned;
@@ -27,14 +28,8 @@ fn read_bundles(alloc: Global, payload: &[u8]) -> Result<Option<BundlesResponse>
     Ok(Some(owned::bundles(alloc, views.as_slice())?))
 }
 
-/// The response of that kind that the payload lays out; None where it lays out none. Of validations the contract says
-/// nothing.
 #[tactic(auto, unfolding(crate::specs::Reading::IsRead))]
-pub fn read_payload(
-    alloc: Global,
-    kind: ResponseKind,
-    payload: &[u8],
-) -> Result<Option<Response>, OutOfMemory>
+fn read(alloc: Global, kind: ResponseKind, payload: &[u8]) -> Result<Option<Response>, OutOfMemory>
     ensures { IfOk result (λ o. IsRead kind payload.now o) }
 {
     match kind {
@@ -61,15 +56,36 @@ pub fn read_payload(
     }
 }
 
-/// The payload that lays out the response.
-pub fn write_payload(alloc: Global, response: &Response) -> Result<Vec<u8>, OutOfMemory> {
-    let mut out = Vec::new(alloc);
+/// The response of that kind that the payload lays out; None where it lays out none. Of validations the contract says
+/// nothing.
+pub fn read_payload(
+    alloc: Global,
+    kind: ResponseKind,
+    payload: &[u8],
+) -> Result<Option<Response>, OutOfMemory>
+    ensures exact { IfOk result (λ o. IsRead kind payload.now o) }
+    ensures laid { IfOk result (λ o. HasLayout kind → Finds kind payload.now o) }
+{
+    read(alloc, kind, payload)
+}
+
+fn put_response(out: &mut Vec<u8>, response: &Response) -> Result<(), OutOfMemory>
+    ensures { OnOk result (HasLayout (kind_of response.now) → Appends response.now out.old.items out.new.items) }
+{
     match response {
-        Response::Context(context) => put_context(&mut out, context)?,
-        Response::Bundles(bundles) => put_bundle_entries(&mut out, bundles.bundles.as_slice())?,
-        Response::JwtSvids(svids) => put_jwt_svid_entries(&mut out, svids.svids.as_slice())?,
-        Response::JwtBundles(bundles) => put_bundle_entries(&mut out, bundles.bundles.as_slice())?,
-        Response::Validation(validation) => put_validation(&mut out, validation)?,
+        Response::Context(context) => put_context(out, context),
+        Response::Bundles(bundles) => put_bundle_entries(out, bundles.bundles.as_slice()),
+        Response::JwtSvids(svids) => put_jwt_svid_entries(out, svids.svids.as_slice()),
+        Response::JwtBundles(bundles) => put_bundle_entries(out, bundles.bundles.as_slice()),
+        Response::Validation(validation) => put_validation(out, validation),
     }
+}
+
+/// The payload that lays out the response.
+pub fn write_payload(alloc: Global, response: &Response) -> Result<Vec<u8>, OutOfMemory>
+    ensures { IfOk result (λ v. HasLayout (kind_of response.now) → Payload (kind_of response.now) v.items response.now) }
+{
+    let mut out = Vec::new(alloc);
+    put_response(&mut out, response)?;
     Ok(out)
 }

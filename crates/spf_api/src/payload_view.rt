@@ -3,6 +3,9 @@
 ghost use Rattle.std.specs.Prelude.{◌≡◌, map, All, IfOk, IfSome};
 ghost use Rattle.std.specs.Option.{option_map};
 ghost use Rattle.spf_api.specs.Views.{svid_entry_of, bundle_entry_of, octets_of, context_of, HasTexts, IsNamed, IsTextual};
+ghost use Rattle.spf_api.specs.Payload.{Finds};
+ghost use Rattle.spf_api.specs.declared.response.Response.TheVariants as response;
+ghost use Rattle.spf_api.specs.declared.response.ResponseKind.TheVariants as kind;
 ghost use Rattle.spf_api.specs.Reading.{svid_entry_at, bundle_entry_at, byte_field_at, list_at, context_at};
 
 use crate::layout::{byte_field, number, text_field};
@@ -105,12 +108,8 @@ fn byte_fields<'a>(
     Ok(Some((fields, rest)))
 }
 
-/// The context response that the payload lays out, as slices of it; None where it lays out none. The texts are UTF-8.
 #[tactic(auto, unfolding(crate::specs::Reading::context_at))]
-pub fn read_context_view<'a>(
-    alloc: Global,
-    payload: &'a [u8],
-) -> Result<Option<ContextView<'a>>, OutOfMemory>
+fn context<'a>(alloc: Global, payload: &'a [u8]) -> Result<Option<ContextView<'a>>, OutOfMemory>
     ensures exact { IfOk result (λ o. option_map context_of o ≡ context_at payload.now) }
     ensures texts { IfOk result (λ o. IfSome o IsTextual) }
 {
@@ -131,4 +130,16 @@ pub fn read_context_view<'a>(
         federated: List::new(federated),
         crls: List::new(crls),
     }))
+}
+
+/// The context response that the payload lays out, as slices of it; None where it lays out none. The texts are UTF-8.
+pub fn read_context_view<'a>(
+    alloc: Global,
+    payload: &'a [u8],
+) -> Result<Option<ContextView<'a>>, OutOfMemory>
+    ensures exact { IfOk result (λ o. option_map context_of o ≡ context_at payload.now) }
+    ensures texts { IfOk result (λ o. IfSome o IsTextual) }
+    ensures laid { IfOk result (λ o. Finds kind.Context payload.now (option_map response.Context (option_map context_of o))) }
+{
+    context(alloc, payload)
 }

@@ -1,11 +1,14 @@
 //! What a response means: its SVIDs, bundles and CRLs, or the first rule that it breaks.
 
-ghost use Rattle.std.specs.Prelude.{◌≡◌, Err, map, length, All, IfOk, MatchBool, MatchResult};
+ghost use Rattle.std.specs.Prelude.{◌≡◌, map, All, IfOk, MatchBool};
+ghost use Rattle.std.specs.Arc.{arc_value};
 ghost use Rattle.std.specs.Str.{IsUtf8};
-ghost use Rattle.spf_io.specs.Rule.{Gives};
+ghost use Rattle.spf_io.specs.Rule.{Gives, each};
+ghost use Rattle.spf_x509.specs.Bundle.{with_bundles};
 ghost use Rattle.spf_api.specs.Errors.{is_memory_api};
-ghost use Rattle.spf_api.specs.Views.{svid_entry_of, octets_of, context_of, HasTexts, IsNamed, IsTextual};
+ghost use Rattle.spf_api.specs.Views.{svid_entry_of, bundle_entry_of, context_of, HasTexts, IsNamed, IsTextual};
 ghost use Rattle.spf_api.specs.Parsed.{required, bundle_required, fields_required, kept_by_each, entries_rule, hint_rule};
+ghost use Rattle.spf_api.specs.Parsed.{material_of, named_bundle_of, svids_in, brought_to, read_as, parsed_of, svids_of, first_svid_of, bundle_set_of};
 
 use crate::error::WorkloadApiError;
 use crate::owned::{byte_fields, text};
@@ -96,11 +99,13 @@ fn hint_of(alloc: Global, hint: &[u8]) -> Result<Option<Text>, OutOfMemory>
 }
 
 /// The SVID of an entry, and the bundle of its trust domain.
+#[tactic(auto, unfolding(crate::specs::Parsed::material_of, crate::specs::Parsed::svid_of_entry, crate::specs::Parsed::bundle_for))]
 fn material(
     alloc: Global,
     entry: &SvidEntryView<'_>,
 ) -> Result<(X509Svid, X509Bundle), WorkloadApiError>
     requires { HasTexts entry.now }
+    ensures { Gives is_memory_api (λ m. (m.0, m.1)) result (material_of (svid_entry_of entry.now)) }
 {
     let hint = hint_of(alloc, entry.hint)?;
     let svid = X509Svid::parse_from_der_with_hint(
@@ -115,7 +120,10 @@ fn material(
 }
 
 /// The bundle that stands under that name.
-fn named_bundle(alloc: Global, name: &str, bundle: &[u8]) -> Result<X509Bundle, WorkloadApiError> {
+#[tactic(auto, unfolding(crate::specs::Parsed::named_bundle_of, crate::specs::Parsed::bundle_for))]
+fn named_bundle(alloc: Global, name: &str, bundle: &[u8]) -> Result<X509Bundle, WorkloadApiError>
+    ensures { Gives is_memory_api (λ b. b) result (named_bundle_of (record { name = name.now; bundle = bundle.now })) }
+{
     let trust_domain = TrustDomain::new(alloc, name)?;
     Ok(X509Bundle::parse_from_der(alloc, trust_domain, bundle)?)
 }
@@ -125,6 +133,7 @@ fn federated_bundle(
     entry: &BundleEntryView<'_>,
 ) -> Result<X509Bundle, WorkloadApiError>
     requires { IsNamed entry.now }
+    ensures { Gives is_memory_api (λ b. b) result (named_bundle_of (bundle_entry_of entry.now)) }
 {
     let name = unsafe { str::from_utf8_unchecked(entry.name) };
     named_bundle(alloc, name, entry.bundle)
@@ -137,7 +146,7 @@ fn shared_svids(
     bundles: &mut X509BundleSet,
 ) -> Result<Vec<Arc<X509Svid>>, WorkloadApiError>
     requires { All HasTexts entries.now }
-    ensures { IfOk result (λ v. length v.items ≡ length entries.now) }
+    ensures { Gives is_memory_api (λ v. (map arc_value v.items, bundles.new)) result (read_as (brought_to bundles.old) (each material_of (map svid_entry_of entries.now))) }
 {
     let mut svids = Vec::new(alloc);
     for entry in entries {
@@ -154,24 +163,24 @@ fn add_federated(
     bundles: &mut X509BundleSet,
 ) -> Result<(), WorkloadApiError>
     requires { All IsNamed entries.now }
+    ensures { Gives is_memory_api (λ _. bundles.new) result (read_as (with_bundles bundles.old) (each named_bundle_of (map bundle_entry_of entries.now))) }
 {
     for entry in entries {
-        bundles.add_bundle(federated_bundle(alloc, entry)?)?;
+        let bundle = federated_bundle(alloc, entry)?;
+        bundles.add_bundle(bundle)?;
     }
     Ok(())
 }
 
 /// The context of the response that the view holds. A later bundle of a trust domain replaces an earlier one. Each
 /// certificate is copied once.
+#[tactic(auto, unfolding(crate::specs::Parsed::parsed_of, crate::specs::Parsed::materials_of))]
 pub fn context_from_view(
     alloc: Global,
     view: &ContextView<'_>,
 ) -> Result<X509Context, WorkloadApiError>
     requires { IsTextual view.now }
-    // Where a field is missing, that is the answer.
-    ensures fields { MatchResult (entries_rule (context_of view.now).svids) (λ _. Unit {0}) (λ e. Gives is_memory_api (λ c. c) result (Err e)) }
-    ensures svids { IfOk result (λ c. length c.svids ≡ length view.now.svids) }
-    ensures crls { IfOk result (λ c. c.crls ≡ (context_of view.now).crls) }
+    ensures { Gives is_memory_api (λ c. c) result (parsed_of (context_of view.now)) }
 {
     let entries = view.svids.as_slice();
     check_entries(alloc, entries)?;
@@ -184,9 +193,7 @@ pub fn context_from_view(
 
 /// The context of the response.
 pub fn context_from(alloc: Global, r: &ContextResponse) -> Result<X509Context, WorkloadApiError>
-    ensures fields { MatchResult (entries_rule r.now.svids) (λ _. Unit {0}) (λ e. Gives is_memory_api (λ c. c) result (Err e)) }
-    ensures svids { IfOk result (λ c. length c.svids ≡ length r.now.svids) }
-    ensures crls { IfOk result (λ c. c.crls ≡ r.now.crls) }
+    ensures { Gives is_memory_api (λ c. c) result (parsed_of r.now) }
 {
     let view = views::context(alloc, r)?;
     context_from_view(alloc, &view)
@@ -198,7 +205,7 @@ fn owned_svids(
     entries: &[SvidEntryView<'_>],
 ) -> Result<Vec<X509Svid>, WorkloadApiError>
     requires { All HasTexts entries.now }
-    ensures { IfOk result (λ v. length v.items ≡ length entries.now) }
+    ensures { Gives is_memory_api (λ v. v.items) result (read_as svids_in (each material_of (map svid_entry_of entries.now))) }
 {
     let mut svids = Vec::new(alloc);
     for entry in entries {
@@ -209,9 +216,9 @@ fn owned_svids(
 }
 
 /// The SVIDs of the response in order. Its federated entries are not looked at.
+#[tactic(auto, unfolding(crate::specs::Parsed::svids_of, crate::specs::Parsed::materials_of))]
 pub fn svids_from(alloc: Global, r: &ContextResponse) -> Result<Vec<X509Svid>, WorkloadApiError>
-    ensures fields { MatchResult (entries_rule r.now.svids) (λ _. Unit {0}) (λ e. Gives is_memory_api (λ v. v.items) result (Err e)) }
-    ensures svids { IfOk result (λ v. length v.items ≡ length r.now.svids) }
+    ensures { Gives is_memory_api (λ v. v.items) result (svids_of r.now) }
 {
     let entries = views::svid_entries(alloc, r.svids.as_slice())?;
     check_entries(alloc, entries.as_slice())?;
@@ -219,8 +226,9 @@ pub fn svids_from(alloc: Global, r: &ContextResponse) -> Result<Vec<X509Svid>, W
 }
 
 /// The first SVID of the response, all of whose SVIDs are read.
+#[tactic(auto, unfolding(crate::specs::Parsed::first_svid_of))]
 pub fn svid_from(alloc: Global, r: &ContextResponse) -> Result<X509Svid, WorkloadApiError>
-    ensures { MatchResult (entries_rule r.now.svids) (λ _. Unit {0}) (λ e. Gives is_memory_api (λ s. s) result (Err e)) }
+    ensures { Gives is_memory_api (λ s. s) result (first_svid_of r.now) }
 {
     let svids = svids_from(alloc, r)?;
     match svids.into_iter().next() {
@@ -230,10 +238,13 @@ pub fn svid_from(alloc: Global, r: &ContextResponse) -> Result<X509Svid, Workloa
 }
 
 /// The bundles of the response, added in order.
+#[tactic(auto, unfolding(crate::specs::Parsed::bundle_set_of))]
 pub fn bundle_set_from(
     alloc: Global,
     r: &BundlesResponse,
-) -> Result<X509BundleSet, WorkloadApiError> {
+) -> Result<X509BundleSet, WorkloadApiError>
+    ensures { Gives is_memory_api (λ b. b) result (bundle_set_of r.now) }
+{
     let entries = r.bundles.as_slice();
     if entries.is_empty() {
         return Err(missing(alloc, "X509BundlesResponse.bundles"));

@@ -16,6 +16,15 @@ fn lays_out(alloc: Global, kind: ResponseKind, payload: &[u8]) -> Result<bool, F
     Ok(read_payload(alloc, kind, payload)?.is_some())
 }
 
+/// Whether the payload gives the first item.
+fn gives_first_item(alloc: Global, payload: &[u8]) -> Result<bool, Fail> {
+    let item = first_item(alloc)?;
+    match read_payload(alloc, ResponseKind::Context, payload)? {
+        Some(Response::Context(found)) => Ok(found == item),
+        _ => Ok(false),
+    }
+}
+
 /// Whether what the payload lays out is written as the same payload.
 fn is_written_again(alloc: Global, kind: ResponseKind, payload: &[u8]) -> Result<bool, Fail> {
     match read_payload(alloc, kind, payload)? {
@@ -29,6 +38,7 @@ fn payload(rt: HostRuntime) -> Result<(), Fail> {
     let alloc = rt.alloc();
     let mut bytes = first_payload(alloc)?;
     assert_eq!(rt; bytes.len(), 282);
+    assert!(rt; gives_first_item(alloc, bytes.as_slice())?);
     assert!(rt; is_written_again(alloc, ResponseKind::Context, bytes.as_slice())?);
     bytes.truncate(281);
     assert!(rt; !lays_out(alloc, ResponseKind::Context, bytes.as_slice())?);

@@ -1,4 +1,4 @@
-use Rattle.std.proofs.Common.{◌≡◌, ◌∙◌, codes}
+use Rattle.std.proofs.Common.{◌∙◌, codes}
 use Rattle.spf_api.proofs.Holds.{is_some-find}
 use Rattle.spf_api.proofs.error.tells_no_identity.Goals as goal
 

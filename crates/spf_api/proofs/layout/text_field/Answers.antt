@@ -1,4 +1,4 @@
-use Rattle.std.proofs.Common.{◌≡◌, Some, None, refl, sym}
+use Rattle.std.proofs.Common.{refl}
 use Rattle.std.proofs.lemmas.Str.{is_utf8-from_IsUtf8}
 use Rattle.spf_api.specs.Reading.{text_field_at}
 use Rattle.spf_api.proofs.Utf8.{is_utf8-false}

@@ -1,7 +1,6 @@
+use Rattle.std.proofs.Common.{arith}
+use Rattle.spf_api.proofs.Payloads.{context_finds_ok}
 use Rattle.spf_api.proofs.payload_view.read_context_view.Goals as goal
 
-pub returns-clause-texts : goal.returns-clause-texts
-returns-clause-texts c = record {
-  svids = rw c.new.ensures (rw c.in-Some.is at c.in_ok-svids.ensures.texts);
-  federated = rw c.new-2.ensures (rw c.in-Some-2.is at c.in_ok-federated.ensures.texts);
-}
+pub returns-clause-laid : goal.returns-clause-laid
+returns-clause-laid c = context_finds_ok c.args.payload.now c.context.result (λ i. omega (arith, c.type_inv.payload i)) c.context.ensures.exact

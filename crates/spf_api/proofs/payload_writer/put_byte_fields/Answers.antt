@@ -1,4 +1,4 @@
-use Rattle.std.proofs.Common.{length, ◌≡◌, ◌∙◌, sym, ap, append_assoc, ◌++◌, List, ℕ, subst, arith}
+use Rattle.std.proofs.Common.{length, ◌∙◌, ap, ◌++◌, List, ℕ, subst, arith}
 use Rattle.std.specs.Int.{w32, to_be_bytes}
 use Rattle.spf_api.specs.Layout.{field_text, IsShort, list_text}
 use Rattle.spf_api.proofs.Laid.{laid_more, laid_list, laid_octets}

@@ -1,4 +1,4 @@
-use Rattle.std.proofs.Common.{length, ◌≡◌, ◌∙◌, sym, ap, append_assoc, ◌++◌, List, ℕ, arith}
+use Rattle.std.proofs.Common.{length, arith}
 use Rattle.std.specs.Int.{w32, to_be_bytes}
 use Rattle.spf_api.specs.Layout.{jwt_svid_entry_text, IsJwtSvidEntry, list_text}
 use Rattle.spf_api.proofs.Laid.{laid_more, laid_list, laid_octets}

@@ -1,5 +1,9 @@
-use Rattle.std.proofs.Common.{◌≡◌, vec_len}
+use Rattle.std.proofs.Common.{map, take}
+use Rattle.std.specs.Arc.{arc_value}
+use Rattle.spf_api.specs.Views.{svid_entry_of}
+use Rattle.spf_api.specs.Parsed.{material_of}
+use Rattle.spf_api.proofs.Added.{Placed}
 use Rattle.spf_api.proofs.response_rule.shared_svids.Given as goal
 
 abbrev pub invariant-loop-entry : goal.invariant-loop-entry
-invariant-loop-entry l = vec_len l.svids ≡ l.entry-index
+invariant-loop-entry l = Placed (λ v. material_of (svid_entry_of v)) (take l.entry-index l.entries) (map arc_value l.svids.items) l.initial.bundles l.bundles
