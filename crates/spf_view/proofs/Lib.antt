@@ -1,0 +1,13 @@
+pub mod Known
+pub mod ViewLemmas
+pub mod HeldLemmas
+pub mod RevisionLemmas
+pub mod StandsLemmas
+pub mod AfterLemmas
+pub mod EventLemmas
+pub mod FrameLemmas
+pub mod SessionLemmas
+pub mod AllSteps
+pub mod FollowLemmas
+mod Rows
+pub mod KeepingLemmas
