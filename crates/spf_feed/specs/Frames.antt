@@ -1,7 +1,8 @@
 -- Frames: a kind octet, four octets of length, and so many octets.
-use Rattle.std.specs.Prelude.{◌≡◌, ◌≢◌, ℕ, ◌≤◌, ◌^◌, Bool, false, ◌==◌, ◌||◌, IsTrue, List, [], ◌∷◌, ◌++◌, length, Option, None, Some, IfSome, Result, Ok, Err}
+use Rattle.std.specs.Prelude.{◌≡◌, ◌≢◌, ℕ, Bool, false, ◌==◌, ◌||◌, IsTrue, List, [], ◌∷◌, ◌++◌, Option, None, Some, IfSome, Result, Ok, Err}
 use Rattle.std.specs.Io.KnownBytes.{Consumes, IsAtEnd}
-use Rattle.std.specs.Int.{w32, to_be_bytes}
+unfoldable pub use Rattle.spf_view.specs.Frames.{sized}
+pub use Rattle.spf_view.specs.Frames.{IsShort, raw_text}
 use Rattle.spf_feed.specs.declared.frame.Phase.{Phase}
 use Rattle.spf_feed.specs.declared.frame.Phase.TheVariants as phases
 use Rattle.spf_feed.specs.declared.frame.RawFrame.{RawFrame}
@@ -14,16 +15,6 @@ abbrev pub allows : Phase → ℕ → Bool
 allows phases.Client kind = kind == 1 || kind == 2 || kind == 8 || kind == 9
 allows phases.Connect kind = kind == 3 || kind == 4 || kind == 8 || kind == 9
 allows phases.Next kind = kind == 5 || kind == 6 || kind == 7 || kind == 8 || kind == 9
-
--- four octets of length, and so many octets
-unfoldable pub sized : List ℕ → List ℕ
-sized payload = to_be_bytes w32 (length payload) ++ payload
-
-abbrev pub IsShort : List ℕ → Type 0
-IsShort payload = length payload ≤ 2 ^ 24
-
-abbrev pub raw_text : ℕ → List ℕ → List ℕ
-raw_text kind payload = kind ∷ sized payload
 
 -- no frame of a kind that may stand begins these bytes
 abbrev pub NoFrame : Phase → List ℕ → Type 0

@@ -1,5 +1,5 @@
 -- The texts of lines.
-use Rattle.std.specs.Prelude.{ℕ, ℤ, List, [], ◌∷◌, ◌++◌, slice_get, codes, decimal, Option, None, Some}
+use Rattle.std.specs.Prelude.{ℕ, List, [], ◌∷◌, ◌++◌, slice_get, codes, Option, None, Some}
 use Rattle.std.specs.Fmt.{signed_decimal}
 use Rattle.std.specs.List.{flat_map}
 use Rattle.std.specs.Option.{option_map_or}
@@ -25,11 +25,6 @@ shown_at shown xs place = option_map_or shown (slice_get xs place) []
 abbrev pub choice_text : Option Svid → List ℕ
 choice_text None = codes " - - -"
 choice_text (Some svid) = 32 ∷ id_text svid.id ++ 32 ∷ signed_decimal svid.expiry ++ 32 ∷ hex_list (λ c. c) svid.chain
-
--- the revocation lists in order, where there is one
-abbrev pub crls_text : List (List ℕ) → List ℕ → List ℕ
-crls_text [] places = []
-crls_text (crl ∷ others) places = codes " #" ++ hex_list (shown_at (λ c. c) (crl ∷ others)) places
 
 abbrev pub withdrawn_text : Denial → List ℕ
 withdrawn_text denial.NoIdentityIssued = codes " withdrawn no_identity_issued"

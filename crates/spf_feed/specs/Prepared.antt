@@ -1,19 +1,30 @@
 -- Prepared steps, and what keeps them.
-use Rattle.std.specs.Prelude.{ℕ, ℤ, int_lt, IsTrue, Option, None, Some, if◌then◌else◌, Result, Ok, Err}
+use Rattle.std.specs.Prelude.{ℤ, int_lt, Bool, false, Option, None, Some, if◌then◌else◌}
 use Rattle.std.specs.Arc.{arc_value}
+use Rattle.std.specs.Option.{option_map}
 use Rattle.std.specs.declared.sync.Arc.{Arc}
 use Rattle.std.specs.declared.alloc.Global.{Global}
 use Rattle.spf_x509.specs.Svid.{Svid}
 use Rattle.spf_feed.specs.declared.sorted.Sorted.{Sorted}
-use Rattle.spf_feed.specs.declared.step.Step.{Step}
-use Rattle.spf_feed.specs.declared.step.Step.TheVariants as step
+use Rattle.spf_feed.specs.Sorted.{AreSorted}
+use Rattle.spf_feed.specs.Steps.{PlainStep, Accept, Deny, same_material}
 
--- an Accept has its places, and a Deny has none
-abbrev pub IsPlaced : Step → Option (Arc Sorted Global) → Type 0
-IsPlaced (step.Accept context limits choice) None = ⊥
-IsPlaced (step.Accept context limits choice) (Some places) = Unit {0}
-IsPlaced (step.Deny reason) None = Unit {0}
-IsPlaced (step.Deny reason) (Some places) = ⊥
+-- an Accept has the sorted places of its context, and a Deny has none
+abbrev pub HasPlaces : PlainStep → Option Sorted → Type 0
+HasPlaces (Accept material limits) None = ⊥
+HasPlaces (Accept material limits) (Some places) = AreSorted material.context places
+HasPlaces (Deny reason) None = Unit {0}
+HasPlaces (Deny reason) (Some places) = ⊥
+
+-- the same of places that are shared
+abbrev pub IsPlaced : PlainStep → Option (Arc Sorted Global) → Type 0
+IsPlaced step places = HasPlaces step (option_map arc_value places)
+
+-- both accept, and what they accept is the same
+abbrev pub is_same_step : PlainStep → PlainStep → Bool
+is_same_step (Accept m l) (Accept n k) = same_material m n
+is_same_step (Accept m l) (Deny d) = false
+is_same_step (Deny d) step = false
 
 -- the SVID, where there is a moment and its expiry is above it
 abbrev pub usable : Option Svid → Option ℤ → Option Svid

@@ -3,9 +3,10 @@ use Rattle.std.specs.Prelude.{IsTrue}
 use Rattle.std.specs.Arc.{arc_value}
 use Rattle.spf_feed.specs.declared.snapshot.Standing.{Standing}
 use Rattle.spf_feed.specs.declared.snapshot.Standing.TheVariants as standing
-use Rattle.spf_feed.specs.Steps.{PlainStep, View, Withdrawn, shown_by, is_accept}
+use Rattle.spf_feed.specs.declared.step.Denial.{Denial}
+use Rattle.spf_feed.specs.Steps.{Material, View, Withdrawn, shown_by, is_accept}
 
-abbrev pub view_in : Standing → View
+abbrev pub view_in : Standing → View Material Denial
 view_in (standing.Permitted held) = shown_by held
 view_in (standing.Withdrawn reason) = Withdrawn (arc_value reason)
 

@@ -1,11 +1,18 @@
 //! Following an update stream: its steps, its records and its lines.
 
-ghost use Rattle.std.specs.Prelude.{◌≡◌, false, None, IsTrue, IfErr, OnOk, is_some};
-ghost use Rattle.std.specs.Option.{ForSome};
+ghost use Rattle.std.specs.Prelude.{◌≡◌, ◌∷◌, [], false, None, Ok, Err, IsTrue, IfOk, IfErr, OnOk, List, is_some, if◌then◌else◌};
+ghost use Rattle.std.specs.Option.{ForSome, option_map, option_or};
+ghost use Rattle.spf_view.specs.Sessions.{Followed};
+ghost use Rattle.spf_view.specs.Keeping.{kept_with};
 ghost use Rattle.spf_feed.specs.Parts.{HasFault};
-ghost use Rattle.spf_feed.specs.Steps.{plain, is_accept, HasStep, MayFollow};
-ghost use Rattle.spf_feed.specs.Turns.{MayTake};
-ghost use Rattle.spf_feed.specs.Following.{is_fault, HasFaults, OnlyAllowed};
+ghost use Rattle.spf_feed.specs.Records.{RecordAppends};
+ghost use Rattle.spf_feed.specs.Steps.{plain, is_accept, HasStep, MayFollow, same_material};
+ghost use Rattle.spf_feed.specs.Turns.{MayTake, listed};
+ghost use Rattle.spf_feed.specs.Items.{Event as SessionOf, context_in, Rules, rules_with};
+ghost use Rattle.spf_feed.specs.declared.follow_error.FollowError.TheVariants as answers;
+ghost use Rattle.spf_feed.specs.Received.{received_ask, received_moment, received_close};
+ghost use Rattle.spf_feed.specs.Run.{ask_of, stream, outputs, told, end_for};
+ghost use Rattle.spf_feed.specs.Following.{is_fault, HasFaults, OnlyAllowed, EventRead, HandsOn, IsShownAfter, IsStepTaken, change_of, is_changed, update_of, TurnTaken};
 
 use crate::follow_error::FollowError;
 use crate::frame::{FrameError, Phase, next_frame};
@@ -18,7 +25,7 @@ use crate::ready::Ready;
 use crate::record::{MetricsRecord, MetricsRecorder};
 use crate::snapshot::Snapshot;
 use crate::step::{Publisher, Step};
-use crate::turn::{Records, Setting, Turn, turn_of};
+use crate::turn::{Records, Turn, turn_of};
 use spf_io::{OutOfMemory, Sink, Source};
 use std::alloc::Global;
 use std::sync::Arc;
@@ -33,9 +40,11 @@ fn next_event<S: Source>(
 ) -> Result<Option<Received>, FrameError>
     ensures cause { HasFault (S.faults source.old) (S.faults source.new) result }
     ensures allowed { OnlyAllowed allowed result }
+    ensures bytes { (rules : Rules) (past : List SessionOf) → ask_of context_in rules past ≡ phase → EventRead rules past allowed (S.left source.old) (S.left source.new) result }
 {
-    let Some(kind) = next_frame(source, payload, phase, allowed)? else {
-        return Ok(None);
+    let kind = match next_frame(source, payload, phase, allowed)? {
+        Some(kind) => kind,
+        None => return Ok(None),
     };
     match event_in(alloc, kind, payload.as_slice()) {
         Ok(Some(event)) => Ok(Some(event)),
@@ -45,7 +54,9 @@ fn next_event<S: Source>(
 }
 
 /// What the source is asked for after an event.
-fn phase_after(phase: Phase, begun: bool, event: &Received) -> Phase {
+fn phase_after(phase: Phase, begun: bool, event: &Received) -> Phase
+    ensures { result ≡ received_ask phase begun event.now }
+{
     match event {
         Received::ClientMade => Phase::Connect,
         Received::Connected => Phase::Next,
@@ -55,28 +66,40 @@ fn phase_after(phase: Phase, begun: bool, event: &Received) -> Phase {
     }
 }
 
+fn is_close(event: &Received) -> bool
+    ensures { result ≡ received_close event.now }
+{
+    matches!(event, Received::Close)
+}
+
 /// The last moment after an event.
-fn moment_after(now: Option<i64>, event: &Received) -> Option<i64> {
+fn moment_after(now: Option<i64>, event: &Received) -> Option<i64>
+    ensures { result ≡ option_or (received_moment event.now) now }
+{
     match event {
         Received::Moment(moment) => Some(*moment),
         _ => now,
     }
 }
 
-fn record<M: MetricsRecorder>(recorder: &mut M, record: MetricsRecord) -> Result<(), OutOfMemory> {
-    match record {
+fn record_one<M: MetricsRecorder>(recorder: &mut M, told: MetricsRecord) -> Result<(), OutOfMemory>
+    ensures { RecordAppends (M.records recorder.old) (M.records recorder.new) result told }
+{
+    match told {
         MetricsRecord::Update => recorder.record_update(),
         MetricsRecord::Reconnect => recorder.record_reconnect(),
         MetricsRecord::Error(kind) => recorder.record_error(kind),
     }
 }
 
-fn record_all<M: MetricsRecorder>(recorder: &mut M, records: Records) -> Result<(), OutOfMemory> {
+fn record_all<M: MetricsRecorder>(recorder: &mut M, records: Records) -> Result<(), OutOfMemory>
+    ensures { HandsOn (M.records recorder.old) (M.records recorder.new) result (listed records) }
+{
     if let Some(kind) = records.error {
         recorder.record_error(kind)?;
     }
     if let Some(end) = records.end {
-        record(recorder, end)?;
+        record_one(recorder, end)?;
     }
     Ok(())
 }
@@ -92,7 +115,8 @@ enum Change {
 /// One more step, which opens the snapshot where there is none before it.
 fn take_step(snapshot: &mut Option<Snapshot>, step: Prepared) -> Change
     requires { snapshot.old ≡ None → IsTrue (is_accept step) }
-    ensures { IsTrue (is_some snapshot.new) }
+    ensures change { result ≡ change_of snapshot.old step }
+    ensures kept { snapshot.new ≡ kept_with same_material snapshot.old step }
 {
     match snapshot {
         None => {
@@ -118,12 +142,72 @@ fn publish<P: Publisher>(
 ) -> Result<Change, OutOfMemory>
     requires next { MayFollow (P.steps publisher.old) (plain step) }
     requires first { snapshot.old ≡ None → IsTrue (is_accept (plain step)) }
-    ensures { OnOk result (HasStep (P.steps publisher.new)) }
+    ensures begun { OnOk result (HasStep (P.steps publisher.new)) }
+    ensures steps { HandsOn (P.steps publisher.old) (P.steps publisher.new) result (plain step ∷ []) }
+    ensures change { IfOk result (λ c. c ≡ change_of snapshot.old (plain step)) }
+    ensures kept { OnOk result (snapshot.new ≡ kept_with same_material snapshot.old (plain step)) }
 {
     let published = step.try_clone()?;
     let prepared = Prepared::new(alloc, step)?;
     publisher.publish(published)?;
     Ok(take_step(snapshot, prepared))
+}
+
+/// An update is recorded where something else than before is visible.
+fn record_change<M: MetricsRecorder>(recorder: &mut M, change: Change) -> Result<(), OutOfMemory>
+    ensures { HandsOn (M.records recorder.old) (M.records recorder.new) result (update_of change) }
+{
+    match change {
+        Change::Changed => recorder.record_update(),
+        Change::Opened | Change::Unchanged => Ok(()),
+    }
+}
+
+/// Whether something else than before is visible.
+fn is_change(change: Change) -> bool
+    ensures { result ≡ is_changed change }
+{
+    match change {
+        Change::Opened | Change::Changed => true,
+        Change::Unchanged => false,
+    }
+}
+
+/// An accepted context: its step, and its record.
+fn accept<P: Publisher, M: MetricsRecorder>(
+    alloc: Global,
+    publisher: &mut P,
+    recorder: &mut M,
+    snapshot: &mut Option<Snapshot>,
+    step: Step,
+) -> Result<bool, OutOfMemory>
+    requires next { MayFollow (P.steps publisher.old) (plain step) }
+    requires first { snapshot.old ≡ None → IsTrue (is_accept (plain step)) }
+    ensures begun { OnOk result (HasStep (P.steps publisher.new)) }
+    ensures taken { IsStepTaken (plain step) (update_of (change_of snapshot.old (plain step))) snapshot.old snapshot.new (P.steps publisher.old) (P.steps publisher.new) (M.records recorder.old) (M.records recorder.new) result }
+{
+    let change = publish(alloc, publisher, snapshot, step)?;
+    record_change(recorder, change)?;
+    Ok(is_change(change))
+}
+
+/// A denial: its step, and its records.
+fn deny<P: Publisher, M: MetricsRecorder>(
+    alloc: Global,
+    publisher: &mut P,
+    recorder: &mut M,
+    snapshot: &mut Option<Snapshot>,
+    step: Step,
+    records: Records,
+) -> Result<bool, OutOfMemory>
+    requires next { MayFollow (P.steps publisher.old) (plain step) }
+    requires first { snapshot.old ≡ None → IsTrue (is_accept (plain step)) }
+    ensures begun { OnOk result (HasStep (P.steps publisher.new)) }
+    ensures taken { IsStepTaken (plain step) (listed records) snapshot.old snapshot.new (P.steps publisher.old) (P.steps publisher.new) (M.records recorder.old) (M.records recorder.new) result }
+{
+    let change = publish(alloc, publisher, snapshot, step)?;
+    record_all(recorder, records)?;
+    Ok(is_change(change))
 }
 
 /// Does what an event does, and says whether the snapshot changed.
@@ -139,6 +223,7 @@ fn take<P: Publisher, M: MetricsRecorder>(
     requires begun { IsTrue (is_some snapshot.old) → HasStep (P.steps publisher.old) }
     ensures begun { OnOk result (IsTrue (is_some snapshot.new) → HasStep (P.steps publisher.new)) }
     ensures calm { IfErr result (λ e. is_fault e ≡ false) }
+    ensures turn { TurnTaken limits turn snapshot.old snapshot.new (P.steps publisher.old) (P.steps publisher.new) (M.records recorder.old) (M.records recorder.new) result }
 {
     match turn {
         Turn::Terminal(terminal) => Err(FollowError::from(terminal)),
@@ -150,9 +235,7 @@ fn take<P: Publisher, M: MetricsRecorder>(
             let step = Step::Deny {
                 reason: Arc::new(alloc, reason)?,
             };
-            let change = publish(alloc, publisher, snapshot, step)?;
-            record_all(recorder, records)?;
-            Ok(change != Change::Unchanged)
+            Ok(deny(alloc, publisher, recorder, snapshot, step, records)?)
         }
         Turn::Accepted { context, choice } => {
             let step = Step::Accept {
@@ -160,18 +243,15 @@ fn take<P: Publisher, M: MetricsRecorder>(
                 limits,
                 choice,
             };
-            let change = publish(alloc, publisher, snapshot, step)?;
-            if change == Change::Changed {
-                recorder.record_update()?;
-            }
-            Ok(change != Change::Unchanged)
+            Ok(accept(alloc, publisher, recorder, snapshot, step)?)
         }
     }
 }
 
 /// The answer at the end of the input.
 fn at_end(snapshot: &Option<Snapshot>, count: u64) -> Result<u64, FollowError>
-    ensures { IfErr result (λ e. is_fault e ≡ false) }
+    ensures calm { IfErr result (λ e. is_fault e ≡ false) }
+    ensures answer { result ≡ (if is_some snapshot.now then Ok count else Err answers.NeverSynced) }
 {
     match snapshot {
         Some(_) => Ok(count),
@@ -185,7 +265,9 @@ fn show(
     snapshot: &Option<Snapshot>,
     is_changed: bool,
     now: Option<i64>,
-) -> Result<(), OutOfMemory> {
+) -> Result<(), OutOfMemory>
+    ensures { OnOk result (IsShownAfter line.old line.new snapshot.now is_changed now) }
+{
     match snapshot {
         Some(snapshot) => line.show(snapshot, is_changed, now),
         None => Ok(()),
@@ -208,14 +290,13 @@ pub fn follow_x509<S: Source, K: Sink, P: Publisher, M: MetricsRecorder, C: Svid
 ) -> Result<u64, FollowError>
     requires { ForSome picker (λ p. C.can_pick p.now) }
 
+    // What is read, put, published, recorded and answered belongs to one list of events.
+    ensures followed { Followed (stream (rules_with limits deadline ready (option_map (λ p. C.picks p.now) picker.entry))) (outputs (rules_with limits deadline ready (option_map (λ p. C.picks p.now) picker.entry))) max_frames (S.left source.old) (S.left source.new)
+        (told (K.held sink.old) (P.steps publisher.old) (M.records recorder.old)) (told (K.held sink.new) (P.steps publisher.new) (M.records recorder.new)) (end_for result) }
+
     // A fault comes only where its count rose.
     ensures cause { HasFaults (S.faults source.old) (S.faults source.new) (K.faults sink.old) (K.faults sink.new) result }
 {
-    let setting = Setting {
-        limits,
-        deadline,
-        ready,
-    };
     let mut payload = Vec::new(alloc);
     let mut line = NumberedLine::new(alloc)?;
     let mut snapshot = None;
@@ -232,10 +313,12 @@ pub fn follow_x509<S: Source, K: Sink, P: Publisher, M: MetricsRecorder, C: Svid
             Err(FrameError::OutOfMemory) => return Err(FollowError::OutOfMemory),
         };
         count += 1;
-        let is_close = matches!(event, Received::Close);
-        phase = phase_after(phase, snapshot.is_some(), &event);
-        now = moment_after(now, &event);
-        let turn = turn_of(event, snapshot.is_some(), now, &setting, picker);
+        let is_close = is_close(&event);
+        let begun = snapshot.is_some();
+        phase = phase_after(phase, begun, &event);
+        let moment = moment_after(now, &event);
+        let turn = turn_of(event, begun, now, limits, deadline, ready, picker);
+        now = moment;
         let is_changed = take(alloc, publisher, recorder, &mut snapshot, limits, turn)?;
         show(&mut line, &snapshot, is_changed, now)?;
         match line.put(sink, count) {

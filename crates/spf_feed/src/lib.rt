@@ -5,6 +5,7 @@ mod event;
 mod follow_error;
 mod following;
 mod frame;
+pub mod laws;
 mod limits;
 mod line;
 mod payload;
@@ -19,7 +20,7 @@ mod state;
 mod step;
 mod turn;
 
-pub use event::Event;
+pub use event::{Event, SessionEvent};
 pub use follow_error::FollowError;
 pub use following::follow_x509;
 pub use frame::{FrameError, Phase, RawFrame, read_frame};

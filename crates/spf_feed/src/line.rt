@@ -1,24 +1,37 @@
 //! The lines that show a session.
 
-ghost use Rattle.std.specs.Prelude.{◌≡◌, ◌≤◌, ◌<◌, ◌++◌, ℕ, List, OnOk, vec_len};
+ghost use Rattle.std.specs.Prelude.{◌≡◌, ◌≤◌, ◌++◌, ◌∷◌, ℕ, ℤ, false, Bool, List, Option, None, IsTrue, IfOk, OnOk, decimal, vec_len};
 ghost use Rattle.std.specs.List.{flat_map};
 ghost use Rattle.std.specs.Option.{option_map};
 ghost use Rattle.std.specs.Arc.{arc_value};
-ghost use Rattle.spf_io.specs.Outside.{HasCause};
+ghost use Rattle.std.specs.Ordering.{nat_cmp};
+ghost use Rattle.std.specs.Cmp.Lexicographic.{slice_cmp};
+ghost use Rattle.spf_io.specs.Outside.{HasCause, PutAppends};
 ghost use Rattle.hex.specs.Hex.{encode_lower};
-ghost use Rattle.spf_feed.specs.Lines.{after_comma, hex_list, shown_at, choice_text, crls_text, withdrawn_text};
+ghost use Rattle.spf_view.specs.Views.{Waiting};
+ghost use Rattle.spf_view.specs.Standing.{shown_by};
+ghost use Rattle.spf_x509.specs.Places.{IsSortedPlaces};
+ghost use Rattle.spf_feed.specs.Lines.{after_comma, hex_list, shown_at, choice_text, withdrawn_text};
+ghost use Rattle.spf_feed.specs.Shown.{entry_text, revocations_text, context_text, visible_text, view_line, shown_text};
+ghost use Rattle.spf_feed.specs.Sorted.{ArePlaced, AreSorted};
+ghost use Rattle.spf_feed.specs.Standing.{view_in, IsKept};
+ghost use Rattle.spf_feed.specs.Steps.{is_accept};
+ghost use Rattle.spf_feed.specs.Numbered.{Shows};
 
 use crate::prepared::Prepared;
 use crate::snapshot::{Snapshot, Standing};
+use crate::sorted::Sorted;
 use crate::state::{X509SourceState, usable};
 use crate::step::Denial;
 use itoa::Buffer;
+use spf_id::TrustDomain;
 use spf_io::{Bytes, Failed, List, OutOfMemory, Sink, Text};
-use spf_x509::{Certificate, X509BundleSet, X509Svid};
+use spf_x509::{Certificate, X509BundleSet, X509Context, X509Svid};
 use std::alloc::Global;
+use std::marker::Model;
 use std::sync::Arc;
 
-/// The octets that are kept free before a line for its number.
+/// The octets that are kept free before a line for its number, the most that a `u64` takes.
 const NUMBER_ROOM: usize = 20;
 
 /// Each octet in two digits, lower case.
@@ -127,12 +140,31 @@ fn push_places<T: Octets>(
     Ok(())
 }
 
+/// A trust domain, and its authorities at the places.
+fn push_bundle(
+    line: &mut Vec<u8>,
+    domain: &TrustDomain,
+    authorities: &[Certificate],
+    order: &[usize],
+) -> Result<(), OutOfMemory>
+    ensures text { OnOk result (line.new.items ≡ line.old.items ++ 32 ∷ domain.now ++ 61 ∷ hex_list (shown_at (λ c. c) authorities.now) order.now) }
+    ensures grows { vec_len line.old ≤ vec_len line.new }
+{
+    line.push(b' ')?;
+    line.extend_from_slice(domain.as_str().as_bytes())?;
+    line.push(b'=')?;
+    push_places(line, authorities, order)?;
+    Ok(())
+}
+
 /// Per trust domain in order its name and its authorities, sorted.
 fn push_bundles(
     line: &mut Vec<u8>,
     set: &X509BundleSet,
     orders: &[List<usize>],
 ) -> Result<(), OutOfMemory>
+    requires { ArePlaced set.now orders.now }
+    ensures text { OnOk result (line.new.items ≡ line.old.items ++ flat_map entry_text set.now) }
     ensures grows { vec_len line.old ≤ vec_len line.new }
 {
     let mut left = orders;
@@ -140,10 +172,7 @@ fn push_bundles(
         let Some((order, rest)) = left.split_first() else {
             return Ok(());
         };
-        line.push(b' ')?;
-        line.extend_from_slice(domain.as_str().as_bytes())?;
-        line.push(b'=')?;
-        push_places(line, bundle.authorities(), order.as_slice())?;
+        push_bundle(line, domain, bundle.authorities(), order.as_slice())?;
         left = rest;
     }
     Ok(())
@@ -151,7 +180,8 @@ fn push_bundles(
 
 /// The revocation lists, sorted, where there is one.
 fn push_crls(line: &mut Vec<u8>, crls: &[Bytes], order: &[usize]) -> Result<(), OutOfMemory>
-    ensures text { OnOk result (line.new.items ≡ line.old.items ++ crls_text crls.now order.now) }
+    requires { IsSortedPlaces (slice_cmp nat_cmp) crls.now order.now }
+    ensures text { OnOk result (line.new.items ≡ line.old.items ++ revocations_text crls.now) }
     ensures grows { vec_len line.old ≤ vec_len line.new }
 {
     if crls.is_empty() {
@@ -180,16 +210,34 @@ fn push_choice(line: &mut Vec<u8>, svid: Option<&Arc<X509Svid>>) -> Result<(), O
     Ok(())
 }
 
-fn push_permitted(line: &mut Vec<u8>, held: &Prepared, now: Option<i64>) -> Result<(), OutOfMemory>
+/// A context with its places, and the choice that is shown.
+fn push_context(
+    line: &mut Vec<u8>,
+    context: &X509Context,
+    places: &Sorted,
+    choice: Option<&Arc<X509Svid>>,
+) -> Result<(), OutOfMemory>
+    requires { AreSorted context.now places.now }
+    ensures text { OnOk result (line.new.items ≡ line.old.items ++ context_text context.now (option_map (λ a. arc_value a.now) choice.entry)) }
     ensures grows { vec_len line.old ≤ vec_len line.new }
 {
     line.extend_from_slice(b" permitted")?;
-    push_choice(line, usable(held.chosen(), now))?;
-    if let (Some(context), Some(places)) = (held.context(), held.sorted()) {
-        push_bundles(line, context.bundle_set(), places.authorities.as_slice())?;
-        push_crls(line, context.crls(), places.crls.as_slice())?;
-    }
+    push_choice(line, choice)?;
+    push_bundles(line, context.bundle_set(), places.authorities.as_slice())?;
+    push_crls(line, context.crls(), places.crls.as_slice())?;
     Ok(())
+}
+
+fn push_permitted(line: &mut Vec<u8>, held: &Prepared, now: Option<i64>) -> Result<(), OutOfMemory>
+    requires { IsTrue (is_accept held.now) }
+    ensures text { OnOk result (line.new.items ≡ line.old.items ++ visible_text (shown_by held.now) now) }
+    ensures grows { vec_len line.old ≤ vec_len line.new }
+{
+    let choice = usable(held.chosen(), now);
+    match (held.context(), held.sorted()) {
+        (Some(context), Some(places)) => push_context(line, context, places, choice),
+        _ => unreachable!(),
+    }
 }
 
 fn push_withdrawn(line: &mut Vec<u8>, reason: &Denial) -> Result<(), OutOfMemory>
@@ -206,20 +254,36 @@ fn push_withdrawn(line: &mut Vec<u8>, reason: &Denial) -> Result<(), OutOfMemory
     Ok(())
 }
 
+/// What is visible behind the revision.
+fn push_visible(
+    line: &mut Vec<u8>,
+    standing: &Standing,
+    now: Option<i64>,
+) -> Result<(), OutOfMemory>
+    requires { IsKept standing.now }
+    ensures text { OnOk result (line.new.items ≡ line.old.items ++ visible_text (view_in standing.now) now) }
+    ensures grows { vec_len line.old ≤ vec_len line.new }
+{
+    match standing {
+        Standing::Permitted(held) => push_permitted(line, held, now),
+        Standing::Withdrawn(reason) => push_withdrawn(line, reason),
+    }
+}
+
 /// The revision, what is visible, and a line feed.
+#[tactic(auto, unfolding(crate::specs::Shown::view_line))]
 fn push_view(
     line: &mut Vec<u8>,
     revision: u64,
     standing: &Standing,
     now: Option<i64>,
 ) -> Result<(), OutOfMemory>
+    requires { IsKept standing.now }
+    ensures text { OnOk result (line.new.items ≡ line.old.items ++ view_line (view_in standing.now) revision now) }
     ensures grows { vec_len line.old ≤ vec_len line.new }
 {
     line.extend_from_slice(Buffer::new().format(revision).as_bytes())?;
-    match standing {
-        Standing::Permitted(held) => push_permitted(line, held, now)?,
-        Standing::Withdrawn(reason) => push_withdrawn(line, reason)?,
-    }
+    push_visible(line, standing, now)?;
     line.push(b'\n')?;
     Ok(())
 }
@@ -229,7 +293,9 @@ pub fn state_line(
     alloc: Global,
     state: &X509SourceState,
     now: Option<i64>,
-) -> Result<Text, OutOfMemory> {
+) -> Result<Text, OutOfMemory>
+    ensures { IfOk result (λ t. t ≡ view_line state.now.view state.now.revision now) }
+{
     let mut line = Vec::new(alloc);
     push_view(&mut line, state.revision(), state.standing(), now)?;
     match String::from_utf8(line) {
@@ -244,18 +310,48 @@ pub fn state_line(
 pub(crate) struct NumberedLine {
     octets: Vec<u8>,
     shows_choice: bool,
-    ghost has_room: { 20 < vec_len octets },
+}
+
+impl Model for NumberedLine {
+    ghost use Rattle.std.specs.Prelude.{◌≤◌, drop, vec_len};
+    ghost use Rattle.spf_feed.specs.Numbered.{LineView};
+
+    ghost Value = { LineView };
+
+    ghost view = { λ l. record { text = drop 20 l.octets.items; shows_choice = l.shows_choice } };
+
+    ghost invariant = { λ l. 20 ≤ vec_len l.octets };
 }
 
 impl NumberedLine {
     /// The line before the first accepted item.
-    pub(crate) fn new(alloc: Global) -> Result<NumberedLine, OutOfMemory> {
-        let mut octets = vec![in alloc; b' '; NUMBER_ROOM + 1]?;
-        octets.extend_from_slice(b"waiting\n")?;
+    #[tactic(auto, unfolding(crate::specs::Shown::view_line, crate::specs::Shown::shown_text))]
+    pub(crate) fn new(alloc: Global) -> Result<NumberedLine, OutOfMemory>
+        ensures text { IfOk result (λ l. l.text ≡ shown_text Waiting 0 None) }
+    {
+        let mut octets = vec![in alloc; b' '; NUMBER_ROOM]?;
+        octets.extend_from_slice(b" waiting\n")?;
         Ok(NumberedLine {
             octets,
             shows_choice: false,
         })
+    }
+
+    /// Writes the line of the snapshot anew.
+    #[tactic(auto, unfolding(crate::specs::Shown::shown_text))]
+    fn write(&mut self, snapshot: &Snapshot, now: Option<i64>) -> Result<(), OutOfMemory>
+        ensures text { OnOk result (self.new.text ≡ shown_text snapshot.now.view snapshot.now.revision now) }
+        ensures choice { self.new.shows_choice ≡ self.old.shows_choice }
+    {
+        self.octets.truncate(NUMBER_ROOM);
+        self.octets.push(b' ')?;
+        push_view(
+            &mut self.octets,
+            snapshot.revision(),
+            snapshot.standing(),
+            now,
+        )?;
+        Ok(())
     }
 
     /// Shows the snapshot at a moment. A snapshot that did not change is written anew only where the choice appears or
@@ -265,16 +361,12 @@ impl NumberedLine {
         snapshot: &Snapshot,
         is_changed: bool,
         now: Option<i64>,
-    ) -> Result<(), OutOfMemory> {
+    ) -> Result<(), OutOfMemory>
+        ensures shows { OnOk result ((before : Option ℤ) → (is_changed ≡ false → Shows snapshot.now before self.old) → Shows snapshot.now now self.new) }
+    {
         let shows_choice = snapshot.shows_choice(now);
         if is_changed || shows_choice != self.shows_choice {
-            self.octets.truncate(NUMBER_ROOM + 1);
-            push_view(
-                &mut self.octets,
-                snapshot.revision(),
-                snapshot.standing(),
-                now,
-            )?;
+            self.write(snapshot, now)?;
             self.shows_choice = shows_choice;
         }
         Ok(())
@@ -282,6 +374,9 @@ impl NumberedLine {
 
     /// Puts the line with this number, in one piece.
     pub(crate) fn put<K: Sink>(&mut self, sink: &mut K, number: u64) -> Result<(), Failed>
+        ensures bytes { PutAppends (K.held sink.old) (K.held sink.new) result (decimal number ++ self.old.text) }
+        ensures text { self.new.text ≡ self.old.text }
+        ensures choice { self.new.shows_choice ≡ self.old.shows_choice }
         ensures cause { HasCause (K.faults sink.old) (K.faults sink.new) result }
     {
         let start = itoa::write_digits(number, &mut self.octets, NUMBER_ROOM);

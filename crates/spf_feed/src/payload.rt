@@ -1,6 +1,11 @@
 //! What the payload of a frame lays out.
 
-use crate::frame::number_of;
+ghost use Rattle.std.specs.Prelude.{◌≡◌, IfOk};
+ghost use Rattle.std.specs.Option.{option_map};
+ghost use Rattle.spf_feed.specs.Events.{field_at, text_at, status_at, failure_at, moment_at, event_at, when_empty as event_when_empty};
+ghost use Rattle.spf_feed.specs.Items.{item_at, IsReceived};
+
+use crate::event::SessionEvent;
 use spf_api::{
     ClientFault, GrpcStatusCode, GrpcStatusError, WorkloadApiError, context_from_view,
     read_context_view,
@@ -13,38 +18,43 @@ use std::alloc::Global;
 const UNREACHABLE: u8 = 255;
 
 /// An event as it is received: an item is read down to its context, or None where it breaks a rule.
-#[derive(Debug, Drop)]
-pub(crate) enum Received {
-    ClientMade,
-    ClientFailed(ClientFault),
-    Connected,
-    ConnectStatus(GrpcStatusError),
-    Item(Option<X509Context>),
-    ItemStatus(GrpcStatusError),
-    StreamEnd,
-    Moment(i64),
-    Close,
+pub(crate) type Received = SessionEvent<Option<X509Context>>;
+
+/// The octets behind four octets of their length, where nothing follows.
+#[tactic(auto, unfolding(crate::specs::Events::field_at))]
+fn field_in(bytes: &[u8]) -> Option<&[u8]>
+    ensures { option_map (λ x. x.now) result ≡ field_at bytes.now }
+{
+    let [a, b, c, d, octets @ ..] = bytes else {
+        return None;
+    };
+    if octets.len() == u32::from_be_bytes([*a, *b, *c, *d]) as usize {
+        Some(octets)
+    } else {
+        None
+    }
 }
 
-/// A text field that is all of the bytes.
-fn text_in(alloc: Global, bytes: &[u8]) -> Result<Option<Text>, OutOfMemory> {
-    if bytes.len() < 4 {
-        return Ok(None);
-    }
-    let (front, rest) = bytes.split_at(4);
-    let length = number_of(&[front[0], front[1], front[2], front[3]]);
-    if length as usize != rest.len() {
-        return Ok(None);
-    }
-    let Ok(text) = str::from_utf8(rest) else {
+/// A text field and nothing more.
+#[tactic(auto, unfolding(crate::specs::Events::text_at))]
+fn text_in(alloc: Global, bytes: &[u8]) -> Result<Option<Text>, OutOfMemory>
+    ensures { IfOk result (λ o. o ≡ text_at bytes.now) }
+{
+    let Some(octets) = field_in(bytes) else {
         return Ok(None);
     };
-    Ok(Some(Text::copy_of(alloc, text)?))
+    match str::from_utf8(octets) {
+        Ok(text) => Ok(Some(Text::copy_of(alloc, text)?)),
+        Err(_) => Ok(None),
+    }
 }
 
-/// A status that is all of the bytes: a code octet and its message.
-fn status_in(alloc: Global, bytes: &[u8]) -> Result<Option<GrpcStatusError>, OutOfMemory> {
-    let Some((number, rest)) = bytes.split_first() else {
+/// A status and nothing more: a code octet and its message.
+#[tactic(auto, unfolding(crate::specs::Events::status_at))]
+fn status_in(alloc: Global, bytes: &[u8]) -> Result<Option<GrpcStatusError>, OutOfMemory>
+    ensures { IfOk result (λ o. o ≡ status_at bytes.now) }
+{
+    let [number, rest @ ..] = bytes else {
         return Ok(None);
     };
     let Some(code) = GrpcStatusCode::from_number(*number) else {
@@ -57,49 +67,61 @@ fn status_in(alloc: Global, bytes: &[u8]) -> Result<Option<GrpcStatusError>, Out
 }
 
 /// A status, or the text of what could not be reached.
-fn failure_in(alloc: Global, bytes: &[u8]) -> Result<Option<ClientFault>, OutOfMemory> {
-    if let Some((number, rest)) = bytes.split_first()
-        && *number == UNREACHABLE
-    {
-        return match text_in(alloc, rest)? {
-            Some(message) => Ok(Some(ClientFault::Unreachable(message))),
-            None => Ok(None),
-        };
+#[tactic(auto, unfolding(crate::specs::Events::failure_at))]
+fn failure_in(alloc: Global, bytes: &[u8]) -> Result<Option<ClientFault>, OutOfMemory>
+    ensures { IfOk result (λ o. o ≡ failure_at bytes.now) }
+{
+    let [number, rest @ ..] = bytes else {
+        return Ok(None);
+    };
+    if *number == UNREACHABLE {
+        return Ok(text_in(alloc, rest)?.map(ClientFault::Unreachable));
     }
-    match status_in(alloc, bytes)? {
-        Some(status) => Ok(Some(ClientFault::Status(status))),
-        None => Ok(None),
-    }
+    Ok(status_in(alloc, bytes)?.map(ClientFault::Status))
 }
 
 /// Eight octets of Unix seconds, from 0 to 2^63 - 1.
-fn moment_in(bytes: &[u8]) -> Option<i64> {
-    if bytes.len() != 8 {
+#[tactic(auto, unfolding(crate::specs::Events::moment_at))]
+fn moment_in(bytes: &[u8]) -> Option<i64>
+    ensures { result ≡ moment_at bytes.now }
+{
+    let [a, b, c, d, e, f, g, h] = bytes else {
         return None;
-    }
-    let number = u64::from_be_bytes([
-        bytes[0], bytes[1], bytes[2], bytes[3], bytes[4], bytes[5], bytes[6], bytes[7],
-    ]);
+    };
+    let number = u64::from_be_bytes([*a, *b, *c, *d, *e, *f, *g, *h]);
     if number > i64::MAX as u64 {
         return None;
     }
     Some(number as i64)
 }
 
-/// An item, read through slices of the payload.
-fn item_in(alloc: Global, bytes: &[u8]) -> Result<Option<Received>, OutOfMemory> {
-    let Some(view) = read_context_view(alloc, bytes)? else {
-        return Ok(None);
-    };
-    match context_from_view(alloc, &view) {
-        Ok(context) => Ok(Some(Received::Item(Some(context)))),
+/// The context of a response, None where it breaks a rule.
+fn received(
+    parsed: Result<X509Context, WorkloadApiError>,
+) -> Result<Option<X509Context>, OutOfMemory>
+    ensures { IsReceived parsed result }
+{
+    match parsed {
+        Ok(context) => Ok(Some(context)),
         Err(WorkloadApiError::OutOfMemory) => Err(OutOfMemory),
-        Err(_) => Ok(Some(Received::Item(None))),
+        Err(_) => Ok(None),
     }
 }
 
+/// The context that an item brings, None where it breaks a rule.
+fn item_in(alloc: Global, bytes: &[u8]) -> Result<Option<Option<X509Context>>, OutOfMemory>
+    ensures { IfOk result (λ o. o ≡ item_at bytes.now) }
+{
+    let Some(view) = read_context_view(alloc, bytes)? else {
+        return Ok(None);
+    };
+    Ok(Some(received(context_from_view(alloc, &view))?))
+}
+
 /// The event, where the payload is empty.
-fn when_empty(payload: &[u8], event: Received) -> Option<Received> {
+fn when_empty(payload: &[u8], event: Received) -> Option<Received>
+    ensures { result ≡ event_when_empty payload.now event }
+{
     if payload.is_empty() {
         Some(event)
     } else {
@@ -108,17 +130,20 @@ fn when_empty(payload: &[u8], event: Received) -> Option<Received> {
 }
 
 /// The event that a frame lays out.
+#[tactic(auto, unfolding(crate::specs::Events::event_at))]
 pub(crate) fn event_in(
     alloc: Global,
     kind: u8,
     payload: &[u8],
-) -> Result<Option<Received>, OutOfMemory> {
+) -> Result<Option<Received>, OutOfMemory>
+    ensures { IfOk result (λ o. o ≡ event_at item_at kind payload.now) }
+{
     match kind {
         1 => Ok(when_empty(payload, Received::ClientMade)),
         2 => Ok(failure_in(alloc, payload)?.map(Received::ClientFailed)),
         3 => Ok(when_empty(payload, Received::Connected)),
         4 => Ok(status_in(alloc, payload)?.map(Received::ConnectStatus)),
-        5 => item_in(alloc, payload),
+        5 => Ok(item_in(alloc, payload)?.map(Received::Item)),
         6 => Ok(status_in(alloc, payload)?.map(Received::ItemStatus)),
         7 => Ok(when_empty(payload, Received::StreamEnd)),
         8 => Ok(moment_in(payload).map(Received::Moment)),

@@ -1,8 +1,14 @@
 //! A step with the places of its context in order.
 
 ghost use Rattle.std.specs.Prelude.{◌≡◌, IfOk};
-ghost use Rattle.std.specs.Option.{option_map, option_and_then};
+ghost use Rattle.std.specs.Option.{option_map, option_and_then, option_copied};
 ghost use Rattle.std.specs.Arc.{arc_value};
+ghost use Rattle.std.specs.Ordering.{nat_cmp};
+ghost use Rattle.std.specs.Cmp.Lexicographic.{slice_cmp};
+ghost use Rattle.spf_x509.specs.Bundle.{find_entry};
+ghost use Rattle.spf_x509.specs.Order.{svid_cmp};
+ghost use Rattle.spf_feed.specs.Prepared.{is_same_step, HasPlaces};
+ghost use Rattle.spf_feed.specs.Sorted.{AuthorityPlaces, PlacesOf};
 ghost use Rattle.spf_feed.specs.Steps.{plain, is_accept, material_in, chosen_of};
 
 use crate::sorted::{Sorted, chosen, is_same, places_in, sorted_of};
@@ -31,7 +37,7 @@ impl Model for Prepared {
 
     ghost view = { λ p. plain p.step };
 
-    ghost invariant = { λ p. IsPlaced p.step p.places };
+    ghost invariant = { λ p. IsPlaced (plain p.step) p.places };
 }
 
 impl Prepared {
@@ -59,7 +65,9 @@ impl Prepared {
     }
 
     /// The places of the SVIDs, sorted. None for a Deny.
-    pub fn svid_positions(&self) -> &[usize] {
+    pub fn svid_positions(&self) -> &[usize]
+        ensures { PlacesOf svid_cmp (option_map (λ m. m.context.svids) (material_in self.now)) result.now }
+    {
         match &self.places {
             Some(places) => places.svids.as_slice(),
             None => &[],
@@ -67,7 +75,9 @@ impl Prepared {
     }
 
     /// The places of the authorities of a trust domain, sorted.
-    pub fn authority_positions(&self, td: &TrustDomain) -> Option<&[usize]> {
+    pub fn authority_positions(&self, td: &TrustDomain) -> Option<&[usize]>
+        ensures { AuthorityPlaces (option_and_then (λ m. find_entry td.now m.context.bundles) (material_in self.now)) (option_map (λ p. p.now) result) }
+    {
         match (&self.step, &self.places) {
             (Step::Accept { context, .. }, Some(places)) => {
                 places_in(context.bundle_set(), places.authorities.as_slice(), td)
@@ -77,7 +87,9 @@ impl Prepared {
     }
 
     /// The places of the revocation lists, sorted. None for a Deny.
-    pub fn crl_positions(&self) -> &[usize] {
+    pub fn crl_positions(&self) -> &[usize]
+        ensures { PlacesOf (slice_cmp nat_cmp) (option_map (λ m. m.context.crls) (material_in self.now)) result.now }
+    {
         match &self.places {
             Some(places) => places.crls.as_slice(),
             None => &[],
@@ -99,7 +111,9 @@ impl Prepared {
     }
 
     /// Whether both are accepted and the same.
-    pub(crate) fn is_same(&self, other: &Prepared) -> bool {
+    pub(crate) fn is_same(&self, other: &Prepared) -> bool
+        ensures { result ≡ is_same_step self.now other.now }
+    {
         match (&self.step, &self.places, &other.step, &other.places) {
             (
                 Step::Accept {
@@ -125,7 +139,9 @@ impl Prepared {
         matches!(self.step, Step::Accept { .. })
     }
 
-    pub(crate) fn sorted(&self) -> Option<&Sorted> {
+    pub(crate) fn sorted(&self) -> Option<&Sorted>
+        ensures { HasPlaces self.now (option_copied result) }
+    {
         match &self.places {
             Some(places) => Some(places),
             None => None,

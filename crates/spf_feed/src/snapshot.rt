@@ -1,8 +1,10 @@
 //! What the steps so far make visible.
 
-ghost use Rattle.std.specs.Prelude.{◌≡◌, ◌⊎◌, IsTrue, IfOk, is_some};
+ghost use Rattle.std.specs.Prelude.{◌≡◌, IsTrue, IfOk, is_some, List, [], ◌∷◌, ◌++◌};
 ghost use Rattle.std.specs.Option.{option_and_then};
-ghost use Rattle.spf_feed.specs.Steps.{is_accept, chosen_of, shown_by, held_in, raised};
+ghost use Rattle.spf_view.specs.Steps.{IsFit};
+ghost use Rattle.spf_view.specs.Standing.{Stands, IsShowing, is_change, kept_next};
+ghost use Rattle.spf_feed.specs.Steps.{PlainStep, is_accept, chosen_of, shown_by, held_in, raised, fits, same_material};
 ghost use Rattle.spf_feed.specs.Prepared.{usable as usable_of};
 ghost use Rattle.spf_feed.specs.Standing.{view_in, IsKept};
 
@@ -53,9 +55,10 @@ pub struct Snapshot {
 }
 
 impl Model for Snapshot {
-    ghost use Rattle.spf_feed.specs.Steps.{Kept};
+    ghost use Rattle.spf_feed.specs.Steps.{Kept, Material};
+    ghost use Rattle.spf_feed.specs.declared.step.Denial.{Denial};
 
-    ghost Value = { Kept };
+    ghost Value = { Kept Material Denial };
 
     ghost use Rattle.spf_feed.specs.Standing.{view_in, IsKept};
 
@@ -68,7 +71,8 @@ impl Snapshot {
     /// The snapshot of a first accepted context.
     pub fn opening(step: Prepared) -> Snapshot
         requires { IsTrue (is_accept step) }
-        ensures { result ≡ record { revision = 0; view = shown_by step } }
+        ensures value { result ≡ record { revision = 0; view = shown_by step } }
+        ensures stands { IsFit fits step → Stands same_material fits (step ∷ []) result }
     {
         Snapshot {
             revision: 0,
@@ -77,7 +81,10 @@ impl Snapshot {
     }
 
     /// Whether the step makes something else visible.
-    pub(crate) fn is_changed_by(&self, step: &Prepared) -> bool {
+    pub(crate) fn is_changed_by(&self, step: &Prepared) -> bool
+        ensures value { result ≡ is_change same_material self.now.view step.now }
+        ensures showing { IsShowing self.now.view }
+    {
         match &self.standing {
             Standing::Permitted(held) => !held.is_same(step),
             Standing::Withdrawn(_) => step.is_accept(),
@@ -93,14 +100,17 @@ impl Snapshot {
 
     /// One more step. Unchanged material keeps the older context.
     pub fn apply(&mut self, step: Prepared)
-        ensures { (self.new ≡ self.old) ⊎ (self.new ≡ record { revision = raised self.old.revision; view = shown_by step }) }
+        ensures value { self.new ≡ kept_next same_material self.old step }
+        ensures stands { (steps : List PlainStep) → Stands same_material fits steps self.old → IsFit fits step → Stands same_material fits (steps ++ step ∷ []) self.new }
     {
         if self.is_changed_by(&step) {
             self.show(step);
         }
     }
 
-    pub fn state(&self, closed: bool) -> Result<X509SourceState, OutOfMemory> {
+    pub fn state(&self, closed: bool) -> Result<X509SourceState, OutOfMemory>
+        ensures { IfOk result (λ s. s ≡ record { revision = self.now.revision; closed = closed; view = self.now.view }) }
+    {
         Ok(X509SourceState::new(self.revision, closed, self.standing.try_clone()?))
     }
 
@@ -111,7 +121,8 @@ impl Snapshot {
     }
 
     pub(crate) fn standing(&self) -> &Standing
-        ensures { view_in result.now ≡ self.now.view }
+        ensures view { view_in result.now ≡ self.now.view }
+        ensures kept { IsKept result.now }
     {
         &self.standing
     }

@@ -144,7 +144,8 @@ impl X509SourceState {
     }
 
     pub(crate) fn standing(&self) -> &Standing
-        ensures { view_in result.now ≡ self.now.view }
+        ensures view { view_in result.now ≡ self.now.view }
+        ensures kept { IsKept result.now }
     {
         &self.standing
     }

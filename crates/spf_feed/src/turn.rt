@@ -1,9 +1,18 @@
 //! What an event does: the step and the records that it makes, or the answer that it ends the session with.
 
-ghost use Rattle.std.specs.Prelude.{true, false};
-ghost use Rattle.std.specs.Option.{ForSome};
+ghost use Rattle.std.specs.Prelude.{◌≡◌, true, false, None, Some, [], if◌then◌else◌};
+ghost use Rattle.std.specs.Option.{ForSome, option_map};
+ghost use Rattle.spf_api.specs.Errors.{status_reading};
+ghost use Rattle.spf_view.specs.Views.{Passed as OutcomePassed, denied_or_passed};
 ghost use Rattle.spf_feed.specs.declared.limits.ResourceLimits.{ResourceLimits};
-ghost use Rattle.spf_feed.specs.Turns.{MayTake};
+ghost use Rattle.spf_feed.specs.declared.event.SessionEvent.TheVariants as events;
+ghost use Rattle.spf_feed.specs.declared.record.MetricsErrorKind.TheVariants as kinds;
+ghost use Rattle.spf_feed.specs.declared.turn.Terminal.TheVariants as terminal;
+ghost use Rattle.spf_feed.specs.Items.{rules_with, denial_in, may_begin as may_begin_by};
+ghost use Rattle.spf_feed.specs.Limits.{within};
+ghost use Rattle.spf_feed.specs.Run.{ended, over_limit, kept_out, limit_error as limit_error_of, connect_error as connect_error_of, rejected_or_unsupported, client_rejected, timed_out};
+ghost use Rattle.spf_feed.specs.Received.{received_refusal, received_outcome, received_records};
+ghost use Rattle.spf_feed.specs.Turns.{MayTake, IsTurn, listed, refusal_in, client_refusal_in};
 
 use crate::follow_error::FollowError;
 use crate::limits::{LimitKind, ResourceLimits, validate_limits};
@@ -25,7 +34,9 @@ pub(crate) struct Records {
 }
 
 impl Records {
-    fn none() -> Records {
+    fn none() -> Records
+        ensures { listed result ≡ [] }
+    {
         Records {
             error: None,
             end: None,
@@ -33,7 +44,9 @@ impl Records {
     }
 
     /// The attempt ended, with this error.
-    fn ended(begun: bool, error: Option<MetricsErrorKind>) -> Records {
+    fn ended(begun: bool, error: Option<MetricsErrorKind>) -> Records
+        ensures { listed result ≡ ended begun error }
+    {
         let end = if begun {
             MetricsRecord::Reconnect
         } else {
@@ -46,7 +59,9 @@ impl Records {
     }
 
     /// An update was rejected, by this limit.
-    fn over(begun: bool, kind: LimitKind) -> Records {
+    fn over(begun: bool, kind: LimitKind) -> Records
+        ensures { listed result ≡ over_limit begun kind }
+    {
         let end = if begun {
             MetricsErrorKind::UpdateRejected
         } else {
@@ -59,7 +74,9 @@ impl Records {
     }
 }
 
-fn limit_error(kind: LimitKind) -> MetricsErrorKind {
+fn limit_error(kind: LimitKind) -> MetricsErrorKind
+    ensures { result ≡ limit_error_of kind }
+{
     match kind {
         LimitKind::MaxSvids => MetricsErrorKind::LimitMaxSvids,
         LimitKind::MaxBundles => MetricsErrorKind::LimitMaxBundles,
@@ -110,7 +127,8 @@ pub(crate) enum Turn {
 
 /// A status before any accepted item: only a request that cannot succeed ends the session.
 fn initial_turn(answer: WorkloadApiError, error: Option<MetricsErrorKind>) -> Turn
-    ensures { (limits : ResourceLimits) → MayTake limits false result }
+    ensures may { (limits : ResourceLimits) → MayTake limits false result }
+    ensures turn { IsTurn (refusal_in answer) OutcomePassed (ended false error) result }
 {
     if answer.is_invalid_argument() {
         return Turn::Terminal(Terminal::Source(answer));
@@ -123,7 +141,8 @@ fn initial_turn(answer: WorkloadApiError, error: Option<MetricsErrorKind>) -> Tu
 
 /// A status once an item was accepted: a denial withdraws, and nothing ends the session.
 fn synced_turn(answer: WorkloadApiError, error: Option<MetricsErrorKind>) -> Turn
-    ensures { (limits : ResourceLimits) → MayTake limits true result }
+    ensures may { (limits : ResourceLimits) → MayTake limits true result }
+    ensures turn { IsTurn None (denied_or_passed true (denial_in answer)) (ended true error) result }
 {
     let records = Records::ended(true, error);
     match answer {
@@ -140,7 +159,8 @@ fn synced_turn(answer: WorkloadApiError, error: Option<MetricsErrorKind>) -> Tur
 }
 
 fn status_turn(begun: bool, answer: WorkloadApiError, error: Option<MetricsErrorKind>) -> Turn
-    ensures { (limits : ResourceLimits) → MayTake limits begun result }
+    ensures may { (limits : ResourceLimits) → MayTake limits begun result }
+    ensures turn { IsTurn (if begun then None else refusal_in answer) (denied_or_passed begun (denial_in answer)) (ended begun error) result }
 {
     if begun {
         synced_turn(answer, error)
@@ -150,7 +170,9 @@ fn status_turn(begun: bool, answer: WorkloadApiError, error: Option<MetricsError
 }
 
 /// That no identity is issued is no error of the connection.
-fn connect_error(answer: &WorkloadApiError) -> Option<MetricsErrorKind> {
+fn connect_error(answer: &WorkloadApiError) -> Option<MetricsErrorKind>
+    ensures { result ≡ connect_error_of answer.now }
+{
     match answer {
         WorkloadApiError::NoIdentityIssued => None,
         _ => Some(MetricsErrorKind::StreamConnect),
@@ -158,7 +180,8 @@ fn connect_error(answer: &WorkloadApiError) -> Option<MetricsErrorKind> {
 }
 
 fn connect_turn(begun: bool, status: GrpcStatusError) -> Turn
-    ensures { (limits : ResourceLimits) → MayTake limits begun result }
+    ensures may { (limits : ResourceLimits) → MayTake limits begun result }
+    ensures turn { IsTurn (if begun then None else rejected_or_unsupported status) (denied_or_passed begun (denial_in (status_reading status))) (ended begun (connect_error_of (status_reading status))) result }
 {
     let answer = WorkloadApiError::from_status(status);
     let error = connect_error(&answer);
@@ -166,29 +189,45 @@ fn connect_turn(begun: bool, status: GrpcStatusError) -> Turn
 }
 
 fn item_status_turn(begun: bool, status: GrpcStatusError) -> Turn
-    ensures { (limits : ResourceLimits) → MayTake limits begun result }
+    ensures may { (limits : ResourceLimits) → MayTake limits begun result }
+    ensures turn { IsTurn (if begun then None else rejected_or_unsupported status) (denied_or_passed begun (denial_in (status_reading status))) (ended begun (Some kinds.StreamError)) result }
 {
     let answer = WorkloadApiError::from_status(status);
     status_turn(begun, answer, Some(MetricsErrorKind::StreamError))
 }
 
+/// A status of the client before any accepted item.
+fn initial_failure_turn(answer: WorkloadApiError) -> Turn
+    ensures may { (limits : ResourceLimits) → MayTake limits false result }
+    ensures turn { IsTurn (client_refusal_in answer) OutcomePassed (ended false (Some kinds.ClientCreation)) result }
+{
+    if answer.is_invalid_argument() {
+        return Turn::Terminal(Terminal::Source(answer));
+    }
+    Turn::Passed(Records::ended(false, Some(MetricsErrorKind::ClientCreation)))
+}
+
 /// A client failure never is a denial.
 fn failure_turn(begun: bool, fault: ClientFault) -> Turn
-    ensures { (limits : ResourceLimits) → MayTake limits begun result }
+    ensures may { (limits : ResourceLimits) → MayTake limits begun result }
+    ensures turn { IsTurn (if begun then None else client_rejected fault) OutcomePassed (ended begun (Some kinds.ClientCreation)) result }
 {
-    if let ClientFault::Status(status) = fault
-        && !begun
-    {
-        let answer = WorkloadApiError::from_status(status);
-        if answer.is_invalid_argument() {
-            return Turn::Terminal(Terminal::Source(answer));
+    if begun {
+        return Turn::Passed(Records::ended(true, Some(MetricsErrorKind::ClientCreation)));
+    }
+    match fault {
+        ClientFault::Status(status) => {
+            initial_failure_turn(WorkloadApiError::from_status(status))
+        }
+        ClientFault::Unreachable(_) | ClientFault::OutOfMemory => {
+            Turn::Passed(Records::ended(false, Some(MetricsErrorKind::ClientCreation)))
         }
     }
-    Turn::Passed(Records::ended(begun, Some(MetricsErrorKind::ClientCreation)))
 }
 
 fn moment_turn(begun: bool, deadline: Option<i64>, moment: i64) -> Turn
-    ensures { (limits : ResourceLimits) → MayTake limits begun result }
+    ensures may { (limits : ResourceLimits) → MayTake limits begun result }
+    ensures turn { IsTurn (if begun then None else timed_out deadline moment) OutcomePassed [] result }
 {
     match deadline {
         Some(deadline) if !begun && deadline <= moment => {
@@ -199,7 +238,8 @@ fn moment_turn(begun: bool, deadline: Option<i64>, moment: i64) -> Turn
 }
 
 fn close_turn(begun: bool) -> Turn
-    ensures { (limits : ResourceLimits) → MayTake limits begun result }
+    ensures may { (limits : ResourceLimits) → MayTake limits begun result }
+    ensures turn { IsTurn (if begun then None else Some terminal.Closed) OutcomePassed [] result }
 {
     if begun {
         Turn::Passed(Records::none())
@@ -209,7 +249,9 @@ fn close_turn(begun: bool) -> Turn
 }
 
 /// Whether the first accepted item may be this one.
-fn may_begin(context: &X509Context, choice: Option<usize>, ready: Ready, now: Option<i64>) -> bool {
+fn may_begin(context: &X509Context, choice: Option<usize>, ready: Ready, now: Option<i64>) -> bool
+    ensures { result ≡ may_begin_by ready (record { context = context.now; choice = choice }) now }
+{
     match ready {
         Ready::Usable => usable(chosen(context, choice), now).is_some(),
         Ready::Any => true,
@@ -225,7 +267,8 @@ fn item_turn<C: SvidPicker>(
     context: X509Context,
 ) -> Turn
     requires { ForSome picker (λ p. C.can_pick p.now) }
-    ensures { MayTake limits begun result }
+    ensures may { MayTake limits begun result }
+    ensures turn { IsTurn None (received_outcome (rules_with limits None ready (option_map (λ p. C.picks p.now) picker.entry)) begun now (events.Item (Some context))) (kept_out begun (within limits context)) result }
 {
     if let Err(broken) = validate_limits(&context, limits) {
         return Turn::Passed(Records::over(begun, broken.kind));
@@ -237,24 +280,19 @@ fn item_turn<C: SvidPicker>(
     Turn::Accepted { context, choice }
 }
 
-/// The rules of a session, but for its picker and its most frames.
-#[derive(Debug, Drop)]
-pub(crate) struct Setting {
-    pub(crate) limits: ResourceLimits,
-    pub(crate) deadline: Option<i64>,
-    pub(crate) ready: Ready,
-}
-
 /// What an event does, where an item was accepted before it or not, and at the last moment before it.
 pub(crate) fn turn_of<C: SvidPicker>(
     event: Received,
     begun: bool,
     now: Option<i64>,
-    setting: &Setting,
+    limits: ResourceLimits,
+    deadline: Option<i64>,
+    ready: Ready,
     picker: Option<&C>,
 ) -> Turn
     requires { ForSome picker (λ p. C.can_pick p.now) }
-    ensures { MayTake setting.now.limits begun result }
+    ensures may { MayTake limits begun result }
+    ensures turn { IsTurn (received_refusal deadline begun event) (received_outcome (rules_with limits deadline ready (option_map (λ p. C.picks p.now) picker.entry)) begun now event) (received_records begun limits event) result }
 {
     match event {
         Received::ClientMade | Received::Connected => Turn::Passed(Records::none()),
@@ -265,19 +303,12 @@ pub(crate) fn turn_of<C: SvidPicker>(
             begun,
             Some(MetricsErrorKind::StreamError),
         )),
-        Received::Item(Some(context)) => item_turn(
-            begun,
-            now,
-            setting.limits,
-            picker,
-            setting.ready,
-            context,
-        ),
+        Received::Item(Some(context)) => item_turn(begun, now, limits, picker, ready, context),
         Received::StreamEnd => Turn::Passed(Records::ended(
             begun,
             Some(MetricsErrorKind::StreamEnded),
         )),
-        Received::Moment(moment) => moment_turn(begun, setting.deadline, moment),
+        Received::Moment(moment) => moment_turn(begun, deadline, moment),
         Received::Close => close_turn(begun),
     }
 }

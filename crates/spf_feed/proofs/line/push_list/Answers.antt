@@ -1,4 +1,3 @@
-use Rattle.std.proofs.Common.{sym}
 use Rattle.spf_feed.proofs.LineLemmas.{hex_list_made}
 use Rattle.spf_feed.proofs.line.push_list.Goals as goal
 

@@ -1,0 +1,9 @@
+use Rattle.spf_feed.proofs.HandLemmas.{none_yet, all_so_far, step_stopped}
+use Rattle.spf_feed.proofs.following.deny.Goals as goal
+
+pub returns-in_err-change-clause-taken : goal.returns-in_err-change-clause-taken
+returns-in_err-change-clause-taken g c = step_stopped _ _ _ _ _ _ _ _ _ c.from_residual.ensures.0 c.in_err-change.ensures.steps (none_yet _ _)
+
+pub returns-in_err-record_all-clause-taken : goal.returns-in_err-record_all-clause-taken
+returns-in_err-record_all-clause-taken g c =
+    step_stopped _ _ _ _ _ _ _ _ _ c.from_residual-in_err-record_all.ensures.0 (all_so_far _ _ _ c.in_ok-change.ensures.steps) c.in_err-record_all.ensures

@@ -1,0 +1,68 @@
+-- Events, and the payloads that lay them out (see "Frames" in the README).
+use Rattle.std.specs.Prelude.{ℕ, ℤ, pos, ◌^◌, Bool, List, [], ◌∷◌, length, Option, None, Some, ◌==◌, nat_lt, true, false, if◌then◌else◌}
+use Rattle.std.specs.Int.{w32, w64, from_be_bytes}
+use Rattle.std.specs.Str.{is_utf8}
+use Rattle.std.specs.Option.{option_map, option_and_then}
+use Rattle.spf_api.specs.Refused.{Refused}
+use Rattle.spf_api.specs.Status.{code_at}
+use Rattle.spf_api.specs.declared.link.ClientFault.{ClientFault}
+use Rattle.spf_api.specs.declared.link.ClientFault.TheVariants as fault
+use Rattle.spf_feed.specs.declared.event.SessionEvent.{SessionEvent}
+use Rattle.spf_feed.specs.declared.event.SessionEvent.TheVariants as events
+
+-- a byte field and nothing more: four octets of its length, and it
+unfoldable pub field_at : List ℕ → Option (List ℕ)
+field_at (a ∷ b ∷ c ∷ d ∷ octets) = if length octets == from_be_bytes w32 (a ∷ b ∷ c ∷ d ∷ []) then Some octets else None
+field_at _ = None
+
+-- a text field and nothing more
+unfoldable pub text_at : List ℕ → Option (List ℕ)
+text_at bytes = option_and_then (λ octets. if is_utf8 octets then Some octets else None) (field_at bytes)
+
+-- a status and nothing more: a code octet, and its message
+unfoldable pub status_at : List ℕ → Option Refused
+status_at [] = None
+status_at (n ∷ rest) = option_and_then (λ c. option_map (λ m. record { code = c; message = m; source = None }) (text_at rest)) (code_at n)
+
+-- a status, or the code octet 255 and a text
+unfoldable pub failure_at : List ℕ → Option ClientFault
+failure_at [] = None
+failure_at (n ∷ rest) = if n == 255 then option_map fault.Unreachable (text_at rest) else option_map fault.Status (status_at (n ∷ rest))
+
+-- eight octets of Unix seconds, from 0 to 2^63 - 1
+unfoldable pub moment_at : List ℕ → Option ℤ
+moment_at payload = if length payload == 8 then (if nat_lt (from_be_bytes w64 payload) (2 ^ 63) then Some (pos (from_be_bytes w64 payload)) else None) else None
+
+-- an event without a payload
+abbrev pub when_empty : {E : Type 0} → List ℕ → E → Option E
+when_empty payload e = if length payload == 0 then Some e else None
+
+-- The event that a payload of a kind lays out, where `item_at` says what an item lays out.
+unfoldable pub event_at : {I : Type 0} → (List ℕ → Option I) → ℕ → List ℕ → Option (SessionEvent I)
+event_at item_at kind payload =
+    if kind == 1 then when_empty payload events.ClientMade
+    else (if kind == 2 then option_map events.ClientFailed (failure_at payload)
+    else (if kind == 3 then when_empty payload events.Connected
+    else (if kind == 4 then option_map events.ConnectStatus (status_at payload)
+    else (if kind == 5 then option_map events.Item (item_at payload)
+    else (if kind == 6 then option_map events.ItemStatus (status_at payload)
+    else (if kind == 7 then when_empty payload events.StreamEnd
+    else (if kind == 8 then option_map events.Moment (moment_at payload)
+    else (if kind == 9 then when_empty payload events.Close
+    else None))))))))
+
+-- the same event, of whose item a function is taken
+abbrev pub heard : {I J : Type 0} → (I → J) → SessionEvent I → SessionEvent J
+heard f events.ClientMade = events.ClientMade
+heard f (events.ClientFailed e) = events.ClientFailed e
+heard f events.Connected = events.Connected
+heard f (events.ConnectStatus s) = events.ConnectStatus s
+heard f (events.Item i) = events.Item (f i)
+heard f (events.ItemStatus s) = events.ItemStatus s
+heard f events.StreamEnd = events.StreamEnd
+heard f (events.Moment m) = events.Moment m
+heard f events.Close = events.Close
+
+abbrev pub closes : {I : Type 0} → SessionEvent I → Bool
+closes events.Close = true
+closes _ = false

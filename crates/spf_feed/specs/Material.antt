@@ -1,0 +1,37 @@
+-- What an accepted item brings, and when two of these are the same.
+use Rattle.std.specs.Prelude.{ℕ, Bool, ◌&&◌, nat_eq, List, Option}
+use Rattle.std.specs.Option.{option_eq}
+use Rattle.std.specs.Ordering.{int_eq}
+use Rattle.std.specs.Cmp.Lexicographic.{pointwise}
+use Rattle.spf_x509.specs.Bag.{same_bag}
+use Rattle.spf_x509.specs.Bundle.{Bundle}
+use Rattle.spf_x509.specs.Context.{Context, svid_eq}
+use Rattle.spf_x509.specs.Svid.{Svid}
+use Rattle.spf_feed.specs.Pick.{choice_of}
+
+-- a context, and the index of its choice
+pub record Material : Type 0 where
+  pub context : Context
+  pub choice : Option ℕ
+
+-- the chosen SVID
+abbrev pub chosen_of : Material → Option Svid
+chosen_of material = choice_of material.context.svids material.choice
+
+-- equal SVIDs, with their expiry
+abbrev pub svid_same : Svid → Svid → Bool
+svid_same a b = svid_eq a b && int_eq a.expiry b.expiry
+
+-- the same trust domain, and equal bags of authorities
+abbrev pub entry_same : List ℕ × Bundle → List ℕ × Bundle → Bool
+entry_same p q = pointwise nat_eq p.0 q.0 && same_bag (pointwise nat_eq) p.1.authorities q.1.authorities
+
+-- the same trust domains, and equal bags of authorities in each
+abbrev pub same_set : List (List ℕ × Bundle) → List (List ℕ × Bundle) → Bool
+same_set = pointwise entry_same
+
+-- Same: equal choices, equal bags of SVIDs, the same trust domains with equal bags of authorities, equal bags of CRLs
+unfoldable pub same_material : Material → Material → Bool
+same_material a b =
+    option_eq svid_same (chosen_of a) (chosen_of b)
+    && (same_bag svid_eq a.context.svids b.context.svids && (same_set a.context.bundles b.context.bundles && same_bag (pointwise nat_eq) a.context.crls b.context.crls))

@@ -1,0 +1,29 @@
+//! Laws of what is the same, which contracts cite. No law has a body: its statement is what it says.
+
+ghost use Rattle.std.specs.Prelude.{◌≡◌, ℤ, Bool, true, false, Option};
+ghost use Rattle.std.specs.Option.{option_eq};
+ghost use Rattle.std.specs.Cmp.{IsEquivalence};
+ghost use Rattle.spf_view.specs.Views.{Permitted};
+ghost use Rattle.spf_feed.specs.Material.{Material, chosen_of, svid_same, same_material};
+ghost use Rattle.spf_feed.specs.Reordered.{IsReordered};
+ghost use Rattle.spf_feed.specs.Shown.{visible_text};
+
+/// Being the same is an equivalence.
+pub fn same_is_an_equivalence()
+    ensures { IsEquivalence same_material }
+{}
+
+/// The order of the SVIDs, of the authorities of a trust domain and of the revocation lists makes no difference.
+pub fn order_makes_no_difference()
+    ensures { (a b : Material) → IsReordered a b → same_material a b ≡ true }
+{}
+
+/// Another chosen SVID does.
+pub fn choice_makes_a_difference()
+    ensures { (a b : Material) → option_eq svid_same (chosen_of a) (chosen_of b) ≡ false → same_material a b ≡ false }
+{}
+
+/// Material that is the same is shown alike at one moment.
+pub fn same_material_is_shown_alike()
+    ensures { (a b : Material) (now : Option ℤ) → same_material a b ≡ true → visible_text (Permitted a) now ≡ visible_text (Permitted b) now }
+{}
