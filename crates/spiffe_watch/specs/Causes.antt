@@ -1,5 +1,5 @@
 -- Where a run ends with a fault of its source or its sink.
-use Rattle.std.specs.Prelude.{◌≡◌, ℕ, ◌≤◌, Result, Err}
+use Rattle.std.specs.Prelude.{◌≡◌, ℕ, ◌≤◌, Bool, true, false, Result, Err}
 use Rattle.spf_io.specs.Outside.{Rose}
 use Rattle.spf_feed.specs.declared.follow_error.FollowError.{FollowError}
 use Rattle.spf_feed.specs.declared.follow_error.FollowError.TheVariants as answers
@@ -19,6 +19,11 @@ status faults.Unsupported = 8
 status faults.TimedOut = 9
 status faults.Closed = 10
 status faults.NeverSynced = 11
+
+-- whether a run ended since its words are not those of the program
+abbrev pub is_words : Fault → Bool
+is_words faults.Words = true
+is_words _ = false
 
 -- the counts never fall, and a fault of reading or writing comes only where its count rose
 pub record HasCauses (reads reads' writes writes' : ℕ) (r : Result (Unit {0}) Fault) : Type 0 where

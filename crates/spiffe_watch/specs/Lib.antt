@@ -1,1 +1,4 @@
 pub mod Causes
+pub mod Setting
+pub mod Words
+pub mod Headline

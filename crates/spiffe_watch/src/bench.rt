@@ -1,7 +1,7 @@
 //! The summary of a made session: it is followed in memory, and its lines are counted.
 
-ghost use Rattle.std.specs.Prelude.{None};
-ghost use Rattle.spiffe_watch.specs.Causes.{HasCauses};
+ghost use Rattle.std.specs.Prelude.{◌≡◌, false, None, IfErr};
+ghost use Rattle.spiffe_watch.specs.Causes.{HasCauses, is_words};
 
 use crate::fault::Fault;
 use crate::made::MadeSession;
@@ -94,6 +94,7 @@ fn number_of(word: &[u8]) -> Option<u64> {
 
 /// Puts the summary of the session that `make` writes, followed with default settings.
 pub(crate) fn bench<K: Sink>(alloc: Global, words: MadeWords, out: &mut K) -> Result<(), Fault>
+    ensures words { IfErr result (λ f. is_words f ≡ false) }
     ensures cause { HasCauses 0 0 (K.faults out.old) (K.faults out.new) result }
 {
     let mut source = MadeSource {

@@ -1,16 +1,23 @@
 //! The calls of the program over a source and sinks of any kind.
 
-ghost use Rattle.std.specs.Prelude.{◌≡◌};
+ghost use Rattle.std.specs.Prelude.{◌≡◌, ◌↔◌, false, None, Err, IfOk, IfErr, map, string_bytes};
+ghost use Rattle.std.specs.Option.{option_map, option_copied};
+ghost use Rattle.spf_feed.specs.Pick.{first_with_hint};
 ghost use Rattle.spf_io.specs.Outside.{Rose};
-ghost use Rattle.spiffe_watch.specs.Causes.{HasCauses};
+ghost use Rattle.spiffe_watch.specs.Causes.{HasCauses, is_words};
+ghost use Rattle.spiffe_watch.specs.Headline.{Ran, Does, Ended, Headline, Completes, ended_by};
+ghost use Rattle.spiffe_watch.specs.Words.{command_in};
+ghost use Rattle.spiffe_watch.specs.declared.fault.Fault.TheVariants as endings;
 
 use crate::bench::bench;
 use crate::fault::{Fault, fault_of, tell};
 use crate::made::MadeSession;
 use crate::unkept::Unkept;
 use crate::words::{Command, MadeWords, X509Words, command_of};
-use spf_feed::{HintPicker, NoRecorder, follow_x509};
-use spf_io::{Sink, Source, Text};
+use spf_feed::{
+    FollowError, HintPicker, NoRecorder, Ready, ResourceLimits, SvidPicker, follow_x509,
+};
+use spf_io::{OutOfMemory, Sink, Source, Text};
 use std::alloc::Global;
 
 /// Does what the words ask for, and answers the status of the process: 0 where it ended well.
@@ -21,6 +28,14 @@ pub fn watch<S: Source, K: Sink, E: Sink>(
     out: &mut K,
     faults: &mut E,
 ) -> u8
+    // Status 1 comes exactly where the words are not those of the program.
+    ensures words { (result ≡ 1) ↔ (command_in (map string_bytes words.now) ≡ None) }
+    // What is taken, put and answered belongs to one list of events, where the words ask for a session.
+    ensures session { Ended (command_in (map string_bytes words.now)) (S.left source.old) (S.left source.new) (K.held out.old) (K.held out.new) result }
+    // Status 0: the source held a whole session, and the output is one line for each event.
+    ensures headline { result ≡ 0 → Headline (command_in (map string_bytes words.now)) (S.left source.old) (K.held out.old) (K.held out.new) }
+    // A whole session with an accepted event, within the bound and without a fault, ends with 0, or with want of memory.
+    ensures complete { Completes (command_in (map string_bytes words.now)) (S.left source.old) (S.faults source.old) (S.faults source.new) (K.faults out.old) (K.faults out.new) result }
     ensures read_fault { result ≡ 3 → Rose (S.faults source.old) (S.faults source.new) }
     ensures write_fault { result ≡ 4 → Rose (K.faults out.old) (K.faults out.new) }
 {
@@ -36,6 +51,8 @@ fn run<S: Source, K: Sink>(
     source: &mut S,
     out: &mut K,
 ) -> Result<(), Fault>
+    ensures words { (result ≡ Err endings.Words) ↔ (command_in (map string_bytes words.now) ≡ None) }
+    ensures session { Does (command_in (map string_bytes words.now)) (S.left source.old) (S.left source.new) (K.held out.old) (K.held out.new) result }
     ensures cause { HasCauses (S.faults source.old) (S.faults source.new) (K.faults out.old) (K.faults out.new) result }
 {
     match command_of(words) {
@@ -46,6 +63,16 @@ fn run<S: Source, K: Sink>(
     }
 }
 
+/// The picker of the first SVID with a hint, where one is set.
+fn picker_of(alloc: Global, hint: Option<&str>) -> Result<Option<HintPicker>, OutOfMemory>
+    ensures { IfOk result (λ p. option_map ⟦<HintPicker as SvidPicker>⟧.picks p ≡ option_map first_with_hint (option_copied hint.entry)) }
+{
+    match hint {
+        None => Ok(None),
+        Some(hint) => Ok(Some(HintPicker::new(Text::copy_of(alloc, hint)?))),
+    }
+}
+
 /// Follows the session that the source holds, and puts a line for each event.
 fn follow<S: Source, K: Sink>(
     alloc: Global,
@@ -53,24 +80,57 @@ fn follow<S: Source, K: Sink>(
     source: &mut S,
     out: &mut K,
 ) -> Result<(), Fault>
+    ensures words { IfErr result (λ f. is_words f ≡ false) }
+    ensures session { Ran words.entry (S.left source.old) (S.left source.new) (K.held out.old) (K.held out.new) result }
     ensures cause { HasCauses (S.faults source.old) (S.faults source.new) (K.faults out.old) (K.faults out.new) result }
 {
-    let picker = match words.hint {
-        None => None,
-        Some(hint) => Some(HintPicker::new(Text::copy_of(alloc, hint)?)),
-    };
+    follow_by(
+        alloc,
+        source,
+        out,
+        words.limits,
+        words.deadline,
+        words.max_frames,
+        words.hint,
+        words.ready,
+    )
+}
+
+/// The same by the parts of the words. Steps and records are kept nowhere.
+fn follow_by<S: Source, K: Sink>(
+    alloc: Global,
+    source: &mut S,
+    out: &mut K,
+    limits: ResourceLimits,
+    deadline: Option<i64>,
+    max_frames: u64,
+    hint: Option<&str>,
+    ready: Ready,
+) -> Result<(), Fault>
+    ensures words { IfErr result (λ f. is_words f ≡ false) }
+    ensures session { Ran (record { limits = limits; deadline = deadline; max_frames = max_frames; hint = option_copied hint.entry; ready = ready }) (S.left source.old) (S.left source.new) (K.held out.old) (K.held out.new) result }
+    ensures cause { HasCauses (S.faults source.old) (S.faults source.new) (K.faults out.old) (K.faults out.new) result }
+{
+    let picker = picker_of(alloc, hint)?;
     let answer = follow_x509(
         alloc,
         source,
         out,
         &mut Unkept,
         &mut NoRecorder::new(),
-        words.limits,
-        words.deadline,
-        words.max_frames,
+        limits,
+        deadline,
+        max_frames,
         picker.as_ref(),
-        words.ready,
+        ready,
     );
+    end_of(answer)
+}
+
+/// How a run ends with the answer of a session.
+fn end_of(answer: Result<u64, FollowError>) -> Result<(), Fault>
+    ensures { result ≡ ended_by answer }
+{
     match answer {
         Ok(_) => Ok(()),
         Err(error) => Err(fault_of(&error)),
@@ -79,6 +139,7 @@ fn follow<S: Source, K: Sink>(
 
 /// Puts the frames of a made session, one part after another.
 fn make<K: Sink>(alloc: Global, words: MadeWords, out: &mut K) -> Result<(), Fault>
+    ensures words { IfErr result (λ f. is_words f ≡ false) }
     ensures cause { HasCauses 0 0 (K.faults out.old) (K.faults out.new) result }
 {
     let mut session = MadeSession::new(alloc, words)?;

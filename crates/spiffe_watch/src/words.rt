@@ -1,9 +1,34 @@
 //! The words of the command line.
 
+ghost use Rattle.std.specs.Prelude.{◌≡◌, ◌≤◌, None, Some, map, string_bytes};
+ghost use Rattle.std.specs.Char.{is_ascii_digit};
+ghost use Rattle.std.specs.List.{list_all};
+ghost use Rattle.std.specs.Option.{option_map, option_copied, ForSome};
+ghost use Rattle.spiffe_watch.specs.Words.{
+  command_in,
+  made_in,
+  x509_setting,
+  is_option as is_option_name,
+  are_options as are_pairs,
+  values_of,
+  at_most_one,
+  option_in,
+  limit_in,
+  moment_in,
+  number_in,
+  ready_in,
+  is_numeral as is_decimal,
+  number_up_to as number_in_up_to,
+};
+
 use spf_feed::{Ready, ResourceLimits};
+use std::marker::Model;
 
 /// How many frames a session may have where the words name no number.
 const DEFAULT_MAX_FRAMES: u64 = 1_000_000;
+
+/// The greatest number that a word may be.
+const MOST: u64 = i64::MAX as u64;
 
 /// The most operations of a made session.
 const MOST_OPERATIONS: u64 = 10_000;
@@ -29,6 +54,16 @@ pub(crate) struct X509Words<'a> {
     pub(crate) ready: Ready,
 }
 
+impl<'a> Model for X509Words<'a> {
+    ghost use Rattle.spiffe_watch.specs.Setting.{Setting};
+
+    ghost Value = { Setting };
+
+    ghost use Rattle.std.specs.Option.{option_copied};
+
+    ghost view = { λ w. record { limits = w.limits; deadline = w.deadline; max_frames = w.max_frames; hint = option_copied w.hint; ready = w.ready } };
+}
+
 /// The size and the seed of a made session.
 #[derive(Clone, Copy)]
 pub(crate) struct MadeWords {
@@ -37,8 +72,13 @@ pub(crate) struct MadeWords {
 }
 
 /// What the words ask for; none where they are not words of the program.
-pub(crate) fn command_of(words: &[String]) -> Option<Command<'_>> {
-    let (first, rest) = words.split_first()?;
+#[tactic(auto, unfolding(crate::specs::Words::command_in))]
+pub(crate) fn command_of(words: &[String]) -> Option<Command<'_>>
+    ensures { result ≡ command_in (map string_bytes words.now) }
+{
+    let [first, rest @ ..] = words else {
+        return None;
+    };
     match first.as_str() {
         "x509" => Some(Command::X509(x509_words(rest)?)),
         "make" => Some(Command::Make(made_words(rest)?)),
@@ -47,128 +87,204 @@ pub(crate) fn command_of(words: &[String]) -> Option<Command<'_>> {
     }
 }
 
-fn made_words(words: &[String]) -> Option<MadeWords> {
+/// A size and a seed.
+#[tactic(auto, unfolding(crate::specs::Words::made_in))]
+fn made_words(words: &[String]) -> Option<MadeWords>
+    ensures { result ≡ made_in (map string_bytes words.now) }
+{
     let [operations, seed] = words else {
         return None;
     };
-    let operations = number(operations.as_str())?;
-    let seed = number(seed.as_str())?;
-    if operations > MOST_OPERATIONS || seed > GREATEST_SEED {
-        return None;
-    }
-    Some(MadeWords { operations, seed })
-}
-
-/// The options that the words name, each at most once.
-#[derive(Drop)]
-struct Options<'a> {
-    max_svids: Option<Option<usize>>,
-    max_bundles: Option<Option<usize>>,
-    max_bundle_bytes: Option<Option<usize>>,
-    max_crl_bytes: Option<Option<usize>>,
-    deadline: Option<i64>,
-    max_frames: Option<u64>,
-    hint: Option<&'a str>,
-    ready: Option<Ready>,
-}
-
-fn x509_words(words: &[String]) -> Option<X509Words<'_>> {
-    let options = options_of(words)?;
-    let limits = ResourceLimits::default_limits();
-    Some(X509Words {
-        limits: ResourceLimits::new(
-            options.max_svids.unwrap_or(limits.max_svids),
-            options.max_bundles.unwrap_or(limits.max_bundles),
-            options
-                .max_bundle_bytes
-                .unwrap_or(limits.max_bundle_der_bytes),
-            options.max_crl_bytes.unwrap_or(limits.max_crl_bytes),
-        ),
-        deadline: options.deadline,
-        max_frames: options.max_frames.unwrap_or(DEFAULT_MAX_FRAMES),
-        hint: options.hint,
-        ready: options.ready.unwrap_or(Ready::Usable),
+    Some(MadeWords {
+        operations: number_up_to(MOST_OPERATIONS, operations.as_str())?,
+        seed: number_up_to(GREATEST_SEED, seed.as_str())?,
     })
 }
 
-/// The pairs of an option and its value.
-fn options_of(words: &[String]) -> Option<Options<'_>> {
-    let mut options = Options {
-        max_svids: None,
-        max_bundles: None,
-        max_bundle_bytes: None,
-        max_crl_bytes: None,
-        deadline: None,
-        max_frames: None,
-        hint: None,
-        ready: None,
-    };
+/// The setting of a session, whose options come each at most once.
+#[tactic(auto, unfolding(crate::specs::Words::x509_setting))]
+fn x509_words(words: &[String]) -> Option<X509Words<'_>>
+    ensures { result ≡ x509_setting (map string_bytes words.now) }
+{
+    if !are_options(words) {
+        return None;
+    }
+    let limits = ResourceLimits::default_limits();
+    Some(X509Words {
+        limits: ResourceLimits::new(
+            limit_option(words, "--max-svids", limits.max_svids)?,
+            limit_option(words, "--max-bundles", limits.max_bundles)?,
+            limit_option(words, "--max-bundle-bytes", limits.max_bundle_der_bytes)?,
+            limit_option(words, "--max-crl-bytes", limits.max_crl_bytes)?,
+        ),
+        deadline: moment_option(words, "--deadline")?,
+        max_frames: number_option(words, "--max-frames", DEFAULT_MAX_FRAMES)?,
+        hint: hint_option(words, "--hint")?,
+        ready: ready_option(words, "--ready", Ready::Usable)?,
+    })
+}
+
+/// Whether a word is the name of an option of a session.
+#[tactic(auto, unfolding(crate::specs::Words::is_option))]
+fn is_option(name: &str) -> bool
+    ensures { result ≡ is_option_name name.now }
+{
+    matches!(
+        name,
+        "--max-svids"
+            | "--max-bundles"
+            | "--max-bundle-bytes"
+            | "--max-crl-bytes"
+            | "--deadline"
+            | "--max-frames"
+            | "--hint"
+            | "--ready"
+    )
+}
+
+/// Whether the words are pairs of an option and its value.
+fn are_options(words: &[String]) -> bool
+    ensures { result ≡ are_pairs (map string_bytes words.now) }
+{
     let mut rest = words;
-    while let Some((name, behind)) = rest.split_first() {
-        let (value, others) = behind.split_first()?;
-        options = with_option(options, name.as_str(), value.as_str())?;
-        rest = others;
-    }
-    Some(options)
-}
-
-/// The options with one more.
-fn with_option<'a>(options: Options<'a>, name: &str, value: &'a str) -> Option<Options<'a>> {
-    let mut options = options;
-    match name {
-        "--max-svids" => options.max_svids = once(options.max_svids, limit(value))?,
-        "--max-bundles" => options.max_bundles = once(options.max_bundles, limit(value))?,
-        "--max-bundle-bytes" => {
-            options.max_bundle_bytes = once(options.max_bundle_bytes, limit(value))?;
+    while let [name, _, behind @ ..] = rest {
+        if !is_option(name.as_str()) {
+            return false;
         }
-        "--max-crl-bytes" => options.max_crl_bytes = once(options.max_crl_bytes, limit(value))?,
-        "--deadline" => options.deadline = once(options.deadline, moment(value))?,
-        "--max-frames" => options.max_frames = once(options.max_frames, number(value))?,
-        "--hint" => options.hint = once(options.hint, Some(value))?,
-        "--ready" => options.ready = once(options.ready, ready(value))?,
-        _ => return None,
+        rest = behind;
     }
-    Some(options)
+    rest.is_empty()
 }
 
-/// The value, where none stood before.
-fn once<T: Drop>(before: Option<T>, value: Option<T>) -> Option<Option<T>> {
-    if before.is_some() || value.is_none() {
-        return None;
+/// The value of an option, where the words name one; none where they name several.
+fn value_of<'a>(words: &'a [String], option: &str) -> Option<Option<&'a str>>
+    ensures { option_map option_copied result ≡ at_most_one (values_of option.now (map string_bytes words.now)) }
+{
+    let mut found = None;
+    let mut rest = words;
+    while let [name, value, behind @ ..] = rest {
+        if name.as_str() == option {
+            if found.is_some() {
+                return None;
+            }
+            found = Some(value.as_str());
+        }
+        rest = behind;
     }
-    Some(value)
+    Some(found)
 }
 
-/// A number: decimal digits without a sign or a leading zero, at most 2^63 - 1.
-fn number(text: &str) -> Option<u64> {
-    let digits = text.as_bytes();
-    if digits.is_empty() || !digits.iter().all(|digit| digit.is_ascii_digit()) {
+/// What the words set a limit to, or what it is without them.
+#[tactic(auto, unfolding(crate::specs::Words::option_in))]
+fn limit_option(words: &[String], option: &str, absent: Option<usize>) -> Option<Option<usize>>
+    ensures { result ≡ option_in limit_in absent option.now (map string_bytes words.now) }
+{
+    match value_of(words, option)? {
+        None => Some(absent),
+        Some(value) => limit(value),
+    }
+}
+
+/// The moment that the words set.
+#[tactic(auto, unfolding(crate::specs::Words::option_in))]
+fn moment_option(words: &[String], option: &str) -> Option<Option<i64>>
+    ensures { result ≡ option_in (λ value. option_map Some (moment_in value)) None option.now (map string_bytes words.now) }
+{
+    match value_of(words, option)? {
+        None => Some(None),
+        Some(value) => Some(Some(moment(value)?)),
+    }
+}
+
+/// What the words set a number to, or what it is without them.
+#[tactic(auto, unfolding(crate::specs::Words::option_in))]
+fn number_option(words: &[String], option: &str, absent: u64) -> Option<u64>
+    ensures { result ≡ option_in number_in absent option.now (map string_bytes words.now) }
+{
+    match value_of(words, option)? {
+        None => Some(absent),
+        Some(value) => number_up_to(MOST, value),
+    }
+}
+
+/// The hint that the words set.
+#[tactic(auto, unfolding(crate::specs::Words::option_in))]
+fn hint_option<'a>(words: &'a [String], option: &str) -> Option<Option<&'a str>>
+    ensures { option_map option_copied result ≡ option_in (λ value. Some (Some value)) None option.now (map string_bytes words.now) }
+{
+    match value_of(words, option)? {
+        None => Some(None),
+        Some(value) => Some(Some(value)),
+    }
+}
+
+/// What the words say that a first update must hold, or what it must hold without them.
+#[tactic(auto, unfolding(crate::specs::Words::option_in))]
+fn ready_option(words: &[String], option: &str, absent: Ready) -> Option<Ready>
+    ensures { result ≡ option_in ready_in absent option.now (map string_bytes words.now) }
+{
+    match value_of(words, option)? {
+        None => Some(absent),
+        Some(value) => ready(value),
+    }
+}
+
+/// Whether all octets are decimal digits.
+fn all_digits(text: &[u8]) -> bool
+    ensures { result ≡ list_all is_ascii_digit text.now }
+{
+    text.iter().all(|digit| digit.is_ascii_digit())
+}
+
+/// Whether a text is decimal digits, at least one, without a leading zero.
+#[tactic(auto, unfolding(crate::specs::Words::is_numeral))]
+fn is_numeral(text: &[u8]) -> bool
+    ensures { result ≡ is_decimal text.now }
+{
+    match text {
+        [] => false,
+        [b'0', _, ..] => false,
+        _ => all_digits(text),
+    }
+}
+
+/// A number of at most so many.
+fn number_up_to(most: u64, text: &str) -> Option<u64>
+    ensures value { result ≡ number_in_up_to most text.now }
+    ensures bound { ForSome result (λ n. n ≤ most) }
+{
+    if !is_numeral(text.as_bytes()) {
         return None;
     }
-    if digits.len() > 1 && digits[0] == b'0' {
-        return None;
+    match text.parse::<u64>() {
+        Ok(number) if number <= most => Some(number),
+        _ => None,
     }
-    let number = text.parse::<u64>().ok()?;
-    if number > i64::MAX as u64 {
-        return None;
-    }
-    Some(number)
 }
 
 /// A moment in Unix seconds.
-fn moment(text: &str) -> Option<i64> {
-    i64::try_from(number(text)?).ok()
+fn moment(text: &str) -> Option<i64>
+    ensures { result ≡ moment_in text.now }
+{
+    Some(number_up_to(MOST, text)? as i64)
 }
 
 /// A number, or no limit.
-fn limit(text: &str) -> Option<Option<usize>> {
+#[tactic(auto, unfolding(crate::specs::Words::limit_in))]
+fn limit(text: &str) -> Option<Option<usize>>
+    ensures { result ≡ limit_in text.now }
+{
     if text == "none" {
         return Some(None);
     }
-    Some(Some(number(text)? as usize))
+    Some(Some(number_up_to(MOST, text)? as usize))
 }
 
-fn ready(text: &str) -> Option<Ready> {
+/// What a first update must hold.
+#[tactic(auto, unfolding(crate::specs::Words::ready_in))]
+fn ready(text: &str) -> Option<Ready>
+    ensures { result ≡ ready_in text.now }
+{
     match text {
         "usable" => Some(Ready::Usable),
         "any" => Some(Ready::Any),

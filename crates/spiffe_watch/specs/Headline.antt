@@ -1,0 +1,97 @@
+-- What `watch` does with a session of X.509 updates: the headline.
+use Rattle.std.specs.Prelude.{◌≡◌, ◌⊎◌, ℕ, true, ◌==◌, ◌||◌, IsTrue, List, [], ◌∷◌, ◌++◌, length, Option, None, Some, Result, Ok, Err}
+use Rattle.std.specs.Option.{option_map}
+use Rattle.spf_io.specs.Outside.{Rose}
+use Rattle.spf_view.specs.Views.{has_begun}
+use Rattle.spf_view.specs.Sessions.{IsReading, refusal_of, closed_of, onto, Grows, Followed}
+use Rattle.spf_feed.specs.declared.follow_error.FollowError.{FollowError}
+use Rattle.spf_feed.specs.Items.{Event, Rules, rules_with, subject}
+use Rattle.spf_feed.specs.Pick.{first_with_hint}
+use Rattle.spf_feed.specs.Run.{stream, outputs, told, end_for}
+use Rattle.spiffe_watch.specs.declared.fault.Fault.{Fault}
+use Rattle.spiffe_watch.specs.declared.words.Command.{Command}
+use Rattle.spiffe_watch.specs.declared.words.Command.TheVariants as commands
+use Rattle.spiffe_watch.specs.Causes.{fault_of_answer, status}
+use Rattle.spiffe_watch.specs.Setting.{Setting}
+
+-- the rules of a session of a setting: a hint, where one is set, picks the first SVID that has it
+abbrev pub rules_for : Setting → Rules
+rules_for setting = rules_with setting.limits setting.deadline setting.ready (option_map first_with_hint setting.hint)
+
+-- A session of a setting is followed, from what the source has left and the sink holds before to what they do after;
+-- steps and records are kept nowhere.
+abbrev pub FollowedBy : Setting → Option (List ℕ) → Option (List ℕ) → Option (List ℕ) → Option (List ℕ) → Result ℕ FollowError → Type 0
+FollowedBy setting left left' held held' answer =
+    Followed (stream (rules_for setting)) (outputs (rules_for setting)) setting.max_frames left left' (told held None None) (told held' None None) (end_for answer)
+
+-- how a run ends with an answer, and its status
+abbrev pub ended_by : Result ℕ FollowError → Result (Unit {0}) Fault
+ended_by (Ok count) = Ok tt
+ended_by (Err e) = Err (fault_of_answer e)
+
+abbrev pub status_of_end : Result (Unit {0}) Fault → ℕ
+status_of_end (Ok done) = 0
+status_of_end (Err f) = status f
+
+-- A session is followed, and the run ends as its answer says.
+pub record Ran (setting : Setting) (left left' held held' : Option (List ℕ)) (r : Result (Unit {0}) Fault) : Type 0 where
+  pub answer : Result ℕ FollowError
+  pub followed : FollowedBy setting left left' held held' answer
+  pub is : r ≡ ended_by answer
+
+-- what a run does, where its words ask for a session
+abbrev pub Does : Option Command → Option (List ℕ) → Option (List ℕ) → Option (List ℕ) → Option (List ℕ) → Result (Unit {0}) Fault → Type 0
+Does (Some (commands.X509 setting)) left left' held held' r = Ran setting left left' held held' r
+Does (Some (commands.Make words)) left left' held held' r = Unit {0}
+Does (Some (commands.Bench words)) left left' held held' r = Unit {0}
+Does None left left' held held' r = Unit {0}
+
+-- A run that did this ended with this status.
+pub record Ended (command : Option Command) (left left' held held' : Option (List ℕ)) (n : ℕ) : Type 0 where
+  pub end : Result (Unit {0}) Fault
+  pub does : Does command left left' held held' end
+  pub status : n ≡ status_of_end end
+
+-- the lines of these events behind a history, one for each
+abbrev pub lines_of : Rules → List Event → List Event → List ℕ
+lines_of rules past [] = []
+lines_of rules past (e ∷ es) = (outputs rules).line past e ++ lines_of rules (e ∷ past) es
+
+-- The bytes begin with a whole session, and the sink grew by its lines and nothing else.
+pub record Shows (setting : Setting) (bytes : List ℕ) (held held' : Option (List ℕ)) : Type 0 where
+  -- the events of the session, and what follows them
+  pub es : List Event
+  pub rest : List ℕ
+  pub reading : IsReading (stream (rules_for setting)) setting.max_frames bytes es rest
+  -- some event is accepted, and none ends the session before
+  pub accepted : has_begun (subject (rules_for setting)) (onto [] es) ≡ true
+  pub calm : refusal_of (stream (rules_for setting)) [] es ≡ None
+  -- the last event is a close, or nothing follows
+  pub whole : IsTrue (closed_of (stream (rules_for setting)) es || length rest == 0)
+  pub lines : Grows held held' (lines_of (rules_for setting) [] es)
+
+-- The headline: the source, where it tells its bytes, held a whole session, and the output is one line for each event.
+abbrev pub Headline : Option Command → Option (List ℕ) → Option (List ℕ) → Option (List ℕ) → Type 0
+Headline (Some (commands.X509 setting)) (Some bytes) held held' = Shows setting bytes held held'
+Headline (Some (commands.X509 setting)) None held held' = Unit {0}
+Headline (Some (commands.Make words)) left held held' = Unit {0}
+Headline (Some (commands.Bench words)) left held held' = Unit {0}
+Headline None left held held' = Unit {0}
+
+-- The bytes begin with a whole session within the bound, that has an accepted event and none that ends it before.
+pub record IsWholeSession (setting : Setting) (bytes : List ℕ) : Type 0 where
+  pub es : List Event
+  pub rest : List ℕ
+  pub reading : IsReading (stream (rules_for setting)) setting.max_frames bytes es rest
+  pub accepted : has_begun (subject (rules_for setting)) (onto [] es) ≡ true
+  pub calm : refusal_of (stream (rules_for setting)) [] es ≡ None
+  pub whole : IsTrue (closed_of (stream (rules_for setting)) es || length rest == 0)
+
+-- Completeness: a source that holds a whole session is followed to its end, or memory runs out; where a fault of the
+-- source or of the output came, nothing is said.
+abbrev pub Completes : Option Command → Option (List ℕ) → ℕ → ℕ → ℕ → ℕ → ℕ → Type 0
+Completes (Some (commands.X509 setting)) (Some bytes) reads reads' writes writes' n = IsWholeSession setting bytes → (Rose reads reads' → ⊥) → (Rose writes writes' → ⊥) → (n ≡ 0) ⊎ (n ≡ 2)
+Completes (Some (commands.X509 setting)) None reads reads' writes writes' n = Unit {0}
+Completes (Some (commands.Make words)) left reads reads' writes writes' n = Unit {0}
+Completes (Some (commands.Bench words)) left reads reads' writes writes' n = Unit {0}
+Completes None left reads reads' writes writes' n = Unit {0}
