@@ -1,6 +1,6 @@
 -- Lists that are handed on one by one.
-use Rattle.std.proofs.Common.{◌≡◌, Bool, true, List, [], ◌∷◌, take, length, Option, Some, None, Result, Ok, Err, refl, sym, ap, subst}
-use Rattle.spf_view.specs.Sessions.{Grows, GrowsUpTo}
+use Rattle.std.proofs.Common.{◌≡◌, Bool, true, List, [], ◌∷◌, Option, Some, None, Result, Ok, Err, sym, ap, subst}
+use Rattle.spf_view.specs.Sessions.{GrowsUpTo}
 use Rattle.spf_view.proofs.FollowLemmas.{grows_nil}
 use Rattle.spf_feed.specs.Records.{RecordAppends}
 use Rattle.std.specs.Prelude.{IsErr}
@@ -16,14 +16,6 @@ none_yet old more = record { count = 0; grows = grows_nil old; all = λ e. absur
 
 pub none_since : {X : Type 0} (old new : Option (List X)) (more : List X) → new ≡ old → GrowsUpTo old new more true
 none_since {X} old new more same = subst (λ (o : Option (List X)). GrowsUpTo old o more true) (sym same) (none_yet old more)
-
--- all of them
-pub all_so_far : {X : Type 0} (old new : Option (List X)) (more : List X) → Grows old new more → GrowsUpTo old new more true
-all_so_far {X} old new more h = record { count = length more; grows = subst (Grows old new) (taken more) h; all = λ e. absurd cc }
-  where
-    taken : (l : List X) → l ≡ take (length l) l
-    taken [] = refl
-    taken (x ∷ l) = ap (λ t. x ∷ t) (taken l)
 
 -- one was handed on
 pub one_more : {X E : Type 0} (old new : Option (List X)) (r : Result (Unit {0}) E) (x : X) → RecordAppends old new r x → HandsOn old new r (x ∷ [])

@@ -129,7 +129,9 @@ impl MetricsRecorder for MemRecorder {
 pub struct NoRecorder;
 
 impl NoRecorder {
-    pub fn new() -> NoRecorder {
+    pub fn new() -> NoRecorder
+        ensures { ⟦<NoRecorder as MetricsRecorder>⟧.records result ≡ None }
+    {
         NoRecorder
     }
 }
