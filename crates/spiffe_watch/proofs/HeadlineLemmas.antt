@@ -50,12 +50,7 @@ shows setting bytes left' held held' count f = elim f.answer [ inl free ↦ absu
     by_end ended =
         let w = whole_by _ _ _ _ (length f.es) count ended.is in
         record {
-          es = f.es;
-          rest = ended.rest;
-          reading = ended.reading;
-          accepted = w.begun_is;
-          calm = w.calm;
-          whole = w.whole_is;
+          session = record { es = f.es; rest = ended.rest; reading = ended.reading; accepted = w.begun_is; calm = w.calm; whole = w.whole_is };
           lines = subst (Grows held held') (lines_all (rules_for setting) [] f.es w.calm) (grows_whole held held' (all_of (stream (rules_for setting)) (outputs (rules_for setting)).line [] f.es) f.lines);
         }
 

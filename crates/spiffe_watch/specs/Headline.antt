@@ -57,8 +57,8 @@ abbrev pub lines_of : Rules → List Event → List Event → List ℕ
 lines_of rules past [] = []
 lines_of rules past (e ∷ es) = (outputs rules).line past e ++ lines_of rules (e ∷ past) es
 
--- The bytes begin with a whole session, and the sink grew by its lines and nothing else.
-pub record Shows (setting : Setting) (bytes : List ℕ) (held held' : Option (List ℕ)) : Type 0 where
+-- The bytes begin with a whole session within the bound.
+pub record IsWholeSession (setting : Setting) (bytes : List ℕ) : Type 0 where
   -- the events of the session, and what follows them
   pub es : List Event
   pub rest : List ℕ
@@ -68,7 +68,11 @@ pub record Shows (setting : Setting) (bytes : List ℕ) (held held' : Option (Li
   pub calm : refusal_of (stream (rules_for setting)) [] es ≡ None
   -- the last event is a close, or nothing follows
   pub whole : IsTrue (closed_of (stream (rules_for setting)) es || length rest == 0)
-  pub lines : Grows held held' (lines_of (rules_for setting) [] es)
+
+-- The bytes begin with a whole session, and the sink grew by its lines and nothing else.
+pub record Shows (setting : Setting) (bytes : List ℕ) (held held' : Option (List ℕ)) : Type 0 where
+  pub session : IsWholeSession setting bytes
+  pub lines : Grows held held' (lines_of (rules_for setting) [] session.es)
 
 -- The headline: the source, where it tells its bytes, held a whole session, and the output is one line for each event.
 abbrev pub Headline : Option Command → Option (List ℕ) → Option (List ℕ) → Option (List ℕ) → Type 0
@@ -77,15 +81,6 @@ Headline (Some (commands.X509 setting)) None held held' = Unit {0}
 Headline (Some (commands.Make words)) left held held' = Unit {0}
 Headline (Some (commands.Bench words)) left held held' = Unit {0}
 Headline None left held held' = Unit {0}
-
--- The bytes begin with a whole session within the bound, that has an accepted event and none that ends it before.
-pub record IsWholeSession (setting : Setting) (bytes : List ℕ) : Type 0 where
-  pub es : List Event
-  pub rest : List ℕ
-  pub reading : IsReading (stream (rules_for setting)) setting.max_frames bytes es rest
-  pub accepted : has_begun (subject (rules_for setting)) (onto [] es) ≡ true
-  pub calm : refusal_of (stream (rules_for setting)) [] es ≡ None
-  pub whole : IsTrue (closed_of (stream (rules_for setting)) es || length rest == 0)
 
 -- Completeness: a source that holds a whole session is followed to its end, or memory runs out; where a fault of the
 -- source or of the output came, nothing is said.

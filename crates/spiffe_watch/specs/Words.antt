@@ -5,18 +5,13 @@ use Rattle.std.specs.List.{list_all}
 use Rattle.std.specs.Option.{option_map}
 use Rattle.std.specs.Str.{bytes_eq}
 use Rattle.std.specs.Str.Parse.{digits_value}
+use Rattle.spf_der.specs.Option.{◌>>=◌}
 use Rattle.spf_feed.specs.declared.ready.Ready.{Ready}
 use Rattle.spf_feed.specs.declared.ready.Ready.TheVariants as ready
 use Rattle.spiffe_watch.specs.Setting.{Setting}
 use Rattle.spiffe_watch.specs.declared.words.Command.{Command}
 use Rattle.spiffe_watch.specs.declared.words.Command.TheVariants as commands
 use Rattle.spiffe_watch.specs.declared.words.MadeWords.{MadeWords}
-
--- a value that is there, and then what stands on it
-infixl 10 ◌>>=◌
-abbrev pub ◌>>=◌ : {A B : Type 0} → Option A → (A → Option B) → Option B
-None >>= f = None
-(Some x) >>= f = f x
 
 -- a zero before a further digit
 abbrev pub leads_with_zero : List ℕ → Bool
