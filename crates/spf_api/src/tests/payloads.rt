@@ -1,91 +1,165 @@
-use super::fixtures::first_item;
+//! Payloads: what they lay out, and what is written of it.
+
+ghost use Rattle.spf_api.specs.Views.{IsTextual};
+
+use super::fixtures::{both, first_item};
 use crate::{
-    Response, ResponseKind, context_from, context_from_view, read_context_view, read_payload,
-    write_payload,
+    ContextView, Response, ResponseKind, context_from, context_from_view, read_context_view,
+    read_payload, write_payload,
 };
+use spf_io::OutOfMemory;
 use std::alloc::Global;
 use std::test::Fail;
 
-/// The payload of the first item.
-fn first_payload(alloc: Global) -> Result<Vec<u8>, Fail> {
+/// More octets than the payload of the first item has.
+const WHOLE: usize = 300;
+
+/// The payload of the response.
+fn written(alloc: Global, response: Response) -> Result<Vec<u8>, OutOfMemory> {
+    let payload = write_payload(alloc, &response);
+    drop(response);
+    payload
+}
+
+/// The first octets of the payload of the first item.
+fn first_payload(alloc: Global, length: usize) -> Result<Vec<u8>, Fail> {
     let item = first_item(alloc)?;
-    Ok(write_payload(alloc, &Response::Context(item))?)
+    let mut payload = written(alloc, Response::Context(item))?;
+    payload.truncate(length);
+    Ok(payload)
 }
 
-fn lays_out(alloc: Global, kind: ResponseKind, payload: &[u8]) -> Result<bool, Fail> {
-    Ok(read_payload(alloc, kind, payload)?.is_some())
-}
-
-/// Whether the payload gives the first item.
-fn gives_first_item(alloc: Global, payload: &[u8]) -> Result<bool, Fail> {
-    let item = first_item(alloc)?;
-    match read_payload(alloc, ResponseKind::Context, payload)? {
-        Some(Response::Context(found)) => Ok(found == item),
-        _ => Ok(false),
-    }
-}
-
-/// Whether what the payload lays out is written as the same payload.
-fn is_written_again(alloc: Global, kind: ResponseKind, payload: &[u8]) -> Result<bool, Fail> {
+/// What the payload lays out: nothing, or what is written as it or as another.
+fn laid_out(alloc: Global, kind: ResponseKind, payload: &[u8]) -> Result<&'static str, Fail> {
     match read_payload(alloc, kind, payload)? {
-        None => Ok(false),
-        Some(response) => Ok(write_payload(alloc, &response)?.as_slice() == payload),
+        None => Ok("nothing"),
+        Some(response) => {
+            if written(alloc, response)?.as_slice() == payload {
+                Ok("the same")
+            } else {
+                Ok("another")
+            }
+        }
     }
+}
+
+/// How many octets that payload of the first item has, and what it lays out.
+fn first_laid_out(alloc: Global, length: usize) -> Result<(usize, &'static str), Fail> {
+    let payload = first_payload(alloc, length)?;
+    let found = laid_out(alloc, ResponseKind::Context, payload.as_slice())?;
+    Ok((payload.len(), found))
+}
+
+/// Whether the payload of the first item is read as the first item.
+fn first_is_read_back(alloc: Global) -> Result<bool, Fail> {
+    let payload = first_payload(alloc, WHOLE)?;
+    let wanted = Response::Context(first_item(alloc)?);
+    let found = read_payload(alloc, ResponseKind::Context, payload.as_slice());
+    Ok(both(found, Ok(Some(wanted))))
 }
 
 #[test]
 fn payload(rt: HostRuntime) -> Result<(), Fail> {
     let alloc = rt.alloc();
-    let mut bytes = first_payload(alloc)?;
-    assert_eq!(rt; bytes.len(), 282);
-    assert!(rt; gives_first_item(alloc, bytes.as_slice())?);
-    assert!(rt; is_written_again(alloc, ResponseKind::Context, bytes.as_slice())?);
-    bytes.truncate(281);
-    assert!(rt; !lays_out(alloc, ResponseKind::Context, bytes.as_slice())?);
-    assert!(rt; !lays_out(alloc, ResponseKind::Context, &[255, 255, 255, 255])?);
+    for (length, wanted) in [(WHOLE, (282, "the same")), (281, (281, "nothing"))] {
+        assert!(rt; first_laid_out(alloc, length)? == wanted, "{length}");
+    }
+    assert!(rt; first_is_read_back(alloc)?);
     Ok(())
 }
 
-/// A further octet, and a name that is no UTF-8, lay out nothing.
-#[test]
-fn payload_ends_and_texts(rt: HostRuntime) -> Result<(), Fail> {
-    let alloc = rt.alloc();
-    let named = [0, 0, 0, 1, 0, 0, 0, 1, b'a', 0, 0, 0, 0];
-    assert!(rt; is_written_again(alloc, ResponseKind::Bundles, &named)?);
-    assert!(rt; is_written_again(alloc, ResponseKind::JwtBundles, &named)?);
-    let longer = [0, 0, 0, 1, 0, 0, 0, 1, b'a', 0, 0, 0, 0, 0];
-    assert!(rt; !lays_out(alloc, ResponseKind::Bundles, &longer)?);
-    let no_text = [0, 0, 0, 1, 0, 0, 0, 1, 0xff, 0, 0, 0, 0];
-    assert!(rt; !lays_out(alloc, ResponseKind::Bundles, &no_text)?);
-    Ok(())
-}
+const JWT_SVID: &[u8] = b"\0\0\0\x01\0\0\0\x01i\0\0\0\x01t\0\0\0\0";
 
-/// A JWT SVID, and claims of each kind of value.
+const CLAIMS: &[u8] = b"\0\0\0\x01a\x01\0\0\0\x07\
+    \0\0\0\x01a\x00\0\0\0\x01b\x01\0\0\0\x01c\x02\x01\
+    \0\0\0\x01d\x03\xff\xff\xff\xff\xff\xff\xff\xfe\
+    \0\0\0\x01e\x04\0\0\0\x031.5\
+    \0\0\0\x01f\x06\0\0\0\x01\x05\0\0\0\x01a\
+    \0\0\0\x01g\x07\0\0\0\x01\0\0\0\x01h\x01";
+
+const NAMED: &[u8] = b"\0\0\0\x01\0\0\0\x01a\0\0\0\0";
+
+const PAYLOADS: &[(&str, ResponseKind, &[u8], &str)] = &[
+    (
+        "payload_ends_and_texts: bundles",
+        ResponseKind::Bundles,
+        NAMED,
+        "the same",
+    ),
+    (
+        "payload_ends_and_texts: JWT bundles",
+        ResponseKind::JwtBundles,
+        NAMED,
+        "the same",
+    ),
+    (
+        "further_payloads: a JWT SVID",
+        ResponseKind::JwtSvids,
+        JWT_SVID,
+        "the same",
+    ),
+    (
+        "further_payloads: claims",
+        ResponseKind::Validation,
+        CLAIMS,
+        "the same",
+    ),
+    (
+        "payload_ends_and_texts: longer",
+        ResponseKind::Bundles,
+        b"\0\0\0\x01\0\0\0\x01a\0\0\0\0\0",
+        "nothing",
+    ),
+    (
+        "payload_ends_and_texts: no text",
+        ResponseKind::Bundles,
+        b"\0\0\0\x01\0\0\0\x01\xff\0\0\0\0",
+        "nothing",
+    ),
+    (
+        "payload: no end",
+        ResponseKind::Context,
+        b"\xff\xff\xff\xff",
+        "nothing",
+    ),
+];
+
+/// Each kind of response; a further octet and a name that is no UTF-8 lay out nothing.
 #[test]
 fn further_payloads(rt: HostRuntime) -> Result<(), Fail> {
     let alloc = rt.alloc();
-    let svid = b"\0\0\0\x01\0\0\0\x01i\0\0\0\x01t\0\0\0\0".as_slice();
-    assert!(rt; is_written_again(alloc, ResponseKind::JwtSvids, svid)?);
-    let claims = b"\0\0\0\x01a\x01\0\0\0\x07\
-        \0\0\0\x01a\x00\0\0\0\x01b\x01\0\0\0\x01c\x02\x01\
-        \0\0\0\x01d\x03\xff\xff\xff\xff\xff\xff\xff\xfe\
-        \0\0\0\x01e\x04\0\0\0\x031.5\
-        \0\0\0\x01f\x06\0\0\0\x01\x05\0\0\0\x01a\
-        \0\0\0\x01g\x07\0\0\0\x01\0\0\0\x01h\x01"
-        .as_slice();
-    assert!(rt; is_written_again(alloc, ResponseKind::Validation, claims)?);
+    for &(name, kind, payload, wanted) in PAYLOADS {
+        assert!(rt; laid_out(alloc, kind, payload)? == wanted, "{name}");
+    }
     Ok(())
+}
+
+/// Whether the view gives the context of the first item.
+fn gives_first_context(alloc: Global, view: ContextView<'_>) -> Result<bool, Fail>
+    requires { IsTextual view }
+{
+    let item = first_item(alloc)?;
+    Ok(both(context_from_view(alloc, &view), context_from(alloc, &item)))
+}
+
+/// Whether the view of the payload gives the context of the first item; none where there is no view.
+fn viewed(alloc: Global, payload: &[u8]) -> Result<Option<bool>, Fail> {
+    match read_context_view(alloc, payload)? {
+        None => Ok(None),
+        Some(view) => Ok(Some(gives_first_context(alloc, view)?)),
+    }
+}
+
+/// What the view of the payload of the first item gives.
+fn first_viewed(alloc: Global) -> Result<Option<bool>, Fail> {
+    let payload = first_payload(alloc, WHOLE)?;
+    viewed(alloc, payload.as_slice())
 }
 
 #[test]
 fn views(rt: HostRuntime) -> Result<(), Fail> {
     let alloc = rt.alloc();
-    let bytes = first_payload(alloc)?;
-    let owned = context_from(alloc, &first_item(alloc)?)?;
-    match read_context_view(alloc, bytes.as_slice())? {
-        Some(view) => assert!(rt; context_from_view(alloc, &view)? == owned),
-        None => assert!(rt; false),
-    }
-    assert!(rt; read_context_view(alloc, &[255, 255, 255, 255])?.is_none());
+    assert!(rt; first_viewed(alloc)? == Some(true));
+    assert!(rt; viewed(alloc, b"\xff\xff\xff\xff")?.is_none());
     Ok(())
 }

@@ -1,156 +1,277 @@
-use super::fixtures::{KEY1, ROOT1, context, entry, first_item, named, root};
+//! What responses mean, and the first rule that they break.
+
+use super::fixtures::{FIRST, KEY1, ROOT1, ROOT2, ROOT3, SECOND, SvidRow, bundle_entries, context};
 use crate::{
-    BundlesResponse, ContextResponse, SvidEntry, WorkloadApiError, bundle_set_from, context_from,
-    svid_from, svids_from,
+    BundlesResponse, ContextResponse, WorkloadApiError, bundle_set_from, context_from, svid_from,
+    svids_from,
 };
 use spf_id::TrustDomain;
-use spf_io::{List, Text};
-use spf_x509::{X509BundleSet, X509SvidError};
+use spf_x509::{X509BundleSet, X509Context, X509Svid, X509SvidError};
 use std::alloc::Global;
 use std::test::Fail;
 
-/// Whether the answer is that the field is missing.
-fn lacks<T>(answer: &Result<T, WorkloadApiError>, name: &str) -> bool {
+/// The missing field, or the kind of another answer.
+fn refusal<T>(answer: &Result<T, WorkloadApiError>) -> &str {
     match answer {
-        Err(WorkloadApiError::MissingRequiredField { field }) => field.as_str() == name,
-        _ => false,
+        Err(WorkloadApiError::MissingRequiredField { field }) => field.as_str(),
+        Err(WorkloadApiError::X509Svid(X509SvidError::PrivateKey(_))) => "a bad key",
+        Err(_) => "another fault",
+        Ok(_) => "an answer",
     }
 }
 
-/// Whether the only authority of the trust domain is that one.
-fn holds(alloc: Global, set: &X509BundleSet, domain: &str, authority: &[u8]) -> Result<bool, Fail> {
+/// Whether the answer is that refusal.
+fn is_refused<T: Drop>(answer: Result<T, WorkloadApiError>, wanted: &str) -> bool {
+    let found = refusal(&answer) == wanted;
+    drop(answer);
+    found
+}
+
+/// What is asked of a response.
+#[derive(Clone, Copy)]
+enum Asked {
+    Context,
+    Svids,
+}
+
+/// Whether the answer to the response of those SVID entries is that refusal.
+fn refuses(alloc: Global, asked: Asked, svids: &[SvidRow<'_>], wanted: &str) -> Result<bool, Fail> {
+    let response = context(alloc, svids, &[])?;
+    match asked {
+        Asked::Context => Ok(is_refused(context_from(alloc, &response), wanted)),
+        Asked::Svids => Ok(is_refused(svids_from(alloc, &response), wanted)),
+    }
+}
+
+const BARE: SvidRow<'static> = SvidRow {
+    spiffe_id: "",
+    key: &KEY1,
+    bundle: b"",
+    hint: "",
+};
+
+const KEYLESS: SvidRow<'static> = SvidRow {
+    spiffe_id: "spiffe://example.org/w",
+    key: b"",
+    bundle: &ROOT1,
+    hint: "",
+};
+
+const BAD_KEY: SvidRow<'static> = SvidRow {
+    spiffe_id: "spiffe://example.org/w",
+    key: b"\0",
+    bundle: &ROOT1,
+    hint: "",
+};
+
+const REFUSALS: &[(&str, Asked, &[SvidRow<'static>], &str)] = &[
+    (
+        "empty_bundle_comes_first",
+        Asked::Context,
+        &[BARE],
+        "X509SVID.bundle",
+    ),
+    (
+        "missing_fields: no SVID",
+        Asked::Context,
+        &[],
+        "X509SVIDResponse.svids",
+    ),
+    (
+        "missing_fields: no key",
+        Asked::Svids,
+        &[KEYLESS],
+        "X509SVID.x509_svid_key",
+    ),
+    (
+        "client_refuses_bad_key",
+        Asked::Context,
+        &[BAD_KEY],
+        "a bad key",
+    ),
+];
+
+/// An empty bundle comes before an empty spiffe_id.
+#[test]
+fn refusals(rt: HostRuntime) -> Result<(), Fail> {
+    let alloc = rt.alloc();
+    for &(name, asked, svids, wanted) in REFUSALS {
+        assert!(rt; refuses(alloc, asked, svids, wanted)?, "{name}");
+    }
+    Ok(())
+}
+
+/// Whether the set has a bundle of the trust domain with that authority alone, or with none.
+fn holds(
+    alloc: Global,
+    set: &X509BundleSet,
+    domain: &str,
+    authority: Option<&[u8]>,
+) -> Result<bool, Fail> {
     let domain = TrustDomain::new(alloc, domain)?;
     match set.get_ref(&domain) {
-        Some(bundle) => match bundle.authorities() {
-            [only] => Ok(only.as_bytes() == authority),
+        Some(bundle) => match (bundle.authorities(), authority) {
+            ([], None) => Ok(true),
+            ([only], Some(wanted)) => Ok(only.as_bytes() == wanted),
             _ => Ok(false),
         },
         None => Ok(false),
     }
 }
 
-/// The response of these entries alone.
-fn response_of(alloc: Global, entry: SvidEntry) -> Result<ContextResponse, Fail> {
-    let svids = vec![in alloc; entry]?;
-    Ok(context(alloc, svids, Vec::new(alloc)))
+/// What a context holds: so many SVIDs and bundles, and of a trust domain that authority or none.
+#[derive(Clone, Copy)]
+struct Held<'a> {
+    svids: usize,
+    bundles: usize,
+    domain: &'a str,
+    authority: Option<&'a [u8]>,
 }
 
-#[test]
-fn empty_federated_bundle(rt: HostRuntime) -> Result<(), Fail> {
-    let alloc = rt.alloc();
-    let mut response = first_item(alloc)?;
-    response.federated = List::new(vec![in alloc; named(alloc, "other.org", b"")?]?);
+fn is_held(alloc: Global, found: &X509Context, held: &Held<'_>) -> Result<bool, Fail> {
+    if found.svids().len() != held.svids || found.bundle_set().len() != held.bundles {
+        return Ok(false);
+    }
+    holds(alloc, found.bundle_set(), held.domain, held.authority)
+}
+
+/// Whether the response of those entries gives a context that holds that.
+fn gives(
+    alloc: Global,
+    svids: &[SvidRow<'_>],
+    federated: &[(&str, &[u8])],
+    held: &Held<'_>,
+) -> Result<bool, Fail> {
+    let response = context(alloc, svids, federated)?;
     let found = context_from(alloc, &response)?;
-    let domain = TrustDomain::new(alloc, "other.org")?;
-    match found.bundle_set().get_ref(&domain) {
-        Some(bundle) => assert!(rt; bundle.authorities().is_empty()),
-        None => assert!(rt; false),
+    let answer = is_held(alloc, &found, held);
+    drop(found);
+    answer
+}
+
+/// A row's SVID entries and federated bundles, and what their context holds.
+type ContextRow = (
+    &'static str,
+    &'static [SvidRow<'static>],
+    &'static [(&'static str, &'static [u8])],
+    Held<'static>,
+);
+
+const CONTEXTS: &[ContextRow] = &[
+    (
+        "empty_federated_bundle",
+        &[FIRST],
+        &[("other.org", b"")],
+        Held {
+            svids: 1,
+            bundles: 2,
+            domain: "other.org",
+            authority: None,
+        },
+    ),
+    (
+        "last_bundle_replaces",
+        &[FIRST, SECOND],
+        &[],
+        Held {
+            svids: 2,
+            bundles: 1,
+            domain: "example.org",
+            authority: Some(&ROOT2),
+        },
+    ),
+    (
+        "federated_bundle_replaces",
+        &[FIRST, SECOND],
+        &[("example.org", &ROOT3)],
+        Held {
+            svids: 2,
+            bundles: 1,
+            domain: "example.org",
+            authority: Some(&ROOT3),
+        },
+    ),
+];
+
+/// The bundle of the second SVID entry replaces that of the first, and a federated one both.
+#[test]
+fn contexts(rt: HostRuntime) -> Result<(), Fail> {
+    let alloc = rt.alloc();
+    for &(name, svids, federated, held) in CONTEXTS {
+        assert!(rt; gives(alloc, svids, federated, &held)?, "{name}");
     }
     Ok(())
 }
 
-/// An empty bundle comes before an empty spiffe_id.
-#[test]
-fn empty_bundle_comes_first(rt: HostRuntime) -> Result<(), Fail> {
-    let alloc = rt.alloc();
-    let mut empty = entry(alloc, &KEY1, b"")?;
-    empty.spiffe_id = Text::copy_of(alloc, "")?;
-    let response = response_of(alloc, empty)?;
-    assert!(rt; lacks(&context_from(alloc, &response), "X509SVID.bundle"));
-    Ok(())
+/// Whether the SVID is of the rows' workload, with that hint.
+fn is_first(svid: X509Svid, hint: Option<&str>) -> bool {
+    let same = svid.spiffe_id().as_str() == "spiffe://example.org/w" && svid.hint() == hint;
+    drop(svid);
+    same
 }
 
-#[test]
-fn missing_fields(rt: HostRuntime) -> Result<(), Fail> {
-    let alloc = rt.alloc();
-    let none = context(alloc, Vec::new(alloc), Vec::new(alloc));
-    assert!(rt; lacks(&context_from(alloc, &none), "X509SVIDResponse.svids"));
-    let keyless = response_of(alloc, entry(alloc, b"", &ROOT1)?)?;
-    assert!(rt; lacks(&svids_from(alloc, &keyless), "X509SVID.x509_svid_key"));
-    Ok(())
+/// Whether both calls succeed, and the one is all that there is.
+fn is_all<T: PartialEq + Drop, E: Drop>(all: Result<Vec<T>, E>, one: Result<T, E>) -> bool {
+    match (all, one) {
+        (Ok(all), Ok(one)) => match all.as_slice() {
+            [only] => *only == one,
+            _ => false,
+        },
+        _ => false,
+    }
 }
 
-fn two_svids(alloc: Global) -> Result<ContextResponse, Fail> {
-    let first = entry(alloc, &KEY1, &ROOT1)?;
-    let second = entry(alloc, &KEY1, &root(2))?;
-    let svids = vec![in alloc; first, second]?;
-    Ok(context(alloc, svids, Vec::new(alloc)))
+/// Whether the first SVID, with that hint, is all that a response of that hint gives.
+fn gives_first(alloc: Global, given: &str, hint: Option<&str>) -> Result<bool, Fail> {
+    let rows = [SvidRow {
+        hint: given,
+        ..FIRST
+    }];
+    let item = context(alloc, &rows, &[])?;
+    let all = is_all(svids_from(alloc, &item), svid_from(alloc, &item));
+    Ok(all && is_first(svid_from(alloc, &item)?, hint))
 }
 
-/// The bundle of the second SVID entry replaces that of the first.
-#[test]
-fn last_bundle_replaces(rt: HostRuntime) -> Result<(), Fail> {
-    let alloc = rt.alloc();
-    let found = context_from(alloc, &two_svids(alloc)?)?;
-    assert_eq!(rt; found.svids().len(), 2);
-    assert_eq!(rt; found.bundle_set().len(), 1);
-    assert!(rt; holds(alloc, found.bundle_set(), "example.org", &root(2))?);
-    Ok(())
-}
+const HINTS: &[(&str, &str, Option<&str>)] = &[
+    ("client", "", None),
+    ("hints_are_kept", "internal", Some("internal")),
+];
 
-#[test]
-fn federated_bundle_replaces(rt: HostRuntime) -> Result<(), Fail> {
-    let alloc = rt.alloc();
-    let mut response = two_svids(alloc)?;
-    response.federated = List::new(vec![in alloc; named(alloc, "example.org", &root(3))?]?);
-    let found = context_from(alloc, &response)?;
-    assert!(rt; holds(alloc, found.bundle_set(), "example.org", &root(3))?);
-    Ok(())
-}
-
+/// A hint that is not empty is kept.
 #[test]
 fn client(rt: HostRuntime) -> Result<(), Fail> {
     let alloc = rt.alloc();
-    let item = first_item(alloc)?;
-    let svid = svid_from(alloc, &item)?;
-    assert_eq!(rt; svid.spiffe_id().as_str(), "spiffe://example.org/w");
-    assert!(rt; svid.hint().is_none());
-    let svids = svids_from(alloc, &item)?;
-    assert!(rt; svids.as_slice() == [svid].as_slice());
+    for &(name, given, hint) in HINTS {
+        assert!(rt; gives_first(alloc, given, hint)?, "{name}");
+    }
     Ok(())
 }
 
-#[test]
-fn client_refuses_bad_key(rt: HostRuntime) -> Result<(), Fail> {
-    let alloc = rt.alloc();
-    let bad = response_of(alloc, entry(alloc, b"\0", &ROOT1)?)?;
-    let refused = context_from(alloc, &bad);
-    assert!(rt;
-        matches!(
-            refused,
-            Err(WorkloadApiError::X509Svid(X509SvidError::PrivateKey(_)))
-        )
-    );
-    Ok(())
+fn bundles(alloc: Global, rows: &[(&str, &[u8])]) -> Result<BundlesResponse, Fail> {
+    Ok(BundlesResponse {
+        bundles: bundle_entries(alloc, rows)?,
+    })
+}
+
+/// Whether a response of no bundles lacks them.
+fn lacks_bundles(alloc: Global) -> Result<bool, Fail> {
+    let none = bundles(alloc, &[])?;
+    Ok(is_refused(bundle_set_from(alloc, &none), "X509BundlesResponse.bundles"))
+}
+
+/// Whether a response of the bundle of the first root gives that bundle.
+fn gives_bundle(alloc: Global) -> Result<bool, Fail> {
+    let one = bundles(alloc, &[("example.org", &ROOT1)])?;
+    let set = bundle_set_from(alloc, &one)?;
+    let answer = holds(alloc, &set, "example.org", Some(&ROOT1));
+    drop(set);
+    answer
 }
 
 #[test]
 fn client_bundles(rt: HostRuntime) -> Result<(), Fail> {
     let alloc = rt.alloc();
-    let none = BundlesResponse {
-        bundles: List::new(Vec::new(alloc)),
-    };
-    assert!(rt;
-        lacks(
-            &bundle_set_from(alloc, &none),
-            "X509BundlesResponse.bundles"
-        )
-    );
-    let one = BundlesResponse {
-        bundles: List::new(vec![in alloc; named(alloc, "example.org", &ROOT1)?]?),
-    };
-    let set = bundle_set_from(alloc, &one)?;
-    assert!(rt; holds(alloc, &set, "example.org", &ROOT1)?);
-    Ok(())
-}
-
-/// A hint that is not empty is kept.
-#[test]
-fn hints_are_kept(rt: HostRuntime) -> Result<(), Fail> {
-    let alloc = rt.alloc();
-    let mut hinted = entry(alloc, &KEY1, &ROOT1)?;
-    hinted.hint = Text::copy_of(alloc, "internal")?;
-    let svid = svid_from(alloc, &response_of(alloc, hinted)?)?;
-    assert!(rt; svid.hint() == Some("internal"));
+    assert!(rt; lacks_bundles(alloc)?);
+    assert!(rt; gives_bundle(alloc)?);
     Ok(())
 }
