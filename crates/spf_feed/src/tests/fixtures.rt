@@ -1,204 +1,133 @@
-//! The frames that the tests are written in, by name.
+//! What the tests are written in: names, which stand for octets in hexadecimal.
 
-use std::alloc::{AllocError, Global};
+use std::alloc::Global;
 use std::test::Fail;
 
-const ROOT1: &str =
-    "3046303a020101300506032b65703000301e170d3730303130313030303030305a170d3730303130313030313634305a3000300a300506032b6570030100300506032b6570030100";
-
-const ROOT2: &str =
-    "3046303a020102300506032b65703000301e170d3730303130313030303030305a170d3730303130313030313634305a3000300a300506032b6570030100300506032b6570030100";
-
-const ROOT3: &str =
-    "3046303a020103300506032b65703000301e170d3730303130313030303030305a170d3730303130313030313634305a3000300a300506032b6570030100300506032b6570030100";
-
-const LEAF1: &str =
-    "30818a307ea003020102020101300506032b65703000301e170d3730303130313030303030305a170d3730303130313030313634305a3000300a300506032b6570030100a33d303b300b0603551d0f04040302078030090603551d130402300030210603551d11041a301886167370696666653a2f2f6578616d706c652e6f72672f77300506032b6570030100";
-
-const LEAF2: &str =
-    "30818a307ea003020102020101300506032b65703000301e170d3730303130313030303030305a170d3730303130313030313634305a3000300a300506032b6570030100a33d303b300b0603551d0f04040302078030090603551d130402300030210603551d11041a301886167370696666653a2f2f6578616d706c652e6f72672f76300506032b6570030100";
-
-const KEY1: &str = "300d020100300506032b6570040101";
-
-const KEY2: &str = "300d020100300506032b6570040102";
-
-const ROOTS12: &str =
-    "3046303a020101300506032b65703000301e170d3730303130313030303030305a170d3730303130313030313634305a3000300a300506032b6570030100300506032b65700301003046303a020102300506032b65703000301e170d3730303130313030303030305a170d3730303130313030313634305a3000300a300506032b6570030100300506032b6570030100";
-
-const ROOTS21: &str =
-    "3046303a020102300506032b65703000301e170d3730303130313030303030305a170d3730303130313030313634305a3000300a300506032b6570030100300506032b65700301003046303a020101300506032b65703000301e170d3730303130313030303030305a170d3730303130313030313634305a3000300a300506032b6570030100300506032b6570030100";
-
-/// The names of the certificates.
-pub(super) const CERTIFICATES: [(&str, &str); 5] = [
-    ("ROOT1", ROOT1),
-    ("ROOT2", ROOT2),
-    ("ROOT3", ROOT3),
-    ("LEAF1", LEAF1),
-    ("LEAF2", LEAF2),
+/// What each name stands for, before those that it holds.
+static NAMES: [(&str, &str); 40] = [
+    // What a line shows of I1.
+    ("P1", "spiffe://example.org/w 1000 LEAF1 example.org=ROOT1"),
+    // Events: a kind, a length, and the rest.
+    ("CM", "01 00000000"),
+    ("CN", "03 00000000"),
+    ("CL", "09 00000000"),
+    ("M0", "08 00000008 0000000000000000"),
+    ("M999", "08 00000008 00000000000003e7"),
+    ("M1000", "08 00000008 00000000000003e8"),
+    ("CF7no", "02 00000007 07 00000002 6e6f"),
+    ("CF12", "02 00000005 0c 00000000"),
+    ("CS12", "04 00000005 0c 00000000"),
+    (
+        "CS7issued",
+        "04 0000001c 07 00000017 6e6f206964656e74697479206973737565642068657265",
+    ),
+    ("IS3bad", "06 00000008 03 00000003 626164"),
+    ("IS7no", "06 00000007 07 00000002 6e6f"),
+    ("IS14x", "06 00000006 0e 00000001 78"),
+    // Items: SVIDs, each with its bundle and its hint, then federated bundles, then revocation lists.
+    (
+        "I1F",
+        "05 0000017c 00000001 FIRST 00000048 ROOT1 00000000 00000001 00000012 7370696666653a2f2f6f746865722e6f7267 00000048 ROOT2 00000000",
+    ),
+    (
+        "I1CB",
+        "05 00000124 00000001 FIRST 00000048 ROOT1 00000000 00000000 00000002 00000001 0b 00000001 0a",
+    ),
+    (
+        "I1CA",
+        "05 0000011f 00000001 FIRST 00000048 ROOT1 00000000 00000000 00000001 00000001 0a",
+    ),
+    (
+        "I1C",
+        "05 00000124 00000001 FIRST 00000048 ROOT1 00000000 00000000 00000002 00000001 0a 00000001 0b",
+    ),
+    (
+        "I1",
+        "05 0000011a 00000001 FIRST 00000048 ROOT1 00000000 00000000 00000000",
+    ),
+    (
+        "BADKEY",
+        "05 0000010c 00000001 ID 0000008d LEAF1 00000001 00 00000048 ROOT1 00000000 00000000 00000000",
+    ),
+    (
+        "J1",
+        "05 0000040e 00000003 FIRST ROOTS12 SECOND ROOTS12 THIRD ROOTS12 00000000 00000000",
+    ),
+    (
+        "J2",
+        "05 0000040e 00000003 FIRST ROOTS21 THIRD ROOTS21 SECOND ROOTS21 00000000 00000000",
+    ),
+    (
+        "J3",
+        "05 0000040e 00000003 SECOND ROOTS12 FIRST ROOTS12 THIRD ROOTS12 00000000 00000000",
+    ),
+    (
+        "TWOFED",
+        "05 00000283 00000002 FIRST 00000048 ROOT1 00000000 SECOND 00000048 ROOT2 00000000 00000001 0000000b 6578616d706c652e6f7267 00000048 ROOT3 00000000",
+    ),
+    (
+        "EMPTYFED",
+        "05 0000012b 00000001 FIRST 00000048 ROOT1 00000000 00000001 00000009 6f746865722e6f7267 00000000 00000000",
+    ),
+    (
+        "HINT1",
+        "05 00000122 00000001 FIRST 00000048 ROOT1 00000008 696e7465726e616c 00000000 00000000",
+    ),
+    (
+        "HINT2",
+        "05 00000122 00000001 FIRST 00000048 ROOT2 00000008 65787465726e616c 00000000 00000000",
+    ),
+    // Parts of items: an ID, a chain and a key; bundles of two with no hint.
+    ("FIRST", "ID 0000008d LEAF1 0000000f KEY1"),
+    ("SECOND", "ID 0000008d LEAF2 0000000f KEY1"),
+    ("THIRD", "ID 0000008d LEAF2 0000000f KEY2"),
+    ("ROOTS12", "00000090 ROOT1 ROOT2 00000000"),
+    ("ROOTS21", "00000090 ROOT2 ROOT1 00000000"),
+    (
+        "ID",
+        "00000016 7370696666653a2f2f6578616d706c652e6f72672f77",
+    ),
+    // Certificates and keys.
+    (
+        "ROOT1",
+        "3046303a020101300506032b65703000301e170d3730303130313030303030305a170d3730303130313030313634305a3000300a300506032b6570030100300506032b6570030100",
+    ),
+    (
+        "ROOT2",
+        "3046303a020102300506032b65703000301e170d3730303130313030303030305a170d3730303130313030313634305a3000300a300506032b6570030100300506032b6570030100",
+    ),
+    (
+        "ROOT3",
+        "3046303a020103300506032b65703000301e170d3730303130313030303030305a170d3730303130313030313634305a3000300a300506032b6570030100300506032b6570030100",
+    ),
+    (
+        "LEAF1",
+        "30818a307ea003020102020101300506032b65703000301e170d3730303130313030303030305a170d3730303130313030313634305a3000300a300506032b6570030100a33d303b300b0603551d0f04040302078030090603551d130402300030210603551d11041a301886167370696666653a2f2f6578616d706c652e6f72672f77300506032b6570030100",
+    ),
+    (
+        "LEAF2",
+        "30818a307ea003020102020101300506032b65703000301e170d3730303130313030303030305a170d3730303130313030313634305a3000300a300506032b6570030100a33d303b300b0603551d0f04040302078030090603551d130402300030210603551d11041a301886167370696666653a2f2f6578616d706c652e6f72672f76300506032b6570030100",
+    ),
+    ("KEY1", "300d020100300506032b6570040101"),
+    ("KEY2", "300d020100300506032b6570040102"),
 ];
 
-/// The text that P1 stands for.
-pub(super) fn p1() -> &'static str {
-    "spiffe://example.org/w 1000 30818a307ea003020102020101300506032b65703000301e170d3730303130313030303030305a170d3730303130313030313634305a3000300a300506032b6570030100a33d303b300b0603551d0f04040302078030090603551d130402300030210603551d11041a301886167370696666653a2f2f6578616d706c652e6f72672f77300506032b6570030100 example.org=3046303a020101300506032b65703000301e170d3730303130313030303030305a170d3730303130313030313634305a3000300a300506032b6570030100300506032b6570030100"
-}
-
-/// An SVID entry: leaf, key, bundle and hint.
-type Entry = (&'static str, &'static str, &'static str, &'static str);
-
-const E1: Entry = (LEAF1, KEY1, ROOT1, "");
-
-fn number(out: &mut Vec<u8>, number: usize) -> Result<(), AllocError> {
-    out.extend_from_slice(&((number & 0xffff_ffff) as u32).to_be_bytes())
-}
-
-fn field(out: &mut Vec<u8>, octets: &[u8]) -> Result<(), AllocError> {
-    number(out, octets.len())?;
-    out.extend_from_slice(octets)
-}
-
-fn der_field(alloc: Global, out: &mut Vec<u8>, der: &str) -> Result<(), Fail> {
-    let octets = hex::decode(alloc, der)?;
-    field(out, octets.as_slice())?;
-    Ok(())
-}
-
-fn frame(out: &mut Vec<u8>, kind: u8, payload: &[u8]) -> Result<(), AllocError> {
-    out.push(kind)?;
-    field(out, payload)
-}
-
-fn status(
-    alloc: Global,
-    out: &mut Vec<u8>,
-    kind: u8,
-    code: u8,
-    message: &str,
-) -> Result<(), AllocError> {
-    let mut payload = Vec::new(alloc);
-    payload.push(code)?;
-    field(&mut payload, message.as_bytes())?;
-    frame(out, kind, payload.as_slice())
-}
-
-fn svid_entry(alloc: Global, out: &mut Vec<u8>, entry: Entry) -> Result<(), Fail> {
-    let (leaf, key, bundle, hint) = entry;
-    field(out, b"spiffe://example.org/w")?;
-    der_field(alloc, out, leaf)?;
-    der_field(alloc, out, key)?;
-    der_field(alloc, out, bundle)?;
-    field(out, hint.as_bytes())?;
-    Ok(())
-}
-
-/// The payload of an item.
-pub(super) fn payload(
-    alloc: Global,
-    svids: &[Entry],
-    federated: &[(&str, &str)],
-    crls: &[&str],
-) -> Result<Vec<u8>, Fail> {
-    let mut out = Vec::new(alloc);
-    number(&mut out, svids.len())?;
-    for entry in svids {
-        svid_entry(alloc, &mut out, *entry)?;
+/// The text with what its names stand for in their place.
+fn written_out(alloc: Global, text: &str) -> Result<String, Fail> {
+    let mut text = String::from_str(alloc, text)?;
+    for (name, meaning) in NAMES.iter() {
+        text = text.replace(alloc, *name, meaning)?;
     }
-    number(&mut out, federated.len())?;
-    for (name, bundle) in federated {
-        field(&mut out, name.as_bytes())?;
-        der_field(alloc, &mut out, bundle)?;
-    }
-    number(&mut out, crls.len())?;
-    for crl in crls {
-        der_field(alloc, &mut out, crl)?;
-    }
-    Ok(out)
+    Ok(text)
 }
 
-/// The payload of a named item.
-pub(super) fn item(alloc: Global, name: &str) -> Result<Vec<u8>, Fail> {
-    match name {
-        "I1" => payload(alloc, &[E1], &[], &[]),
-        "I1F" => payload(alloc, &[E1], &[("spiffe://other.org", ROOT2)], &[]),
-        "I1C" => payload(alloc, &[E1], &[], &["0a", "0b"]),
-        "I1CB" => payload(alloc, &[E1], &[], &["0b", "0a"]),
-        "I1CA" => payload(alloc, &[E1], &[], &["0a"]),
-        "BADKEY" => payload(alloc, &[(LEAF1, "00", ROOT1, "")], &[], &[]),
-        "J1" => payload(
-            alloc,
-            &[
-                (LEAF1, KEY1, ROOTS12, ""),
-                (LEAF2, KEY1, ROOTS12, ""),
-                (LEAF2, KEY2, ROOTS12, ""),
-            ],
-            &[],
-            &[],
-        ),
-        "J2" => payload(
-            alloc,
-            &[
-                (LEAF1, KEY1, ROOTS21, ""),
-                (LEAF2, KEY2, ROOTS21, ""),
-                (LEAF2, KEY1, ROOTS21, ""),
-            ],
-            &[],
-            &[],
-        ),
-        "J3" => payload(
-            alloc,
-            &[
-                (LEAF2, KEY1, ROOTS12, ""),
-                (LEAF1, KEY1, ROOTS12, ""),
-                (LEAF2, KEY2, ROOTS12, ""),
-            ],
-            &[],
-            &[],
-        ),
-        "TWOFED" => payload(
-            alloc,
-            &[(LEAF1, KEY1, ROOT1, ""), (LEAF2, KEY1, ROOT2, "")],
-            &[("example.org", ROOT3)],
-            &[],
-        ),
-        "EMPTYFED" => payload(alloc, &[E1], &[("other.org", "")], &[]),
-        "HINT1" => payload(alloc, &[(LEAF1, KEY1, ROOT1, "internal")], &[], &[]),
-        "HINT2" => payload(alloc, &[(LEAF1, KEY1, ROOT2, "external")], &[], &[]),
-        _ => Err(Fail::from("no such item")),
-    }
+/// The octets that the text names, as the frames of a session.
+pub(super) fn octets(alloc: Global, text: &str) -> Result<Vec<u8>, Fail> {
+    let digits = written_out(alloc, text)?.replace(alloc, " ", "")?;
+    Ok(hex::decode(alloc, digits.as_str())?)
 }
 
-fn moment(out: &mut Vec<u8>, seconds: u64) -> Result<(), AllocError> {
-    frame(out, 8, &seconds.to_be_bytes())
-}
-
-fn named(alloc: Global, out: &mut Vec<u8>, name: &str) -> Result<(), Fail> {
-    match name {
-        "CM" => frame(out, 1, b"")?,
-        "CN" => frame(out, 3, b"")?,
-        "SE" => frame(out, 7, b"")?,
-        "CL" => frame(out, 9, b"")?,
-        "M0" => moment(out, 0)?,
-        "M999" => moment(out, 999)?,
-        "M1000" => moment(out, 1000)?,
-        "CF7no" => status(alloc, out, 2, 7, "no")?,
-        "CF12" => status(alloc, out, 2, 12, "")?,
-        "CS12" => status(alloc, out, 4, 12, "")?,
-        "CS7issued" => status(alloc, out, 4, 7, "no identity issued here")?,
-        "IS3bad" => status(alloc, out, 6, 3, "bad")?,
-        "IS7no" => status(alloc, out, 6, 7, "no")?,
-        "IS14x" => status(alloc, out, 6, 14, "x")?,
-        name => {
-            let payload = item(alloc, name)?;
-            frame(out, 5, payload.as_slice())?;
-        }
-    }
-    Ok(())
-}
-
-/// The frames of a session, by their names.
-pub(super) fn session(alloc: Global, names: &str) -> Result<Vec<u8>, Fail> {
-    let mut out = Vec::new(alloc);
-    for name in names.split_whitespace() {
-        named(alloc, &mut out, name)?;
-    }
-    Ok(out)
+/// Whether a text is another whose names are written out.
+pub(super) fn is_written(alloc: Global, text: String, other: &str) -> Result<bool, Fail> {
+    Ok(text.as_str() == written_out(alloc, other)?.as_str())
 }
