@@ -7,6 +7,10 @@ pub mod LineLemmas
 pub mod Loop
 pub mod Mapped
 pub mod Parts
+pub mod Plain
+pub mod PlainContexts
+pub mod PlainLines
+pub mod PlainNames
 pub mod Received
 mod Rows
 pub mod Seen

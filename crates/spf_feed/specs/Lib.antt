@@ -8,6 +8,7 @@ pub mod Lines
 pub mod Material
 pub mod Names
 pub mod Numbered
+pub mod OneLine
 pub mod Parts
 pub mod Pick
 pub mod Prepared

@@ -1,11 +1,14 @@
-//! Laws of what is the same, which contracts cite. No law has a body: its statement is what it says.
+//! Laws of what is the same and of lines, which contracts cite. No law has a body: its statement is what it says.
 
-ghost use Rattle.std.specs.Prelude.{◌≡◌, ℤ, Bool, true, false, Option};
+ghost use Rattle.std.specs.Prelude.{◌≡◌, ℤ, Bool, true, false, List, Option};
 ghost use Rattle.std.specs.Option.{option_eq};
 ghost use Rattle.std.specs.Cmp.{IsEquivalence};
 ghost use Rattle.spf_view.specs.Views.{Permitted};
+ghost use Rattle.spf_feed.specs.Items.{Event, Rules};
 ghost use Rattle.spf_feed.specs.Material.{Material, chosen_of, svid_same, same_material};
+ghost use Rattle.spf_feed.specs.OneLine.{IsLine};
 ghost use Rattle.spf_feed.specs.Reordered.{IsReordered};
+ghost use Rattle.spf_feed.specs.Run.{outputs};
 ghost use Rattle.spf_feed.specs.Shown.{visible_text};
 
 /// Being the same is an equivalence.
@@ -26,4 +29,9 @@ pub fn choice_makes_a_difference()
 /// Material that is the same is shown alike at one moment.
 pub fn same_material_is_shown_alike()
     ensures { (a b : Material) (now : Option ℤ) → same_material a b ≡ true → visible_text (Permitted a) now ≡ visible_text (Permitted b) now }
+{}
+
+/// The line of an event has one line feed, at its end.
+pub fn one_line_feed()
+    ensures { (rules : Rules) (past : List Event) (e : Event) → IsLine ((outputs rules).line past e) }
 {}

@@ -65,6 +65,13 @@ impl ResourceLimits {
 }
 
 impl Default for ResourceLimits {
+    ghost is_default = { λ x. x ≡ record {
+      max_svids = Some 100;
+      max_bundles = Some 200;
+      max_bundle_der_bytes = Some 4194304;
+      max_crl_bytes = Some 4194304;
+    } };
+
     fn default() -> ResourceLimits {
         ResourceLimits::default_limits()
     }

@@ -124,7 +124,7 @@ impl MetricsRecorder for MemRecorder {
     }
 }
 
-/// A recorder that keeps nothing.
+/// A recorder that keeps nothing, and so takes no memory.
 #[derive(Clone, Copy, Debug)]
 pub struct NoRecorder;
 
@@ -137,19 +137,25 @@ impl NoRecorder {
 }
 
 impl MetricsRecorder for NoRecorder {
-    ghost use Rattle.std.specs.Prelude.{None};
+    ghost use Rattle.std.specs.Prelude.{◌≡◌, None, Ok};
 
     ghost records = { λ _. None };
 
-    fn record_update(&mut self) -> Result<(), OutOfMemory> {
+    fn record_update(&mut self) -> Result<(), OutOfMemory>
+        ensures { result ≡ Ok tt }
+    {
         Ok(())
     }
 
-    fn record_reconnect(&mut self) -> Result<(), OutOfMemory> {
+    fn record_reconnect(&mut self) -> Result<(), OutOfMemory>
+        ensures { result ≡ Ok tt }
+    {
         Ok(())
     }
 
-    fn record_error(&mut self, _kind: MetricsErrorKind) -> Result<(), OutOfMemory> {
+    fn record_error(&mut self, _kind: MetricsErrorKind) -> Result<(), OutOfMemory>
+        ensures { result ≡ Ok tt }
+    {
         Ok(())
     }
 }
