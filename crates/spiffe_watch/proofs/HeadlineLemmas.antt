@@ -3,7 +3,7 @@ use Rattle.std.proofs.Common.{◌≡◌, ap, ◌∙◌, refl, ℕ, Bool, true, f
 use Rattle.std.specs.Prelude.{if◌then◌else◌, IsOk}
 use Rattle.std.specs.Borrow.{Bor}
 use Rattle.std.specs.Option.{option_map}
-use Rattle.spf_view.specs.Sessions.{Whole, end_by, IsEndOf, refusal_of, all_of, Grows, GrowsUpTo, Followed}
+use Rattle.spf_view.specs.Sessions.{End, Whole, end_by, IsEndOf, refusal_of, all_of, Grows, GrowsUpTo, Followed}
 use Rattle.spf_feed.specs.Items.{Event, Rules}
 use Rattle.spf_feed.specs.Run.{stream, outputs, told, end_for}
 use Rattle.spiffe_watch.specs.Setting.{Setting}
@@ -43,16 +43,35 @@ lines_all rules past (e ∷ es) h =
 grows_whole : (old new : Option (List ℕ)) (more : List ℕ) → GrowsUpTo old new more false → Grows old new more
 grows_whole old new more g = let whole : take g.count more ≡ more = take_all g.count more (omega (arith, g.all refl)) in subst (Grows old new) whole g.grows
 
-pub shows : (setting : Setting) (bytes : List ℕ) (left' held held' : Option (List ℕ)) (count : ℕ) → FollowedBy setting (Some bytes) left' held held' (Ok count) → Shows setting bytes held held'
-shows setting bytes left' held held' count f = elim f.answer [ inl free ↦ absurd cc | inr ended ↦ by_end ended ]
+-- what an end counts
+abbrev count_of : {A : Type 0} → End A → ℕ
+count_of (Whole n) = n
+count_of end = 0
+
+counted_by : {A : Type 0} (x : Option A) (whole begun full : Bool) (n m : ℕ) → Whole m ≡ end_by x whole begun full n → m ≡ n
+counted_by (Some x) whole begun full n m h = absurd cc
+counted_by None true true full n m h = ap count_of h
+counted_by None true false full n m h = absurd cc
+counted_by None false begun true n m h = absurd cc
+counted_by None false begun false n m h = absurd cc
+
+-- an answer that is Ok shows a whole session, and counts its events
+pub counted : (setting : Setting) (bytes : List ℕ) (left' held held' : Option (List ℕ)) (count : ℕ) → FollowedBy setting (Some bytes) left' held held' (Ok count)
+    → (s : Shows setting bytes held held') × (count ≡ length s.session.es)
+counted setting bytes left' held held' count f = elim f.answer [ inl free ↦ absurd cc | inr ended ↦ by_end ended ]
   where
-    by_end : IsEndOf (stream (rules_for setting)) setting.max_frames bytes f.es (Whole count) → Shows setting bytes held held'
+    by_end : IsEndOf (stream (rules_for setting)) setting.max_frames bytes f.es (Whole count) → (s : Shows setting bytes held held') × (count ≡ length s.session.es)
     by_end ended =
-        let w = whole_by _ _ _ _ (length f.es) count ended.is in
-        record {
-          session = record { es = f.es; rest = ended.rest; reading = ended.reading; accepted = w.begun_is; calm = w.calm; whole = w.whole_is };
-          lines = subst (Grows held held') (lines_all (rules_for setting) [] f.es w.calm) (grows_whole held held' (all_of (stream (rules_for setting)) (outputs (rules_for setting)).line [] f.es) f.lines);
-        }
+        let w = whole_by _ _ _ _ (length f.es) count ended.is in (
+          record {
+            session = record { es = f.es; rest = ended.rest; reading = ended.reading; accepted = w.begun_is; calm = w.calm; whole = w.whole_is };
+            lines = subst (Grows held held') (lines_all (rules_for setting) [] f.es w.calm) (grows_whole held held' (all_of (stream (rules_for setting)) (outputs (rules_for setting)).line [] f.es) f.lines);
+          },
+          counted_by _ _ _ _ (length f.es) count ended.is,
+        )
+
+pub shows : (setting : Setting) (bytes : List ℕ) (left' held held' : Option (List ℕ)) (count : ℕ) → FollowedBy setting (Some bytes) left' held held' (Ok count) → Shows setting bytes held held'
+shows setting bytes left' held held' count f = (counted setting bytes left' held held' count f).0
 
 -- how following ended, and the rules of its picker
 pub ran : (setting : Setting) (left left' held held' : Option (List ℕ)) (answer : Result ℕ FollowError) (r : Result (Unit {0}) Fault) (rules : Rules) → rules ≡ rules_for setting

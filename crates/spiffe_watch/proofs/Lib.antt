@@ -5,3 +5,15 @@ pub mod Pairs
 pub mod Rows
 pub mod Settings
 pub mod HeadlineLemmas
+pub mod Said
+pub mod Cut
+pub mod MadeLemmas
+pub mod NumberTexts
+pub mod Searched
+pub mod TallyLemmas
+pub mod WordLemmas
+pub mod RevisionShown
+pub mod Tallied
+pub mod PutLemmas
+pub mod Summed
+pub mod MadeRows

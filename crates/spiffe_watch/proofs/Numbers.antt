@@ -14,7 +14,7 @@ same_digits : (ds : List ℕ) → list_all is_ascii_digit ds ≡ all_ascii_digit
 same_digits [] = refl
 same_digits (c ∷ cs) = ap (λ b. is_ascii_digit c && b) (same_digits cs)
 
-digits_of : (text : List ℕ) → is_numeral text ≡ true → (0 < length text) × (list_all is_ascii_digit text ≡ true)
+pub digits_of : (text : List ℕ) → is_numeral text ≡ true → (0 < length text) × (list_all is_ascii_digit text ≡ true)
 unfolding is_numeral
 digits_of [] numeral = absurd cc
 digits_of (c ∷ cs) numeral =

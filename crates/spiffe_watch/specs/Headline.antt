@@ -1,5 +1,5 @@
 -- What `watch` does with a session of X.509 updates: the headline.
-use Rattle.std.specs.Prelude.{◌≡◌, ◌⊎◌, ℕ, true, ◌==◌, ◌||◌, IsTrue, List, [], ◌∷◌, ◌++◌, length, Option, None, Some, Result, Ok, Err}
+use Rattle.std.specs.Prelude.{◌≡◌, ◌⊎◌, ℕ, true, ◌==◌, ◌||◌, IsTrue, List, [], ◌∷◌, ◌++◌, length, Option, None, Some, Result, Ok, Err, IfErr}
 use Rattle.std.specs.Option.{option_map}
 use Rattle.spf_io.specs.Outside.{Rose}
 use Rattle.spf_view.specs.Views.{has_begun}
@@ -11,8 +11,12 @@ use Rattle.spf_feed.specs.Run.{stream, outputs, told, end_for}
 use Rattle.spiffe_watch.specs.declared.fault.Fault.{Fault}
 use Rattle.spiffe_watch.specs.declared.words.Command.{Command}
 use Rattle.spiffe_watch.specs.declared.words.Command.TheVariants as commands
-use Rattle.spiffe_watch.specs.Causes.{fault_of_answer, status}
+use Rattle.spiffe_watch.specs.declared.fault.Fault.TheVariants as faults
+use Rattle.spiffe_watch.specs.declared.words.MadeWords.{MadeWords}
+use Rattle.spiffe_watch.specs.Causes.{Says, fault_line, fault_of_answer, is_sink_fault, status}
+use Rattle.spiffe_watch.specs.Made.{made_session}
 use Rattle.spiffe_watch.specs.Setting.{Setting}
+use Rattle.spiffe_watch.specs.Summary.{default_setting, summary}
 
 -- the rules of a session of a setting: a hint, where one is set, picks the first SVID that has it
 abbrev pub rules_for : Setting → Rules
@@ -39,19 +43,6 @@ pub record Ran (setting : Setting) (left left' held held' : Option (List ℕ)) (
   pub followed : FollowedBy setting left left' held held' answer
   pub is : r ≡ ended_by answer
 
--- what a run does, where its words ask for a session
-abbrev pub Does : Option Command → Option (List ℕ) → Option (List ℕ) → Option (List ℕ) → Option (List ℕ) → Result (Unit {0}) Fault → Type 0
-Does (Some (commands.X509 setting)) left left' held held' r = Ran setting left left' held held' r
-Does (Some (commands.Make words)) left left' held held' r = Unit {0}
-Does (Some (commands.Bench words)) left left' held held' r = Unit {0}
-Does None left left' held held' r = Unit {0}
-
--- A run that did this ended with this status.
-pub record Ended (command : Option Command) (left left' held held' : Option (List ℕ)) (n : ℕ) : Type 0 where
-  pub end : Result (Unit {0}) Fault
-  pub does : Does command left left' held held' end
-  pub status : n ≡ status_of_end end
-
 -- the lines of these events behind a history, one for each
 abbrev pub lines_of : Rules → List Event → List Event → List ℕ
 lines_of rules past [] = []
@@ -73,6 +64,35 @@ pub record IsWholeSession (setting : Setting) (bytes : List ℕ) : Type 0 where
 pub record Shows (setting : Setting) (bytes : List ℕ) (held held' : Option (List ℕ)) : Type 0 where
   pub session : IsWholeSession setting bytes
   pub lines : Grows held held' (lines_of (rules_for setting) [] session.es)
+
+-- A text is put and no more; otherwise memory runs out, or the sink fails.
+pub record Puts (IsText : List ℕ → Type 0) (held held' : Option (List ℕ)) (r : Result (Unit {0}) Fault) : Type 0 where
+  pub text : r ≡ Ok tt → (t : List ℕ) × IsText t × Grows held held' t
+  pub fault : IfErr r (λ f. is_sink_fault f ≡ true)
+
+-- The text is the summary of the made session of these words, which is a whole one.
+pub record IsSummary (words : MadeWords) (text : List ℕ) : Type 0 where
+  pub session : IsWholeSession default_setting (made_session words)
+  pub is : text ≡ summary (rules_for default_setting) session.es
+
+-- What a run does that its words ask for: a session is followed; a made session, or its summary, is put and nothing is read.
+abbrev pub Does : Option Command → Option (List ℕ) → Option (List ℕ) → Option (List ℕ) → Option (List ℕ) → Result (Unit {0}) Fault → Type 0
+Does (Some (commands.X509 setting)) left left' held held' r = Ran setting left left' held held' r
+Does (Some (commands.Make words)) left left' held held' r = (left' ≡ left) × Puts (λ text. text ≡ made_session words) held held' r
+Does (Some (commands.Bench words)) left left' held held' r = (left' ≡ left) × Puts (IsSummary words) held held' r
+Does None left left' held held' r = (left' ≡ left) × (held' ≡ held) × (r ≡ Err faults.Words)
+
+-- the line that a run ends with; none where it ends well
+abbrev pub line_of_end : Result (Unit {0}) Fault → List ℕ
+line_of_end (Ok done) = []
+line_of_end (Err f) = fault_line f
+
+-- A run that did this ended with this status, and said this.
+pub record Ended (command : Option Command) (left left' held held' said said' : Option (List ℕ)) (failed failed' : ℕ) (n : ℕ) : Type 0 where
+  pub end : Result (Unit {0}) Fault
+  pub does : Does command left left' held held' end
+  pub status : n ≡ status_of_end end
+  pub line : Says said said' failed failed' (line_of_end end)
 
 -- The headline: the source, where it tells its bytes, held a whole session, and the output is one line for each event.
 abbrev pub Headline : Option Command → Option (List ℕ) → Option (List ℕ) → Option (List ℕ) → Type 0

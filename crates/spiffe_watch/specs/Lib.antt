@@ -2,3 +2,8 @@ pub mod Causes
 pub mod Setting
 pub mod Words
 pub mod Headline
+pub mod Template
+pub mod Made
+pub mod MadeParts
+pub mod Tallied
+pub mod Summary

@@ -1,7 +1,8 @@
 //! How a run ends where it does not end well: its status, and its line.
 
-ghost use Rattle.std.specs.Prelude.{◌≡◌};
-ghost use Rattle.spiffe_watch.specs.Causes.{fault_of_answer, status};
+ghost use Rattle.std.specs.Prelude.{◌≡◌, ◌++◌};
+ghost use Rattle.spf_io.specs.Outside.{HasCause, PutAppends};
+ghost use Rattle.spiffe_watch.specs.Causes.{Says, fault_line, fault_of_answer, frame_in, number_text, status};
 
 use itoa::Buffer;
 use spf_feed::FollowError;
@@ -94,8 +95,10 @@ fn status_of(fault: Fault) -> u8
     }
 }
 
-/// The words that say what happened.
-fn words_of(fault: Fault) -> &'static str {
+/// The line of a fault, up to the number of a bad frame.
+fn words_of(fault: Fault) -> &'static str
+    ensures { fault_line fault ≡ result.now ++ number_text (frame_in fault) }
+{
     match fault {
         Fault::Words => "spiffe_watch: bad words\n",
         Fault::OutOfMemory => "spiffe_watch: out of memory\n",
@@ -113,19 +116,41 @@ fn words_of(fault: Fault) -> &'static str {
 
 /// Tells the fault, and answers its status. A fault of the telling changes nothing.
 pub(crate) fn tell<E: Sink>(faults: &mut E, fault: Fault) -> u8
-    ensures { result ≡ status fault }
+    ensures status { result ≡ status fault }
+    ensures line { Says (E.held faults.old) (E.held faults.new) (E.faults faults.old) (E.faults faults.new) (fault_line fault) }
 {
     let _ = put_line(faults, fault);
     status_of(fault)
 }
 
 /// Puts the line of the fault, without memory.
-fn put_line<E: Sink>(faults: &mut E, fault: Fault) -> Result<(), Failed> {
+fn put_line<E: Sink>(faults: &mut E, fault: Fault) -> Result<(), Failed>
+    ensures bytes { PutAppends (E.held faults.old) (E.held faults.new) result (fault_line fault) }
+    ensures cause { HasCause (E.faults faults.old) (E.faults faults.new) result }
+{
     faults.put(words_of(fault).as_bytes())?;
-    if let Fault::BadFrame { frame } = fault {
-        let mut digits = Buffer::new();
-        faults.put(digits.format(frame).as_bytes())?;
-        faults.put(b"\n")?;
+    put_number(faults, frame_of(fault))
+}
+
+/// The number of a bad frame.
+fn frame_of(fault: Fault) -> Option<u64>
+    ensures { result ≡ frame_in fault }
+{
+    match fault {
+        Fault::BadFrame { frame } => Some(frame),
+        _ => None,
     }
-    Ok(())
+}
+
+/// Puts a number, where there is one, and ends its line.
+fn put_number<E: Sink>(faults: &mut E, number: Option<u64>) -> Result<(), Failed>
+    ensures bytes { PutAppends (E.held faults.old) (E.held faults.new) result (number_text number) }
+    ensures cause { HasCause (E.faults faults.old) (E.faults faults.new) result }
+{
+    let Some(number) = number else {
+        return Ok(());
+    };
+    let mut digits = Buffer::new();
+    faults.put(digits.format(number).as_bytes())?;
+    faults.put(b"\n")
 }

@@ -1,13 +1,31 @@
 //! Made sessions: streams of updates of any length, the same for the same seed.
 
-use crate::template::{Template, expiry_text};
+ghost use Rattle.std.specs.Prelude.{◌≡◌, ℕ, ◌+◌, ◌<◌, ◌++◌, ◌%◌, [], IfOk, OnOk, OnErr, pos};
+ghost use Rattle.spiffe_watch.specs.Made.{bundle_of, client_frames, entries as entries_of, expiry_text, first_key as first_key_of, frames_by, generation_by, identity as identity_of, item as item_of, item_frame, leaf_spec, made_session, ordered, root_spec, signer_spec};
+ghost use Rattle.spiffe_watch.specs.MadeParts.{AreParts, Gives, IsWorkload};
+ghost use Rattle.spiffe_watch.specs.declared.made.Variant.TheVariants as variants;
+ghost use Rattle.spiffe_watch.specs.Template.{IsTemplate, dated};
+
+use crate::template::Template;
 use crate::words::MadeWords;
+use spf_api::{BundleEntry, ContextResponse, Response, SvidEntry, write_payload};
 use spf_der::{CertSpec, KeyUsageBits, write_key};
-use spf_io::{List, OutOfMemory, Text};
+use spf_io::{Bytes, List, OutOfMemory, Text};
 use std::alloc::Global;
+use std::marker::Model;
 
 /// When the certificates of the first item expire, in Unix seconds; each new generation expires a second later.
 const FIRST_EXPIRY: i64 = 2_000_000_000;
+
+/// The same as a second of its day, 2033-05-18.
+const FIRST_SECOND: u32 = 12_800;
+
+/// The places of the expiry in the certificates of authorities, signers and workloads.
+const ROOT_PLACE: usize = 33;
+
+const SIGNER_PLACE: usize = 38;
+
+const LEAF_PLACE: usize = 39;
 
 /// The moment before the first item, and the requests of a client.
 const MOMENT: &[u8] = b"\x08\x00\x00\x00\x08\x00\x00\x00\x00\x00\x00\x03\xe8";
@@ -24,13 +42,16 @@ const ITEM_KIND: u8 = 5;
 
 const BAD_KEY: &[u8] = b"\x00";
 
-const NO_HINT: &[u8] = b"";
+/// Room for a chain or a bundle.
+const PAIR_ROOM: usize = 512;
 
-const IDENTITIES: [&str; 3] = [
-    "spiffe://example.org/w0",
-    "spiffe://example.org/w1",
-    "spiffe://example.org/w2",
-];
+/// How an item differs from the plain one.
+#[derive(Clone, Copy, PartialEq, Eq, Debug)]
+pub(crate) enum Variant {
+    Plain,
+    Turned,
+    BadKey,
+}
 
 /// One identity of the session: its text, its leaf, and its key.
 #[derive(Drop)]
@@ -40,214 +61,411 @@ struct Workload {
     key: Vec<u8>,
 }
 
-/// How an item differs from the plain one.
-#[derive(Clone, Copy, PartialEq, Eq, Debug)]
-enum Variant {
-    Plain,
-    Turned,
-    BadKey,
-}
-
-/// A session of an opening, so many operations, and a close.
+/// What the items of all generations are put together from.
 #[derive(Drop)]
-pub(crate) struct MadeSession {
-    operations: u64,
-    state: u64,
-    generation: u16,
-    workloads: [Workload; 3],
+struct Parts {
+    first: Workload,
+    second: Workload,
+    third: Workload,
     signer: Template,
     root_a: Template,
     root_b: Template,
     foreign_root: Template,
-    alloc: Global,
-    expiry: Vec<u8>,
-    payload: Vec<u8>,
-    field: Vec<u8>,
 }
 
-fn spec(
-    alloc: Global,
-    serial: u8,
-    key_usage: Option<KeyUsageBits>,
-    ca: Option<bool>,
-    uri: Option<&str>,
-) -> Result<CertSpec, OutOfMemory> {
-    let mut uris = Vec::new(alloc);
-    if let Some(uri) = uri {
-        uris.push(Text::copy_of(alloc, uri)?)?;
-    }
-    Ok(CertSpec {
+fn spec(serial: u8, key_usage: Option<KeyUsageBits>, ca: Option<bool>, uris: Vec<Text>) -> CertSpec
+    ensures { result ≡ record { serial = serial; expiry = pos 2000000000; key_usage = key_usage; ca = ca; uris = uris.items } }
+{
+    CertSpec {
         serial,
         expiry: FIRST_EXPIRY,
         key_usage,
         ca,
         uris: List::new(uris),
-    })
+    }
 }
 
-fn root(alloc: Global, serial: u8) -> Result<Template, OutOfMemory> {
-    Template::new(alloc, &spec(alloc, serial, None, None, None)?)
+fn root(alloc: Global, serial: u8) -> Result<Template, OutOfMemory>
+    ensures { IfOk result (IsTemplate (root_spec serial 0)) }
+{
+    Template::new(
+        alloc,
+        &spec(serial, None, None, Vec::new(alloc)),
+        ROOT_PLACE,
+    )
 }
 
-fn signer(alloc: Global) -> Result<Template, OutOfMemory> {
+fn signer(alloc: Global) -> Result<Template, OutOfMemory>
+    ensures { IfOk result (IsTemplate (signer_spec 0)) }
+{
     let usage = KeyUsageBits {
         digital_signature: false,
         key_cert_sign: true,
         crl_sign: false,
     };
-    Template::new(alloc, &spec(alloc, 20, Some(usage), Some(true), None)?)
+    let spec = spec(20, Some(usage), Some(true), Vec::new(alloc));
+    Template::new(alloc, &spec, SIGNER_PLACE)
 }
 
-fn make_workload(alloc: Global, serial: u8, identity: &str) -> Result<Workload, OutOfMemory> {
+fn leaf(alloc: Global, serial: u8, identity: &str) -> Result<Template, OutOfMemory>
+    ensures { (place : ℕ) → serial ≡ 1 + place → identity.now ≡ identity_of place → IfOk result (IsTemplate (leaf_spec place 0)) }
+{
     let usage = KeyUsageBits {
         digital_signature: true,
         key_cert_sign: false,
         crl_sign: false,
     };
-    let leaf = spec(alloc, serial, Some(usage), Some(false), Some(identity))?;
+    let mut uris = Vec::new(alloc);
+    uris.push(Text::copy_of(alloc, identity)?)?;
+    let spec = spec(serial, Some(usage), Some(false), uris);
+    Template::new(alloc, &spec, LEAF_PLACE)
+}
+
+fn make_workload(alloc: Global, serial: u8, identity: &str) -> Result<Workload, OutOfMemory>
+    ensures { (place : ℕ) → serial ≡ 1 + place → identity.now ≡ identity_of place → IfOk result (IsWorkload place) }
+{
     Ok(Workload {
         identity: Text::copy_of(alloc, identity)?,
-        leaf: Template::new(alloc, &leaf)?,
+        leaf: leaf(alloc, serial, identity)?,
         key: write_key(alloc, serial)?,
     })
 }
 
-/// A field: its length in four octets, and its octets.
-fn push_field(frames: &mut Vec<u8>, octets: &[u8]) -> Result<(), OutOfMemory> {
-    let length = u32::try_from(octets.len()).unwrap_or(u32::MAX);
+fn make_parts(alloc: Global) -> Result<Parts, OutOfMemory>
+    ensures { IfOk result AreParts }
+{
+    Ok(Parts {
+        first: make_workload(alloc, 1, "spiffe://example.org/w0")?,
+        second: make_workload(alloc, 2, "spiffe://example.org/w1")?,
+        third: make_workload(alloc, 3, "spiffe://example.org/w2")?,
+        signer: signer(alloc)?,
+        root_a: root(alloc, 10)?,
+        root_b: root(alloc, 11)?,
+        foreign_root: root(alloc, 12)?,
+    })
+}
+
+fn digit(number: u32) -> u8
+    ensures { result ≡ 48 + number % 10 }
+{
+    b'0' + (number % 10) as u8
+}
+
+/// The expiry of a generation as a UTCTime; all of them lie on one day.
+fn expiry_octets(generation: u16) -> [u8; 15]
+    ensures { result ≡ expiry_text generation }
+{
+    let second = FIRST_SECOND + u32::from(generation);
+    let (hour, minute, second) = (second / 3600, second / 60 % 60, second % 60);
+    [
+        0x17,
+        13,
+        b'3',
+        b'3',
+        b'0',
+        b'5',
+        b'1',
+        b'8',
+        digit(hour / 10),
+        digit(hour),
+        digit(minute / 10),
+        digit(minute),
+        digit(second / 10),
+        digit(second),
+        b'Z',
+    ]
+}
+
+/// Two certificates with that expiry, one after the other.
+fn pair(
+    alloc: Global,
+    first: &Template,
+    second: &Template,
+    expiry: &[u8],
+) -> Result<Bytes, OutOfMemory>
+    ensures { IfOk result (λ b. b ≡ dated first.now expiry.now ++ dated second.now expiry.now) }
+{
+    let mut octets = Vec::with_capacity(alloc, PAIR_ROOM)?;
+    first.push(expiry, &mut octets)?;
+    second.push(expiry, &mut octets)?;
+    Ok(Bytes::new(octets))
+}
+
+/// The bundle of an item.
+fn bundle(
+    alloc: Global,
+    parts: &Parts,
+    variant: Variant,
+    expiry: &[u8],
+) -> Result<Bytes, OutOfMemory>
+    ensures { AreParts parts.now → (generation : ℕ) → expiry.now ≡ expiry_text generation → IfOk result (λ b. b ≡ bundle_of variant generation) }
+{
+    match variant {
+        Variant::Turned => pair(alloc, &parts.root_b, &parts.root_a, expiry),
+        Variant::Plain | Variant::BadKey => pair(alloc, &parts.root_a, &parts.root_b, expiry),
+    }
+}
+
+/// The entry of a workload.
+fn entry(
+    alloc: Global,
+    workload: &Workload,
+    signer: &Template,
+    expiry: &[u8],
+    key: &[u8],
+    bundle: &[u8],
+) -> Result<SvidEntry, OutOfMemory>
+    ensures { IfOk result (λ e. e ≡ record {
+      spiffe_id = workload.now.identity;
+      x509_svid = dated workload.now.leaf expiry.now ++ dated signer.now expiry.now;
+      x509_svid_key = key.now;
+      bundle = bundle.now;
+      hint = [];
+    }) }
+{
+    Ok(SvidEntry {
+        spiffe_id: workload.identity.try_clone(alloc)?,
+        x509_svid: pair(alloc, &workload.leaf, signer, expiry)?,
+        x509_svid_key: Bytes::copy_of(alloc, key)?,
+        bundle: Bytes::copy_of(alloc, bundle)?,
+        hint: Text::new(String::new(alloc)),
+    })
+}
+
+/// The key of the first entry of an item.
+fn first_key(parts: &Parts, variant: Variant) -> &[u8]
+    ensures { AreParts parts.now → result.now ≡ first_key_of variant }
+{
+    match variant {
+        Variant::BadKey => BAD_KEY,
+        Variant::Plain | Variant::Turned => parts.first.key.as_slice(),
+    }
+}
+
+/// Three entries in the order of an item.
+fn in_order(
+    alloc: Global,
+    variant: Variant,
+    first: SvidEntry,
+    second: SvidEntry,
+    third: SvidEntry,
+) -> Result<Vec<SvidEntry>, OutOfMemory>
+    ensures { IfOk result (λ v. v.items ≡ ordered variant first second third) }
+{
+    let entries = match variant {
+        Variant::Turned => vec![in alloc; first, third, second]?,
+        Variant::Plain | Variant::BadKey => vec![in alloc; first, second, third]?,
+    };
+    Ok(entries)
+}
+
+fn entries(
+    alloc: Global,
+    parts: &Parts,
+    variant: Variant,
+    expiry: &[u8],
+) -> Result<Vec<SvidEntry>, OutOfMemory>
+    ensures { AreParts parts.now → (generation : ℕ) → expiry.now ≡ expiry_text generation → IfOk result (λ v. v.items ≡ entries_of variant generation) }
+{
+    let bundle = bundle(alloc, parts, variant, expiry)?;
+    let bundle = bundle.as_slice();
+    let first_key = first_key(parts, variant);
+    let second_key = parts.second.key.as_slice();
+    let third_key = parts.third.key.as_slice();
+    let first = entry(
+        alloc,
+        &parts.first,
+        &parts.signer,
+        expiry,
+        first_key,
+        bundle,
+    )?;
+    let second = entry(
+        alloc,
+        &parts.second,
+        &parts.signer,
+        expiry,
+        second_key,
+        bundle,
+    )?;
+    let third = entry(
+        alloc,
+        &parts.third,
+        &parts.signer,
+        expiry,
+        third_key,
+        bundle,
+    )?;
+    in_order(alloc, variant, first, second, third)
+}
+
+fn item(
+    alloc: Global,
+    parts: &Parts,
+    variant: Variant,
+    generation: u16,
+) -> Result<ContextResponse, OutOfMemory>
+    ensures { AreParts parts.now → IfOk result (λ r. r ≡ item_of variant generation) }
+{
+    let expiry = expiry_octets(generation);
+    let svids = entries(alloc, parts, variant, &expiry)?;
+    let mut foreign_root = Vec::new(alloc);
+    parts.foreign_root.push(&expiry, &mut foreign_root)?;
+    let entry = BundleEntry {
+        name: Text::copy_of(alloc, "other.org")?,
+        bundle: Bytes::new(foreign_root),
+    };
+    Ok(ContextResponse {
+        svids: List::new(svids),
+        federated: List::new(vec![in alloc; entry]?),
+        crls: List::new(Vec::new(alloc)),
+    })
+}
+
+/// Appends the frame of an item.
+fn push_item(
+    alloc: Global,
+    parts: &Parts,
+    variant: Variant,
+    generation: u16,
+    frames: &mut Vec<u8>,
+) -> Result<(), OutOfMemory>
+    ensures { AreParts parts.now → OnOk result (frames.new.items ≡ frames.old.items ++ item_frame variant generation) }
+{
+    let item = item(alloc, parts, variant, generation)?;
+    let payload = write_payload(alloc, &Response::Context(item))?;
+    let Ok(length) = u32::try_from(payload.len()) else {
+        return Err(OutOfMemory);
+    };
+    frames.push(ITEM_KIND)?;
     frames.extend_from_slice(&length.to_be_bytes())?;
-    frames.extend_from_slice(octets)?;
+    frames.extend_from_slice(payload.as_slice())?;
     Ok(())
 }
 
-fn push_count(frames: &mut Vec<u8>, count: u32) -> Result<(), OutOfMemory> {
-    frames.extend_from_slice(&count.to_be_bytes())?;
+/// Appends a frame behind which a client is made again.
+fn push_ended(frame: &[u8], frames: &mut Vec<u8>) -> Result<(), OutOfMemory>
+    ensures { OnOk result (frames.new.items ≡ frames.old.items ++ (frame.now ++ client_frames)) }
+{
+    frames.extend_from_slice(frame)?;
+    frames.extend_from_slice(CLIENT_MADE_AND_CONNECTED)?;
     Ok(())
+}
+
+/// Appends the frame of a bad item, behind which a client is made again.
+fn push_bad_item(
+    alloc: Global,
+    parts: &Parts,
+    generation: u16,
+    frames: &mut Vec<u8>,
+) -> Result<(), OutOfMemory>
+    ensures { AreParts parts.now → OnOk result (frames.new.items ≡ frames.old.items ++ (item_frame variants.BadKey generation ++ client_frames)) }
+{
+    push_item(alloc, parts, Variant::BadKey, generation, frames)?;
+    frames.extend_from_slice(CLIENT_MADE_AND_CONNECTED)?;
+    Ok(())
+}
+
+/// Appends the frames that a choice from 0 to 7 makes, with the generation behind it.
+#[tactic(auto, unfolding(crate::specs::Made::frames_by), using(crate::proofs::MadeLemmas::denial_is, crate::proofs::MadeLemmas::end_is))]
+fn push_operation(
+    alloc: Global,
+    parts: &Parts,
+    choice: u32,
+    generation: u16,
+    frames: &mut Vec<u8>,
+) -> Result<(), OutOfMemory>
+    ensures { AreParts parts.now → OnOk result (frames.new.items ≡ frames.old.items ++ frames_by choice generation) }
+{
+    match choice {
+        0..=3 => push_item(alloc, parts, Variant::Plain, generation, frames),
+        4 => push_item(alloc, parts, Variant::Turned, generation, frames),
+        5 => push_ended(DENIED, frames),
+        6 => push_ended(STREAM_END, frames),
+        _ => push_bad_item(alloc, parts, generation, frames),
+    }
+}
+
+/// The session, seen as the frames that are to come.
+#[derive(Drop)]
+pub(crate) struct MadeSession {
+    alloc: Global,
+    parts: Parts,
+    /// How many operations come before the close; none where nothing comes.
+    left: Option<u16>,
+    seed: u32,
+    generation: u16,
+}
+
+impl Model for MadeSession {
+    ghost use Rattle.std.specs.Prelude.{List, ℕ, ◌<◌};
+    ghost use Rattle.spiffe_watch.specs.Made.{frames_left};
+    ghost use Rattle.spiffe_watch.specs.MadeParts.{AreParts, HasRoom};
+
+    ghost Value = { List ℕ };
+
+    ghost view = { λ s. frames_left s.left s.seed s.generation };
+
+    ghost invariant = { λ s. AreParts s.parts × (s.seed < 65537) × HasRoom s.left s.generation };
 }
 
 impl MadeSession {
-    pub(crate) fn new(alloc: Global, words: MadeWords) -> Result<MadeSession, OutOfMemory> {
-        let [first, second, third] = IDENTITIES;
+    /// Puts the opening in the place of what `frames` held; the rest is to come.
+    pub(crate) fn open(
+        alloc: Global,
+        words: MadeWords,
+        frames: &mut Vec<u8>,
+    ) -> Result<MadeSession, OutOfMemory>
+        ensures { IfOk result (λ s. made_session words ≡ frames.new.items ++ s) }
+    {
+        let parts = make_parts(alloc)?;
+        frames.clear();
+        frames.extend_from_slice(MOMENT)?;
+        frames.extend_from_slice(CLIENT_MADE_AND_CONNECTED)?;
+        push_item(alloc, &parts, Variant::Plain, 0, frames)?;
+        frames.extend_from_slice(CLIENT_MADE_AND_CONNECTED)?;
         Ok(MadeSession {
-            operations: words.operations,
-            state: words.seed % 65537,
-            generation: 0,
-            workloads: [
-                make_workload(alloc, 1, first)?,
-                make_workload(alloc, 2, second)?,
-                make_workload(alloc, 3, third)?,
-            ],
-            signer: signer(alloc)?,
-            root_a: root(alloc, 10)?,
-            root_b: root(alloc, 11)?,
-            foreign_root: root(alloc, 12)?,
             alloc,
-            expiry: expiry_text(alloc, FIRST_EXPIRY)?,
-            payload: Vec::new(alloc),
-            field: Vec::new(alloc),
+            parts,
+            left: Some(words.operations),
+            seed: u32::from(words.seed),
+            generation: 0,
         })
     }
 
-    /// Puts the frames of a part of the session in the place of what `frames` held. Parts are asked for in order: 0 is
-    /// the opening, then the operations follow, and then the close. False where no part is left.
-    pub(crate) fn part(&mut self, part: u64, frames: &mut Vec<u8>) -> Result<bool, OutOfMemory> {
+    /// Puts the frames of the next operation, or the close, in the place of what `frames` held. False where nothing is
+    /// to come.
+    pub(crate) fn next(&mut self, frames: &mut Vec<u8>) -> Result<bool, OutOfMemory>
+        ensures frames { IfOk result (λ more. Gives more self.old self.new frames.new.items) }
+        ensures kept { OnErr result (self.new ≡ self.old) }
+    {
         frames.clear();
-        if part == 0 {
-            self.push_opening(frames)?;
-            return Ok(true);
-        }
-        if part <= self.operations {
-            self.push_operation(frames)?;
-            return Ok(true);
-        }
-        if part - 1 == self.operations {
+        let Some(left) = self.left else {
+            return Ok(false);
+        };
+        if left == 0 {
             frames.extend_from_slice(CLOSE)?;
+            self.left = None;
             return Ok(true);
         }
-        Ok(false)
+        let seed = (75 * self.seed + 74) % 65537;
+        let generation = generation_after(seed, self.generation);
+        push_operation(self.alloc, &self.parts, seed % 8, generation, frames)?;
+        self.left = Some(left - 1);
+        self.seed = seed;
+        self.generation = generation;
+        Ok(true)
     }
+}
 
-    fn push_opening(&mut self, frames: &mut Vec<u8>) -> Result<(), OutOfMemory> {
-        frames.extend_from_slice(MOMENT)?;
-        frames.extend_from_slice(CLIENT_MADE_AND_CONNECTED)?;
-        self.push_item(Variant::Plain, frames)?;
-        frames.extend_from_slice(CLIENT_MADE_AND_CONNECTED)?;
-        Ok(())
-    }
-
-    fn push_operation(&mut self, frames: &mut Vec<u8>) -> Result<(), OutOfMemory> {
-        self.state = (self.state % 65537 * 75 + 74) % 65537;
-        match self.state % 8 {
-            0..=3 => {
-                self.generation = self.generation.saturating_add(1);
-                let expiry = FIRST_EXPIRY + i64::from(self.generation);
-                self.expiry = expiry_text(self.alloc, expiry)?;
-                self.push_item(Variant::Plain, frames)?;
-            }
-            4 => self.push_item(Variant::Turned, frames)?,
-            5 => {
-                frames.extend_from_slice(DENIED)?;
-                frames.extend_from_slice(CLIENT_MADE_AND_CONNECTED)?;
-            }
-            6 => {
-                frames.extend_from_slice(STREAM_END)?;
-                frames.extend_from_slice(CLIENT_MADE_AND_CONNECTED)?;
-            }
-            _ => {
-                self.push_item(Variant::BadKey, frames)?;
-                frames.extend_from_slice(CLIENT_MADE_AND_CONNECTED)?;
-            }
-        }
-        Ok(())
-    }
-
-    /// The entry of the workload at that place.
-    fn push_entry(&mut self, place: usize, variant: Variant) -> Result<(), OutOfMemory> {
-        let Some(workload) = self.workloads.get(place) else {
-            return Ok(());
-        };
-        let expiry = self.expiry.as_slice();
-        push_field(&mut self.payload, workload.identity.as_str().as_bytes())?;
-        self.field.clear();
-        workload.leaf.push(expiry, &mut self.field)?;
-        self.signer.push(expiry, &mut self.field)?;
-        push_field(&mut self.payload, self.field.as_slice())?;
-        if variant == Variant::BadKey && place == 0 {
-            push_field(&mut self.payload, BAD_KEY)?;
-        } else {
-            push_field(&mut self.payload, workload.key.as_slice())?;
-        }
-        self.field.clear();
-        if variant == Variant::Turned {
-            self.root_b.push(expiry, &mut self.field)?;
-            self.root_a.push(expiry, &mut self.field)?;
-        } else {
-            self.root_a.push(expiry, &mut self.field)?;
-            self.root_b.push(expiry, &mut self.field)?;
-        }
-        push_field(&mut self.payload, self.field.as_slice())?;
-        push_field(&mut self.payload, NO_HINT)
-    }
-
-    /// The frame of an item of this generation.
-    fn push_item(&mut self, variant: Variant, frames: &mut Vec<u8>) -> Result<(), OutOfMemory> {
-        self.payload.clear();
-        push_count(&mut self.payload, 3)?;
-        let order = match variant {
-            Variant::Turned => [0, 2, 1],
-            Variant::Plain | Variant::BadKey => [0, 1, 2],
-        };
-        for place in order {
-            self.push_entry(place, variant)?;
-        }
-        push_count(&mut self.payload, 1)?;
-        push_field(&mut self.payload, b"other.org")?;
-        self.field.clear();
-        self.foreign_root
-            .push(self.expiry.as_slice(), &mut self.field)?;
-        push_field(&mut self.payload, self.field.as_slice())?;
-        push_count(&mut self.payload, 0)?;
-        frames.push(ITEM_KIND)?;
-        push_field(frames, self.payload.as_slice())
+/// Four of eight numbers raise the generation.
+fn generation_after(seed: u32, generation: u16) -> u16
+    requires { generation < 65535 }
+    ensures { result ≡ generation_by seed generation }
+{
+    if seed % 8 < 4 {
+        generation + 1
+    } else {
+        generation
     }
 }

@@ -5,7 +5,8 @@ ghost use Rattle.std.specs.Option.{option_map, option_copied};
 ghost use Rattle.spf_feed.specs.Pick.{first_with_hint};
 ghost use Rattle.spf_io.specs.Outside.{Rose};
 ghost use Rattle.spiffe_watch.specs.Causes.{HasCauses, is_words};
-ghost use Rattle.spiffe_watch.specs.Headline.{Ran, Does, Ended, Headline, Completes, ended_by};
+ghost use Rattle.spiffe_watch.specs.Headline.{Ran, Does, Ended, Headline, Completes, Puts, ended_by};
+ghost use Rattle.spiffe_watch.specs.Made.{made_session};
 ghost use Rattle.spiffe_watch.specs.Words.{command_in};
 ghost use Rattle.spiffe_watch.specs.declared.fault.Fault.TheVariants as endings;
 
@@ -17,7 +18,7 @@ use crate::words::{Command, MadeWords, X509Words, command_of};
 use spf_feed::{
     FollowError, HintPicker, NoRecorder, Ready, ResourceLimits, SvidPicker, follow_x509,
 };
-use spf_io::{OutOfMemory, Sink, Source, Text};
+use spf_io::{Failed, OutOfMemory, Sink, Source, Text};
 use std::alloc::Global;
 
 /// Does what the words ask for, and answers the status of the process: 0 where it ended well.
@@ -30,8 +31,9 @@ pub fn watch<S: Source, K: Sink, E: Sink>(
 ) -> u8
     // Status 1 comes exactly where the words are not those of the program.
     ensures words { (result ≡ 1) ↔ (command_in (map string_bytes words.now) ≡ None) }
-    // What is taken, put and answered belongs to one list of events, where the words ask for a session.
-    ensures session { Ended (command_in (map string_bytes words.now)) (S.left source.old) (S.left source.new) (K.held out.old) (K.held out.new) result }
+    // What the words ask for is done, and the status and the line on `faults` say how it ended. Of a session, what is taken,
+    // put and answered belongs to one list of events; `make` and `bench` put a made session, and its summary.
+    ensures does { Ended (command_in (map string_bytes words.now)) (S.left source.old) (S.left source.new) (K.held out.old) (K.held out.new) (E.held faults.old) (E.held faults.new) (E.faults faults.old) (E.faults faults.new) result }
     // Status 0: the source held a whole session, and the output is one line for each event.
     ensures headline { result ≡ 0 → Headline (command_in (map string_bytes words.now)) (S.left source.old) (K.held out.old) (K.held out.new) }
     // A whole session with an accepted event, within the bound and without a fault, ends with 0, or with want of memory.
@@ -52,7 +54,7 @@ fn run<S: Source, K: Sink>(
     out: &mut K,
 ) -> Result<(), Fault>
     ensures words { (result ≡ Err endings.Words) ↔ (command_in (map string_bytes words.now) ≡ None) }
-    ensures session { Does (command_in (map string_bytes words.now)) (S.left source.old) (S.left source.new) (K.held out.old) (K.held out.new) result }
+    ensures does { Does (command_in (map string_bytes words.now)) (S.left source.old) (S.left source.new) (K.held out.old) (K.held out.new) result }
     ensures cause { HasCauses (S.faults source.old) (S.faults source.new) (K.faults out.old) (K.faults out.new) result }
 {
     match command_of(words) {
@@ -137,20 +139,39 @@ fn end_of(answer: Result<u64, FollowError>) -> Result<(), Fault>
     }
 }
 
-/// Puts the frames of a made session, one part after another.
+/// Puts a made session, the frames of one operation after another.
 fn make<K: Sink>(alloc: Global, words: MadeWords, out: &mut K) -> Result<(), Fault>
-    ensures words { IfErr result (λ f. is_words f ≡ false) }
+    ensures text { Puts (λ text. text ≡ made_session words) (K.held out.old) (K.held out.new) result }
     ensures cause { HasCauses 0 0 (K.faults out.old) (K.faults out.new) result }
 {
-    let mut session = MadeSession::new(alloc, words)?;
     let mut frames = Vec::new(alloc);
-    for part in 0..u64::MAX {
-        if !session.part(part, &mut frames)? {
-            break;
-        }
-        if out.put(frames.as_slice()).is_err() {
-            return Err(Fault::Write);
-        }
+    let mut session = MadeSession::open(alloc, words, &mut frames)?;
+    put(out, frames.as_slice())?;
+    put_rest(&mut session, &mut frames, out)
+}
+
+/// Puts the frames that are to come.
+fn put_rest<K: Sink>(
+    session: &mut MadeSession,
+    frames: &mut Vec<u8>,
+    out: &mut K,
+) -> Result<(), Fault>
+    ensures text { Puts (λ text. text ≡ session.old) (K.held out.old) (K.held out.new) result }
+    ensures cause { HasCauses 0 0 (K.faults out.old) (K.faults out.new) result }
+{
+    while session.next(frames)? {
+        put(out, frames.as_slice())?;
     }
     Ok(())
+}
+
+/// Puts a piece of what is asked for.
+pub(crate) fn put<K: Sink>(out: &mut K, piece: &[u8]) -> Result<(), Fault>
+    ensures text { Puts (λ text. text ≡ piece.now) (K.held out.old) (K.held out.new) result }
+    ensures cause { HasCauses 0 0 (K.faults out.old) (K.faults out.new) result }
+{
+    match out.put(piece) {
+        Ok(()) => Ok(()),
+        Err(Failed) => Err(Fault::Write),
+    }
 }

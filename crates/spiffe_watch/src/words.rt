@@ -67,8 +67,8 @@ impl<'a> Model for X509Words<'a> {
 /// The size and the seed of a made session.
 #[derive(Clone, Copy)]
 pub(crate) struct MadeWords {
-    pub(crate) operations: u64,
-    pub(crate) seed: u64,
+    pub(crate) operations: u16,
+    pub(crate) seed: u16,
 }
 
 /// What the words ask for; none where they are not words of the program.
@@ -96,8 +96,8 @@ fn made_words(words: &[String]) -> Option<MadeWords>
         return None;
     };
     Some(MadeWords {
-        operations: number_up_to(MOST_OPERATIONS, operations.as_str())?,
-        seed: number_up_to(GREATEST_SEED, seed.as_str())?,
+        operations: number_up_to(MOST_OPERATIONS, operations.as_str())? as u16,
+        seed: number_up_to(GREATEST_SEED, seed.as_str())? as u16,
     })
 }
 
@@ -249,7 +249,7 @@ fn is_numeral(text: &[u8]) -> bool
 }
 
 /// A number of at most so many.
-fn number_up_to(most: u64, text: &str) -> Option<u64>
+pub(crate) fn number_up_to(most: u64, text: &str) -> Option<u64>
     ensures value { result ≡ number_in_up_to most text.now }
     ensures bound { ForSome result (λ n. n ≤ most) }
 {

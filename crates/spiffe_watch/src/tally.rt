@@ -1,0 +1,148 @@
+//! A sink that counts the lines that are put to it.
+
+ghost use Rattle.std.specs.Prelude.{◌≡◌, ◌≤◌, ◌<◌, ◌-◌, ◌^◌, ◌++◌, [], Some, length, take, IfOk, OnErr};
+ghost use Rattle.spiffe_watch.specs.Tallied.{first_word, behind_word, revision_in, withdrawn_in, tally_of};
+ghost use Rattle.spiffe_watch.specs.Words.{number_up_to as number_in_up_to};
+
+use crate::told::Told;
+use crate::words::number_up_to;
+use memchr::memchr;
+use spf_io::{Failed, Sink};
+use std::alloc::{AllocError, Global};
+use std::marker::Model;
+
+/// A sink of lines that keeps of them what a summary says: the last revision, and how many are withdrawn.
+#[derive(Drop)]
+pub(crate) struct Tally {
+    counts: Counts,
+    unfinished: Vec<u8>,
+    failed: u64,
+    told: Told,
+}
+
+impl Model for Tally {
+    ghost use Rattle.std.specs.Prelude.{◌≡◌};
+    ghost use Rattle.spiffe_watch.specs.Tallied.{TallyValue, tally_of};
+
+    ghost Value = { TallyValue };
+
+    ghost view = { λ t. record { held = t.told.octets; faults = t.failed } };
+
+    ghost invariant = { λ t. tally_of t.told.octets ≡ record { revision = t.counts.revision; withdrawn = t.counts.withdrawn; unfinished = t.unfinished.items } };
+}
+
+impl Tally {
+    pub(crate) fn new(alloc: Global) -> Tally
+        ensures held { ⟦<Tally as Sink>⟧.held result ≡ Some [] }
+        ensures faults { ⟦<Tally as Sink>⟧.faults result ≡ 0 }
+    {
+        Tally {
+            counts: Counts {
+                revision: 0,
+                withdrawn: 0,
+            },
+            unfinished: Vec::new(alloc),
+            failed: 0,
+            told: Told::new(),
+        }
+    }
+
+    /// The second word of the last finished line in which it is a number, or 0.
+    pub(crate) fn revision(&self) -> u64
+        ensures { result ≡ (tally_of self.now.held).revision }
+    {
+        self.counts.revision
+    }
+
+    /// How many finished lines have the third word `withdrawn`, at most the greatest number.
+    pub(crate) fn withdrawn(&self) -> u64
+        ensures { result ≡ (tally_of self.now.held).withdrawn }
+    {
+        self.counts.withdrawn
+    }
+
+    /// Takes a piece up to its first line feed, or all of it, and says how many octets these are.
+    fn take_line(&mut self, piece: &[u8]) -> Result<usize, AllocError>
+        ensures some { IfOk result (λ n. (n ≤ length piece.now) × (0 < length piece.now → 0 < n)) }
+        ensures held { IfOk result (λ n. self.new.held ≡ self.old.held ++ take n piece.now) }
+        ensures nothing { OnErr result (self.new.held ≡ self.old.held) }
+        ensures faults { self.new.faults ≡ self.old.faults }
+    {
+        let Some(place) = memchr(b'\n', piece) else {
+            self.unfinished.extend_from_slice(piece)?;
+            self.told.append(piece);
+            return Ok(piece.len());
+        };
+        let end = &piece[..place];
+        if self.unfinished.is_empty() {
+            self.counts.add(end);
+        } else {
+            self.unfinished.extend_from_slice(end)?;
+            self.counts.add(self.unfinished.as_slice());
+            self.unfinished.clear();
+        }
+        self.told.append(&piece[..place + 1]);
+        Ok(place + 1)
+    }
+}
+
+impl Sink for Tally {
+    ghost held = { λ t. Some t.held };
+
+    ghost faults = { λ t. t.faults };
+
+    fn put(&mut self, piece: &[u8]) -> Result<(), Failed> {
+        let mut at = 0;
+        while at < piece.len() {
+            match self.take_line(&piece[at..]) {
+                Ok(n) => at += n,
+                Err(_) => {
+                    self.failed = self.failed.saturating_add(1);
+                    return Err(Failed);
+                }
+            }
+        }
+        Ok(())
+    }
+}
+
+/// What finished lines say.
+#[derive(Drop)]
+struct Counts {
+    revision: u64,
+    withdrawn: u64,
+}
+
+impl Counts {
+    /// Counts a line, which is given without its line feed.
+    fn add(&mut self, line: &[u8])
+        ensures revision { self.new.revision ≡ revision_in self.old.revision line.now }
+        ensures withdrawn { self.new.withdrawn ≡ withdrawn_in self.old.withdrawn line.now }
+    {
+        let (_number, rest) = split_word(line);
+        let (revision, rest) = split_word(rest);
+        let (view, _) = split_word(rest);
+        self.revision = number_in(revision).unwrap_or(self.revision);
+        if view == b"withdrawn".as_slice() {
+            self.withdrawn = self.withdrawn.saturating_add(1);
+        }
+    }
+}
+
+/// The octets before the first space, and those behind it.
+fn split_word(line: &[u8]) -> (&[u8], &[u8])
+    ensures word { result.0.now ≡ first_word line.now }
+    ensures rest { result.1.now ≡ behind_word line.now }
+{
+    match memchr(b' ', line) {
+        None => (line, &[]),
+        Some(place) => (&line[..place], &line[place + 1..]),
+    }
+}
+
+/// The number that a word is.
+fn number_in(word: &[u8]) -> Option<u64>
+    ensures { result ≡ number_in_up_to (2 ^ 64 - 1) word.now }
+{
+    number_up_to(u64::MAX, str::from_utf8(word).ok()?)
+}
