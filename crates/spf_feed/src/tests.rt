@@ -188,7 +188,7 @@ static SESSIONS: [(&str, &str, &str); 16] = [
         "1 waiting\n2 waiting\nsource []",
     ),
     (
-        "denial-and-recovery",
+        "denial-and-recovery, recorded",
         "M999 CM CN I1 CM CN IS7no CM CN BADKEY CM CN IS14x CM CN I1",
         "1 waiting\n2 waiting\n3 waiting\n4 0 permitted P1\n5 0 permitted P1\n6 0 permitted P1\n7 1 withdrawn permission_denied:6e6f\n8 1 withdrawn permission_denied:6e6f\n9 1 withdrawn permission_denied:6e6f\n10 1 withdrawn permission_denied:6e6f\n11 1 withdrawn permission_denied:6e6f\n12 1 withdrawn permission_denied:6e6f\n13 1 withdrawn permission_denied:6e6f\n14 1 withdrawn permission_denied:6e6f\n15 1 withdrawn permission_denied:6e6f\n16 2 permitted P1\nok accept deny accept [Error(StreamError), Reconnect, Error(StreamError), Reconnect, Error(StreamError), Reconnect, Update]",
     ),
@@ -247,7 +247,7 @@ fn pickers(rt: HostRuntime) -> Result<(), Fail> {
     let frames = "M999 CM CN HINT1 CM CN HINT2";
     let left =
         "1 waiting\n2 waiting\n3 waiting\n4 0 permitted P1\n5 0 permitted P1\n6 0 permitted P1\n7 1 permitted - - - example.org=ROOT2\nok accept accept [Update]";
-    assert!(rt; hint_leaves(alloc, frames, left)?, "by hint");
+    assert!(rt; hint_leaves(alloc, frames, left)?, "hint-picker");
     let picker = FnPicker::<_, OnlyOne>::new(|svids: &[Arc<X509Svid>]| Some(if svids.len() == 1 {
         0
     } else {
@@ -259,7 +259,7 @@ fn pickers(rt: HostRuntime) -> Result<(), Fail> {
     let publisher = MemPublisher::new(alloc);
     assert!(rt;
         leaves(alloc, frames, publisher, Some(&picker), left)?,
-        "by closure"
+        "picker-out-of-range"
     );
     Ok(())
 }

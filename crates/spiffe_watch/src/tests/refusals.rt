@@ -211,9 +211,9 @@ fn hostile_frames(rt: HostRuntime) -> Result<(), Fail> {
     )
 }
 
-/// Row first-session with read j failing, for each j until a run ends well.
+/// Row failing-io: row first-session with read j failing, for each j until a run ends well.
 #[test]
-fn failing_reads(rt: HostRuntime) -> Result<(), Fail> {
+fn failing_io_reads(rt: HostRuntime) -> Result<(), Fail> {
     let alloc = rt.alloc();
     let frames = [
         Frames::Moment(999),
@@ -244,9 +244,9 @@ fn failing_reads(rt: HostRuntime) -> Result<(), Fail> {
     Err("no run ended well".into())
 }
 
-/// Row first-session with put j failing, for each j until a run ends well.
+/// Row failing-io: row first-session with put j failing, for each j until a run ends well.
 #[test]
-fn failing_puts(rt: HostRuntime) -> Result<(), Fail> {
+fn failing_io_puts(rt: HostRuntime) -> Result<(), Fail> {
     let alloc = rt.alloc();
     let frames = [
         Frames::Moment(999),
