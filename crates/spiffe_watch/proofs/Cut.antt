@@ -8,6 +8,7 @@ use Rattle.spf_der.specs.Time.{clock_of, pair_of, utc_time}
 use Rattle.spf_der.specs.Value.{length_octets, value_text}
 use Rattle.spf_der.specs.Written.{IsCertificateOf, algorithm_text, certificate_text, extensions_part, extensions_text, no_bits, no_name, public_key_text, tbs_text, validity_text, version_text}
 use Rattle.spf_der.specs.WrittenTime.{IsTimeText}
+use Rattle.spf_der.proofs.Steps.{bind_some}
 use Rattle.spiffe_watch.specs.Template.{after, before, tbs_after, tbs_before, tbs_size}
 
 -- a time of day has eleven octets
@@ -27,18 +28,14 @@ clock_length year (a ∷ b ∷ c ∷ d ∷ e ∷ f ∷ g ∷ i ∷ j ∷ k ∷ [
 clock_length year (a ∷ b ∷ c ∷ d ∷ e ∷ f ∷ g ∷ i ∷ j ∷ k ∷ l ∷ []) m h = refl
 clock_length year (a ∷ b ∷ c ∷ d ∷ e ∷ f ∷ g ∷ i ∷ j ∷ k ∷ l ∷ n ∷ bytes) m h = absurd cc
 
-bound : {A B : Type 0} (o : Option A) (f : A → Option B) (y : B) → (o >>= f) ≡ Some y → (x : A) × (f x ≡ Some y)
-bound None f y h = absurd cc
-bound (Some x) f y h = (x, h)
-
 -- a UTCTime has thirteen octets
 utc_length : (bytes : List ℕ) (m : ℤ) → utc_time bytes ≡ Some m → length bytes ≡ 13
 unfolding utc_time
 utc_length [] m h = absurd cc
 utc_length (y ∷ []) m h = absurd cc
 utc_length (y ∷ y' ∷ bytes) m h =
-    let found = bound (pair_of y y') (λ (year : ℕ). clock_of (if nat_le 50 year then 1900 + year else 2000 + year) bytes) m h in
-    omega (arith, clock_length (if nat_le 50 found.0 then 1900 + found.0 else 2000 + found.0) bytes m found.1)
+    let found = bind_some (pair_of y y') (λ (year : ℕ). clock_of (if nat_le 50 year then 1900 + year else 2000 + year) bytes) m h in
+    omega (arith, clock_length (if nat_le 50 found.0 then 1900 + found.0 else 2000 + found.0) bytes m found.2)
 
 -- the text of the first expiry
 pub time_length : (time : List ℕ) → IsTimeText (pos 2000000000) time → length time ≡ 15

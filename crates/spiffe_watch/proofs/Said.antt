@@ -1,7 +1,7 @@
 -- Texts that are put in pieces.
 use Rattle.std.proofs.Common.{◌≡◌, ℕ, zero, suc, List, [], ◌∷◌, ◌++◌, length, take, Option, Result, Ok, Err, refl, sym, ap, subst, arith, take_all}
 use Rattle.std.specs.Io.KnownBytes.{Appends}
-use Rattle.std.proofs.KnownBytes.{Appends-nil, Appends-trans}
+use Rattle.std.proofs.KnownBytes.{Appends-trans}
 use Rattle.spf_io.specs.Outside.{HasCause, PutAppends}
 use Rattle.spiffe_watch.specs.Causes.{Says}
 
@@ -35,7 +35,3 @@ says old new before now (Ok done) line h c =
     let all : take (length line) line ≡ line = take_all (length line) line (omega arith) in
     record { count = length line; put = subst (Appends old new) (sym all) h; whole = λ calm. all }
 says old new before now (Err e) line h c = record { count = h.0; put = h.1; whole = λ calm. absurd (calm (c.failed refl)) }
-
--- nothing is said
-pub says_nothing : (held : Option (List ℕ)) (count : ℕ) → Says held held count count []
-says_nothing held count = record { count = 0; put = Appends-nil held; whole = λ calm. refl }

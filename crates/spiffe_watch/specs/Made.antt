@@ -19,7 +19,7 @@ use Rattle.spiffe_watch.specs.declared.words.MadeWords.{MadeWords}
 abbrev pub expiry_of : ℕ → ℤ
 expiry_of generation = pos (2000000000 + generation)
 
--- the same as a UTCTime: second 2000000000 is 03:33:20 on 2033-05-18, and so many generations lie on that day
+-- the same as a UTCTime: second 2000000000 is 03:33:20 on 2033-05-18, and the first 73,600 generations lie on that day
 abbrev pub expiry_text : ℕ → List ℕ
 expiry_text generation = 23 ∷ 13 ∷ utc_text 2033 5 18 ((12800 + generation) / 3600) ((12800 + generation) / 60 % 60) ((12800 + generation) % 60)
 

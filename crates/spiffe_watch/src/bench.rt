@@ -10,13 +10,10 @@ use crate::made_source::MadeSource;
 use crate::tally::Tally;
 use crate::unkept::Unkept;
 use crate::watch::put;
-use crate::words::MadeWords;
+use crate::words::{DEFAULT_MAX_FRAMES, MadeWords};
 use spf_feed::{NoPicker, NoRecorder, Ready, ResourceLimits, follow_x509};
 use spf_io::{OutOfMemory, Sink};
 use std::alloc::Global;
-
-/// More frames than any made session has.
-const MAX_FRAMES: u64 = 1_000_000;
 
 /// Puts the summary of the session that `make` writes, followed with default settings.
 pub(crate) fn bench<K: Sink>(alloc: Global, words: MadeWords, out: &mut K) -> Result<(), Fault>
@@ -33,7 +30,7 @@ pub(crate) fn bench<K: Sink>(alloc: Global, words: MadeWords, out: &mut K) -> Re
         &mut NoRecorder::new(),
         ResourceLimits::default_limits(),
         None,
-        MAX_FRAMES,
+        DEFAULT_MAX_FRAMES,
         None::<&NoPicker>,
         Ready::Usable,
     );

@@ -25,7 +25,7 @@ use spf_feed::{Ready, ResourceLimits};
 use std::marker::Model;
 
 /// How many frames a session may have where the words name no number.
-const DEFAULT_MAX_FRAMES: u64 = 1_000_000;
+pub(crate) const DEFAULT_MAX_FRAMES: u64 = 1_000_000;
 
 /// The greatest number that a word may be.
 const MOST: u64 = i64::MAX as u64;

@@ -1,5 +1,5 @@
 use Rattle.std.proofs.Common.{◌∙◌, ap, refl, sym, ◌++◌, List, ℕ, append_assoc, arith}
-use Rattle.spiffe_watch.proofs.PutLemmas.{grows_then}
+use Rattle.spf_view.proofs.FollowLemmas.{grows_trans}
 use Rattle.spiffe_watch.proofs.watch.put_rest.Goals as goal
 
 pub loop-out-preserved : goal.loop-out-preserved
@@ -11,7 +11,7 @@ loop-out-preserved g c =
       omega (arith, before.0, c.in_ok-put.ensures.cause.writes_later),
       (
         before.1.0 ++ put.0,
-        grows_then _ _ _ _ _ before.1.1 put.2,
+        grows_trans _ _ _ _ _ before.1.1 put.2,
         before.1.2 ∙ ap (λ (l : List ℕ). before.1.0 ++ l) rest ∙ sym (append_assoc before.1.0 put.0 c.next.new.self),
       ),
     )
