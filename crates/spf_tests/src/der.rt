@@ -1,0 +1,1 @@
+//! DER: certificates, extensions and keys, as they are read and written.

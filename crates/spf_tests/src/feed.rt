@@ -1,0 +1,1 @@
+//! Sessions, with what a run of each leaves.

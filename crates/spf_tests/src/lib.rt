@@ -1,0 +1,17 @@
+//! The tests that need only public calls of the crates below, a module for each crate.
+#![tactic(auto)]
+
+#[cfg(test)]
+mod api;
+#[cfg(test)]
+mod der;
+#[cfg(test)]
+mod feed;
+#[cfg(test)]
+mod fixtures;
+#[cfg(test)]
+mod id;
+#[cfg(test)]
+mod io;
+#[cfg(test)]
+mod x509;

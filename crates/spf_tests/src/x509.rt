@@ -1,0 +1,1 @@
+//! Certificates, keys, SVIDs, bundles and contexts.
