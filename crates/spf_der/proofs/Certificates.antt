@@ -2,7 +2,7 @@
 use Rattle.std.proofs.Common.{◌≡◌, ℕ, ◌+◌, ◌⊎◌, inl, inr, ⊎_elim, Bool, true, false, cond, List, [], ◌∷◌, ◌++◌, length, Option, Some, None, nat_eq, refl, sym, ap, subst, ◌∙◌, arith, ℤ, ◌||◌}
 use Rattle.std.proofs.lemmas.Bool.Decides.{nat_tests}
 use Rattle.std.proofs.lemmas.List.{append-nil}
-use Rattle.spf_der.specs.Option.{◌>>=◌}
+use Rattle.spf_io.specs.Option.{◌>>=◌}
 use Rattle.spf_der.specs.Value.{IsTag, Value, contents_at, tagged_at, optional_at}
 use Rattle.spf_der.specs.Types.{small_integer_at, after_bit_string_at, after_algorithm_at}
 use Rattle.spf_der.specs.Time.{time_at}

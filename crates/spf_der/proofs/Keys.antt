@@ -3,7 +3,7 @@ use Rattle.std.proofs.Common.{◌≡◌, ℕ, ◌⊎◌, inl, inr, Bool, true, f
 use Rattle.std.specs.Prelude.{◌↔◌}
 use Rattle.std.proofs.lemmas.Bool.{eqb-true}
 use Rattle.std.proofs.lemmas.List.{append-nil}
-use Rattle.spf_der.specs.Option.{◌>>=◌}
+use Rattle.spf_io.specs.Option.{◌>>=◌}
 use Rattle.spf_der.specs.Value.{Value, IsBytes, tagged_at, whole_at, optional_at}
 use Rattle.spf_der.specs.Types.{small_integer_at, after_algorithm_at, is_bit_string}
 use Rattle.spf_der.specs.Key.{is_public_key, key_at, is_key}

@@ -5,7 +5,7 @@ use Rattle.std.specs.List.{list_all}
 use Rattle.std.specs.Str.{IsAscii}
 use Rattle.std.proofs.lemmas.Bool.{lt-ltb}
 use Rattle.std.specs.Option.{option_map_or}
-use Rattle.spf_der.specs.Option.{◌>>=◌}
+use Rattle.spf_io.specs.Option.{◌>>=◌}
 use Rattle.spf_der.specs.Value.{value_at}
 use Rattle.spf_der.specs.Names.{name_at, name_of, with_name, uris_within, uris_of, uris_before, uris_left}
 use Rattle.spf_der.proofs.Steps.{bind_some, pair_parts}

@@ -4,7 +4,7 @@ use Rattle.std.specs.Prelude.{bit_and}
 use Rattle.std.proofs.lemmas.Bool.{le-leb, ltb-true, eqb-true, eqb-false}
 use Rattle.std.proofs.lemmas.Bool.Decides.{nat_tests}
 use Rattle.std.proofs.lemmas.List.{append-nil}
-use Rattle.spf_der.specs.Option.{◌>>=◌}
+use Rattle.spf_io.specs.Option.{◌>>=◌}
 use Rattle.spf_der.specs.Value.{IsTag, Value, value_at, tagged_at, whole_at, optional_at}
 use Rattle.spf_der.specs.Types.{object_identifier_at, integer_at, small_of, small_integer_at, boolean_of, flag_of, default_false_at, is_bit_string, after_bit_string_at, after_algorithm_at}
 use Rattle.spf_der.specs.Time.{unix_of, time_at}
@@ -43,7 +43,7 @@ not_ended b tag contents rest value =
     let size = ap (length {A = ℕ}) (begins b tag contents rest value) in
     not_zero (length (b ++ rest)) (omega (arith, size))
 
--- a value of another tag stands in its place
+-- a value of another tag stands instead
 pub absent : (b : List ℕ) (tag other : ℕ) (contents rest : List ℕ) → Value b other contents → nat_eq other tag ≡ false → optional_at tag (b ++ rest) ≡ Some (None, b ++ rest)
 unfolding optional_at
 absent b tag other contents rest value differs =

@@ -3,7 +3,7 @@ use Rattle.std.proofs.Common.{◌≡◌, ℕ, ◌<◌, ◌≤◌, List, [], ◌�
 use Rattle.std.proofs.lemmas.Bool.Decides.{nat_tests}
 use Rattle.std.specs.Prelude.{bit_and}
 use Rattle.spf_der.proofs.Steps.{chosen, bind_some, pair_parts, triple_parts}
-use Rattle.spf_der.specs.Option.{◌>>=◌}
+use Rattle.spf_io.specs.Option.{◌>>=◌}
 use Rattle.spf_der.specs.Value.{length_at, long_length_at, contents_at, value_at}
 
 long_length_leaves : (n : ℕ) (bytes : List ℕ) (m : ℕ) (rest : List ℕ) → long_length_at n bytes ≡ Some (m, rest) → length rest ≤ length bytes

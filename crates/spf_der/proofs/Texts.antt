@@ -1,7 +1,7 @@
 -- Certificates and keys: what is read is in the grammar, and what is in the grammar is read.
 use Rattle.std.proofs.Common.{◌≡◌, ℕ, ◌+◌, inl, inr, Bool, false, cond, List, [], ◌∷◌, ◌++◌, length, Some, None, nat_eq, refl, sym, ap, subst, ◌∙◌, ℤ, ◌||◌}
 use Rattle.std.proofs.lemmas.List.{append-nil}
-use Rattle.spf_der.specs.Option.{◌>>=◌}
+use Rattle.spf_io.specs.Option.{◌>>=◌}
 use Rattle.spf_der.specs.Value.{Value, tagged_at, whole_at}
 use Rattle.spf_der.specs.Types.{object_identifier_at, integer_at, default_false_at, after_bit_string_at, after_algorithm_at}
 use Rattle.spf_der.specs.Certificate.{after_version_at, validity_at, after_public_key_at, after_unique_id_at, extension_text_at, after_issuer_at, tbs_of, certificate_at, extension_at}

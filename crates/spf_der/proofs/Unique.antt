@@ -6,7 +6,7 @@ use Rattle.std.specs.Borrow.{Bor}
 use Rattle.std.proofs.lemmas.List.{take_more, take-append-drop, length-take-le, append-nil, map-append, map_push}
 use Rattle.spf_der.specs.Part.{plain}
 use Rattle.spf_der.specs.Value.{seen}
-use Rattle.spf_der.specs.Read.{only_one, contents_with, places_with, unique_rule, place_rule}
+use Rattle.spf_der.specs.Read.{only_one, contents_with, indices_with, unique_rule, index_rule}
 use Rattle.spf_der.specs.declared.certificate.ExtensionView.{ExtensionView}
 use Rattle.spf_der.specs.declared.certificate.ExtensionPart.{ExtensionPart}
 use Rattle.spf_der.specs.declared.error.X509ParseKind.TheVariants.{DuplicateExtensions}
@@ -35,13 +35,13 @@ contents_with-append oid (x ∷ xs) ys =
     ap (λ (rest : List (List ℕ)). cond (bytes_eq x.oid oid) (x.contents ∷ rest) rest) (contents_with-append oid xs ys)
     ∙ picked (bytes_eq x.oid oid) x.contents (contents_with oid xs) (contents_with oid ys)
 
-places_with-append : (oid : List ℕ) (n : ℕ) (xs ys : List ExtensionPart) → places_with oid n (xs ++ ys) ≡ places_with oid n xs ++ places_with oid (n + length xs) ys
-places_with-append oid n [] ys = ap (λ (m : ℕ). places_with oid m ys) (omega arith)
-places_with-append oid n (x ∷ xs) ys =
+indices_with-append : (oid : List ℕ) (n : ℕ) (xs ys : List ExtensionPart) → indices_with oid n (xs ++ ys) ≡ indices_with oid n xs ++ indices_with oid (n + length xs) ys
+indices_with-append oid n [] ys = ap (λ (m : ℕ). indices_with oid m ys) (omega arith)
+indices_with-append oid n (x ∷ xs) ys =
     let at : n + 1 + length xs ≡ n + length (x ∷ xs) = omega arith in
-    ap (λ (rest : List ℕ). cond (bytes_eq x.oid oid) (n ∷ rest) rest) (places_with-append oid (n + 1) xs ys)
-    ∙ picked (bytes_eq x.oid oid) n (places_with oid (n + 1) xs) (places_with oid (n + 1 + length xs) ys)
-    ∙ ap (λ (m : ℕ). cond (bytes_eq x.oid oid) (n ∷ places_with oid (n + 1) xs) (places_with oid (n + 1) xs) ++ places_with oid m ys) at
+    ap (λ (rest : List ℕ). cond (bytes_eq x.oid oid) (n ∷ rest) rest) (indices_with-append oid (n + 1) xs ys)
+    ∙ picked (bytes_eq x.oid oid) n (indices_with oid (n + 1) xs) (indices_with oid (n + 1 + length xs) ys)
+    ∙ ap (λ (m : ℕ). cond (bytes_eq x.oid oid) (n ∷ indices_with oid (n + 1) xs) (indices_with oid (n + 1) xs) ++ indices_with oid m ys) at
 
 contents_hit : (oid : List ℕ) (xs : List ExtensionPart) (e : ExtensionPart) (ys : List ExtensionPart) → bytes_eq e.oid oid ≡ true
     → contents_with oid (xs ++ e ∷ ys) ≡ contents_with oid xs ++ e.contents ∷ contents_with oid ys
@@ -95,17 +95,17 @@ unique_twice oid xs i d found lt so_far some hit =
     ∙ ap (only_one {A = List ℕ}) (contents_hit oid (map plain (take i xs)) (plain (get_or xs i d)) (map plain (drop (suc i) xs)) hit)
     ∙ only_twice (contents_with oid (map plain (take i xs))) (seen found) (get_or xs i d).contents.now (contents_with oid (map plain (drop (suc i) xs))) so_far (is_some_seen found ∙ some)
 
-places_hit : (oid : List ℕ) (xs : List ExtensionPart) (e : ExtensionPart) (ys : List ExtensionPart) → bytes_eq e.oid oid ≡ true
-    → places_with oid 0 (xs ++ e ∷ ys) ≡ places_with oid 0 xs ++ (0 + length xs) ∷ places_with oid (0 + length xs + 1) ys
-places_hit oid xs e ys hit =
-    places_with-append oid 0 xs (e ∷ ys)
-    ∙ ap (λ (b : Bool). places_with oid 0 xs ++ cond b ((0 + length xs) ∷ places_with oid (0 + length xs + 1) ys) (places_with oid (0 + length xs + 1) ys)) hit
+indices_hit : (oid : List ℕ) (xs : List ExtensionPart) (e : ExtensionPart) (ys : List ExtensionPart) → bytes_eq e.oid oid ≡ true
+    → indices_with oid 0 (xs ++ e ∷ ys) ≡ indices_with oid 0 xs ++ (0 + length xs) ∷ indices_with oid (0 + length xs + 1) ys
+indices_hit oid xs e ys hit =
+    indices_with-append oid 0 xs (e ∷ ys)
+    ∙ ap (λ (b : Bool). indices_with oid 0 xs ++ cond b ((0 + length xs) ∷ indices_with oid (0 + length xs + 1) ys) (indices_with oid (0 + length xs + 1) ys)) hit
 
-places_miss : (oid : List ℕ) (xs : List ExtensionPart) (e : ExtensionPart) → bytes_eq e.oid oid ≡ false
-    → places_with oid 0 (xs ++ e ∷ []) ≡ places_with oid 0 xs
-places_miss oid xs e miss =
-    places_with-append oid 0 xs (e ∷ [])
-    ∙ ap (λ (b : Bool). places_with oid 0 xs ++ cond b ((0 + length xs) ∷ []) []) miss ∙ append-nil (places_with oid 0 xs)
+indices_miss : (oid : List ℕ) (xs : List ExtensionPart) (e : ExtensionPart) → bytes_eq e.oid oid ≡ false
+    → indices_with oid 0 (xs ++ e ∷ []) ≡ indices_with oid 0 xs
+indices_miss oid xs e miss =
+    indices_with-append oid 0 xs (e ∷ [])
+    ∙ ap (λ (b : Bool). indices_with oid 0 xs ++ cond b ((0 + length xs) ∷ []) []) miss ∙ append-nil (indices_with oid 0 xs)
 
 part_take_more : (xs : List ExtensionPart) (i : ℕ) (e : ExtensionPart) → i < length xs → e ≡ get_or xs i e → take (i + 1) xs ≡ take i xs ++ e ∷ []
 part_take_more xs i e lt is = take_more xs i e lt ∙ ap (λ (z : ExtensionPart). take i xs ++ z ∷ []) (sym is)
@@ -115,26 +115,26 @@ part_cut xs i e lt is =
     let rest : drop i xs ≡ e ∷ drop (suc i) xs = drop-cons xs i e lt ∙ ap (λ (z : ExtensionPart). z ∷ drop (suc i) xs) (sym is) in
     sym (take-append-drop i xs) ∙ ap (λ (z : List ExtensionPart). take i xs ++ z) rest
 
-pub place_more : (oid : List ℕ) (xs : List ExtensionPart) (i : ℕ) (e : ExtensionPart) (found : Option ℕ) → i < length xs → e ≡ get_or xs i e
-    → place_rule oid (take i xs) ≡ Ok found → is_some found ≡ false → bytes_eq e.oid oid ≡ true
-    → place_rule oid (take (i + 1) xs) ≡ Ok (Some i)
-place_more oid xs i e found lt is so_far none hit =
-    let empty : places_with oid 0 (take i xs) ≡ [] = only_none (places_with oid 0 (take i xs)) found so_far none in
-    let place : 0 + length (take i xs) ≡ i = ap (λ (n : ℕ). 0 + n) (length-take-le i xs (omega arith)) ∙ omega arith in
-    ap (place_rule oid) (part_take_more xs i e lt is)
-    ∙ ap (only_one {A = ℕ}) (places_hit oid (take i xs) e [] hit ∙ ap (λ (before : List ℕ). before ++ (0 + length (take i xs)) ∷ []) empty)
-    ∙ ap (λ (n : ℕ). Ok (Some n)) place
+pub index_more : (oid : List ℕ) (xs : List ExtensionPart) (i : ℕ) (e : ExtensionPart) (found : Option ℕ) → i < length xs → e ≡ get_or xs i e
+    → index_rule oid (take i xs) ≡ Ok found → is_some found ≡ false → bytes_eq e.oid oid ≡ true
+    → index_rule oid (take (i + 1) xs) ≡ Ok (Some i)
+index_more oid xs i e found lt is so_far none hit =
+    let empty : indices_with oid 0 (take i xs) ≡ [] = only_none (indices_with oid 0 (take i xs)) found so_far none in
+    let index : 0 + length (take i xs) ≡ i = ap (λ (n : ℕ). 0 + n) (length-take-le i xs (omega arith)) ∙ omega arith in
+    ap (index_rule oid) (part_take_more xs i e lt is)
+    ∙ ap (only_one {A = ℕ}) (indices_hit oid (take i xs) e [] hit ∙ ap (λ (before : List ℕ). before ++ (0 + length (take i xs)) ∷ []) empty)
+    ∙ ap (λ (n : ℕ). Ok (Some n)) index
 
-pub place_skip : (oid : List ℕ) (xs : List ExtensionPart) (i : ℕ) (e : ExtensionPart) (found : Option ℕ) → i < length xs → e ≡ get_or xs i e
-    → place_rule oid (take i xs) ≡ Ok found → bytes_eq e.oid oid ≡ false
-    → place_rule oid (take (i + 1) xs) ≡ Ok found
-place_skip oid xs i e found lt is so_far miss =
-    ap (place_rule oid) (part_take_more xs i e lt is) ∙ ap (only_one {A = ℕ}) (places_miss oid (take i xs) e miss) ∙ so_far
+pub index_skip : (oid : List ℕ) (xs : List ExtensionPart) (i : ℕ) (e : ExtensionPart) (found : Option ℕ) → i < length xs → e ≡ get_or xs i e
+    → index_rule oid (take i xs) ≡ Ok found → bytes_eq e.oid oid ≡ false
+    → index_rule oid (take (i + 1) xs) ≡ Ok found
+index_skip oid xs i e found lt is so_far miss =
+    ap (index_rule oid) (part_take_more xs i e lt is) ∙ ap (only_one {A = ℕ}) (indices_miss oid (take i xs) e miss) ∙ so_far
 
-pub place_twice : (oid : List ℕ) (xs : List ExtensionPart) (i : ℕ) (e : ExtensionPart) (found : Option ℕ) → i < length xs → e ≡ get_or xs i e
-    → place_rule oid (take i xs) ≡ Ok found → is_some found ≡ true → bytes_eq e.oid oid ≡ true
-    → place_rule oid xs ≡ Err DuplicateExtensions
-place_twice oid xs i e found lt is so_far some hit =
-    ap (place_rule oid) (part_cut xs i e lt is)
-    ∙ ap (only_one {A = ℕ}) (places_hit oid (take i xs) e (drop (suc i) xs) hit)
-    ∙ only_twice (places_with oid 0 (take i xs)) found (0 + length (take i xs)) (places_with oid (0 + length (take i xs) + 1) (drop (suc i) xs)) so_far some
+pub index_twice : (oid : List ℕ) (xs : List ExtensionPart) (i : ℕ) (e : ExtensionPart) (found : Option ℕ) → i < length xs → e ≡ get_or xs i e
+    → index_rule oid (take i xs) ≡ Ok found → is_some found ≡ true → bytes_eq e.oid oid ≡ true
+    → index_rule oid xs ≡ Err DuplicateExtensions
+index_twice oid xs i e found lt is so_far some hit =
+    ap (index_rule oid) (part_cut xs i e lt is)
+    ∙ ap (only_one {A = ℕ}) (indices_hit oid (take i xs) e (drop (suc i) xs) hit)
+    ∙ only_twice (indices_with oid 0 (take i xs)) found (0 + length (take i xs)) (indices_with oid (0 + length (take i xs) + 1) (drop (suc i) xs)) so_far some

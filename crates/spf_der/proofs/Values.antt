@@ -6,7 +6,7 @@ use Rattle.std.proofs.lemmas.Bool.{lt-ltb, le-ltb, cases_lt, eqb-true}
 use Rattle.std.proofs.lemmas.Bool.Decides.{nat_tests}
 use Rattle.std.proofs.lemmas.List.{append-nil, nil_from_length, take_at, drop_at, take-append-drop}
 use Rattle.std.proofs.lemmas.List.Elements.{recursion_from_All}
-use Rattle.spf_der.specs.Option.{◌>>=◌}
+use Rattle.spf_io.specs.Option.{◌>>=◌}
 use Rattle.spf_der.specs.Value.{IsTag, Value, IsBytes, value_text, length_octets, length_at, long_length_at, one_octet, two_octets, three_octets, four_octets, contents_at, tagged_at, value_at, optional_at, whole_at}
 use Rattle.spf_der.proofs.Steps.{chosen, bind_some}
 

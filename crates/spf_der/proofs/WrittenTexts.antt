@@ -7,7 +7,7 @@ use Rattle.std.proofs.lemmas.List.{append-nil}
 use Rattle.jiff_core.specs.Calendar.{days_from_civil}
 use Rattle.jiff_core.proofs.CalendarLemmas.{day_count-epoch, days_from_civil-day_count}
 use Rattle.jiff_core.proofs.SignedLemmas.{signed_arith}
-use Rattle.spf_der.specs.Option.{◌>>=◌}
+use Rattle.spf_io.specs.Option.{◌>>=◌}
 use Rattle.spf_der.specs.Value.{IsTag, IsBytes, Value, value_text, length_octets, length_at, contents_at, tagged_at, whole_at, optional_at}
 use Rattle.spf_der.specs.Types.{default_false_at, small_integer_at, after_algorithm_at, object_identifier_at}
 use Rattle.spf_der.specs.Extensions.{key_usage_of, basic_constraints_of}

@@ -1,6 +1,6 @@
 -- Certificates, in the order of RFC 5280 section 4.1: what is read at the front of the bytes.
 use Rattle.std.specs.Prelude.{ℕ, ℤ, ◌+◌, List, [], ◌∷◌, length, Option, Some, None, Bool, true, false, ◌==◌, ◌||◌, if◌then◌else◌}
-use Rattle.spf_der.specs.Option.{◌>>=◌}
+use Rattle.spf_io.specs.Option.{◌>>=◌}
 use Rattle.spf_der.specs.Value.{contents_at, tagged_at, whole_at, optional_at}
 use Rattle.spf_der.specs.Types.{object_identifier_at, integer_at, small_integer_at, default_false_at, after_bit_string_at, after_algorithm_at}
 use Rattle.spf_der.specs.Time.{time_at}

@@ -1,6 +1,6 @@
 -- Key usage and basic constraints (RFC 5280 section 4.2.1).
 use Rattle.std.specs.Prelude.{ℕ, ◌-◌, ◌/◌, ◌%◌, ◌^◌, List, length, drop, slice_index, Option, Some, None, Bool, not, ◌&&◌, ◌==◌, if◌then◌else◌, bit_and}
-use Rattle.spf_der.specs.Option.{◌>>=◌}
+use Rattle.spf_io.specs.Option.{◌>>=◌}
 use Rattle.spf_der.specs.Value.{whole_at, optional_at}
 use Rattle.spf_der.specs.Types.{is_bit_string, default_false_at}
 use Rattle.spf_der.specs.declared.extensions.KeyUsageBits.{KeyUsageBits}

@@ -1,6 +1,6 @@
 -- Private keys (RFC 5958 section 2).
 use Rattle.std.specs.Prelude.{ℕ, List, length, Option, Some, None, Bool, false, ◌&&◌, ◌==◌}
-use Rattle.spf_der.specs.Option.{◌>>=◌}
+use Rattle.spf_io.specs.Option.{◌>>=◌}
 use Rattle.spf_der.specs.Value.{tagged_at, whole_at, optional_at}
 use Rattle.spf_der.specs.Types.{small_integer_at, is_bit_string, after_algorithm_at}
 

@@ -1,4 +1,3 @@
-pub mod Option
 pub mod Value
 pub mod Types
 pub mod Time

@@ -38,19 +38,19 @@ contents_with oid [] = []
 contents_with oid (e ∷ extensions) =
     if bytes_eq e.oid oid then e.contents ∷ contents_with oid extensions else contents_with oid extensions
 
--- their places, counted from n
-abbrev pub places_with : List ℕ → ℕ → List ExtensionPart → List ℕ
-places_with oid n [] = []
-places_with oid n (e ∷ extensions) =
-    if bytes_eq e.oid oid then n ∷ places_with oid (n + 1) extensions else places_with oid (n + 1) extensions
+-- their indices, counted from n
+abbrev pub indices_with : List ℕ → ℕ → List ExtensionPart → List ℕ
+indices_with oid n [] = []
+indices_with oid n (e ∷ extensions) =
+    if bytes_eq e.oid oid then n ∷ indices_with oid (n + 1) extensions else indices_with oid (n + 1) extensions
 
 -- the contents of the one extension with that identifier, if there is one
 abbrev pub unique_rule : List ℕ → List ExtensionPart → Result (Option (List ℕ)) X509ParseKind
 unique_rule oid extensions = only_one (contents_with oid extensions)
 
--- its place
-abbrev pub place_rule : List ℕ → List ExtensionPart → Result (Option ℕ) X509ParseKind
-place_rule oid extensions = only_one (places_with oid 0 extensions)
+-- its index
+abbrev pub index_rule : List ℕ → List ExtensionPart → Result (Option ℕ) X509ParseKind
+index_rule oid extensions = only_one (indices_with oid 0 extensions)
 
 -- memory plays no part
 abbrev pub never : X509ParseKind → Bool

@@ -1,6 +1,6 @@
 -- The small types that certificates and keys share.
 use Rattle.std.specs.Prelude.{ℕ, List, [], ◌∷◌, length, Option, Some, None, Bool, true, false, not, ◌&&◌, ◌||◌, nat_le, ◌==◌, if◌then◌else◌}
-use Rattle.spf_der.specs.Option.{◌>>=◌}
+use Rattle.spf_io.specs.Option.{◌>>=◌}
 use Rattle.spf_der.specs.Value.{value_at, tagged_at, optional_at}
 
 -- OBJECT IDENTIFIER (X.690 section 8.19): its contents octets, of which there is at least one

@@ -5,7 +5,7 @@ ghost use Rattle.spf_io.specs.Rule.{Gives};
 ghost use Rattle.spf_der.specs.Certificate.{after_issuer_at, after_public_key_at, after_unique_id_at, after_version_at, certificate_at, ends, extension_at, extension_text_at, is_version, tbs_of, validity_at};
 ghost use Rattle.spf_der.specs.Error.{is_memory};
 ghost use Rattle.spf_der.specs.Part.{plain};
-ghost use Rattle.spf_der.specs.Read.{certificate_rule, extensions_rule, never, place_rule, unique_rule};
+ghost use Rattle.spf_der.specs.Read.{certificate_rule, extensions_rule, never, index_rule, unique_rule};
 ghost use Rattle.spf_der.specs.Value.{seen};
 
 use crate::error::{CertReadError, X509ParseError, X509ParseKind};
@@ -342,24 +342,24 @@ pub fn read_certificate(alloc: Global, der: &[u8]) -> Result<(CertParts, usize),
     Ok((CertParts { expiry, extensions }, length))
 }
 
-/// The place of the extension with that identifier, if there is one.
+/// The index of the extension with that identifier, if there is one.
 pub fn extension_unique(parts: &CertParts, oid: &[u8]) -> Result<Option<usize>, X509ParseError>
-    ensures { Gives never (λ o. o) result (place_rule oid.now parts.now.extensions) }
+    ensures { Gives never (λ o. o) result (index_rule oid.now parts.now.extensions) }
 {
-    unique_place(parts.extensions.as_slice(), oid)
+    unique_index(parts.extensions.as_slice(), oid)
 }
 
 /// The same, in a list of extensions.
-fn unique_place(extensions: &[ExtensionPart], oid: &[u8]) -> Result<Option<usize>, X509ParseError>
-    ensures { Gives never (λ o. o) result (place_rule oid.now extensions.now) }
+fn unique_index(extensions: &[ExtensionPart], oid: &[u8]) -> Result<Option<usize>, X509ParseError>
+    ensures { Gives never (λ o. o) result (index_rule oid.now extensions.now) }
 {
     let mut found = None;
-    for (place, extension) in extensions.iter().enumerate() {
+    for (index, extension) in extensions.iter().enumerate() {
         if extension.oid.as_slice() == oid {
             if found.is_some() {
                 return Err(X509ParseError::new(X509ParseKind::DuplicateExtensions));
             }
-            found = Some(place);
+            found = Some(index);
         }
     }
     Ok(found)

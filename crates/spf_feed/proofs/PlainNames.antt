@@ -13,7 +13,7 @@ use Rattle.spf_x509.specs.declared.extension.X509ExtensionId.TheVariants.{Subjec
 use Rattle.spf_x509.specs.declared.svid_error.X509SvidError.TheVariants.{LeafCertificateHasCaFlag, LeafSpiffeIdMissingPath}
 use Rattle.spf_x509.specs.Errors.{of_id, svid_of_certificate, svid_of_key}
 use Rattle.spf_x509.specs.Certificate.{oid_of, extension_rule, found_id, uri_rule, uris_rule, readable_names, san_rule}
-use Rattle.spf_x509.specs.Chain.{chain_rule, signers_rule, svid_of_parts, svid_of}
+use Rattle.spf_x509.specs.Chain.{chain_rule, intermediates_rule, svid_of_parts, svid_of}
 use Rattle.spf_x509.specs.Key.{key_rule}
 use Rattle.spf_x509.specs.Rule.{usage_rule, leaf_usage, ca_rule, must, leaf_rule}
 use Rattle.spf_x509.specs.Svid.{Svid}
@@ -149,7 +149,7 @@ parts_svid_plain : (key : List ℕ) (hint : Option (List ℕ)) (parts : List (_ 
 parts_svid_plain key hint [] svid h = absurd (cc)
 parts_svid_plain key hint (leaf ∷ signers) svid h =
     bound (leaf_rule leaf.0) _ svid h (λ found f_is rest.
-    bound (signers_rule signers) _ svid rest (λ signed s_is more.
+    bound (intermediates_rule signers) _ svid rest (λ signed s_is more.
     bound (broken_as svid_of_key (key_rule key)) _ svid more (λ kept_key k_is made.
     let same : found.0 ≡ svid.id = cc in
     subst PlainId same (leaf_plain leaf.0 found f_is))))

@@ -19,12 +19,12 @@ use Rattle.spf_x509.specs.Bag.{same_bag, in_order}
 use Rattle.spf_x509.specs.Bundle.{Bundle}
 use Rattle.spf_x509.specs.Context.{svid_eq}
 use Rattle.spf_x509.specs.Order.{svid_cmp, IsSameSvid}
-use Rattle.spf_x509.specs.Places.{IsSortedPlaces}
+use Rattle.spf_x509.specs.Indices.{IsSortedIndices}
 use Rattle.spf_x509.specs.Svid.{Svid}
 use Rattle.spf_x509.specs.contracts.svid.X509SvidOrd.TheImpl.Laws as svid
 use Rattle.spf_x509.proofs.ByteBags.{byte_bags_in_order}
 use Rattle.spf_x509.proofs.Ties.{svids_tie}
-use Rattle.spf_x509.proofs.Walk.{places_in_order}
+use Rattle.spf_x509.proofs.Walk.{indices_in_order}
 use Rattle.spf_feed.specs.declared.step.Denial.{Denial}
 use Rattle.spf_feed.specs.Lines.{after_comma, hex_list, shown_at, choice_text}
 use Rattle.spf_feed.specs.Material.{Material, chosen_of, svid_same, entry_same, same_set, same_material}
@@ -44,11 +44,11 @@ hex_list_through h g [] = refl
 hex_list_through {X} {Y} h g (x ∷ xs) = ap (λ l. encode_lower (g (h x)) ++ l) (flat_map_through h (λ (y : Y). after_comma (g y)) xs)
 
 -- what stands at sorted places is shown as the sorted values are
-pub places_text : (xs : List (List ℕ)) (ps : List ℕ) → IsSortedPlaces (slice_cmp nat_cmp) xs ps → hex_list (shown_at (λ c. c) xs) ps ≡ sorted_text xs
+pub places_text : (xs : List (List ℕ)) (ps : List ℕ) → IsSortedIndices (slice_cmp nat_cmp) xs ps → hex_list (shown_at (λ c. c) xs) ps ≡ sorted_text xs
 places_text xs ps p =
     let shown : Option (List ℕ) → List ℕ = λ o. option_map_or (λ c. c) o [] in
     hex_list_through (λ (k : ℕ). slice_get xs k) shown ps
-    ∙ ap (λ (os : List (Option (List ℕ))). hex_list shown os) (places_in_order (slice_cmp nat_cmp) nat_list_cmp_total exact_bytes xs ps p)
+    ∙ ap (λ (os : List (Option (List ℕ))). hex_list shown os) (indices_in_order (slice_cmp nat_cmp) nat_list_cmp_total exact_bytes xs ps p)
     ∙ sym (hex_list_through (λ (c : List ℕ). Some c) shown (in_order (slice_cmp nat_cmp) xs))
 
 -- one more trust domain is shown
@@ -67,7 +67,7 @@ bundles_more all line line' d b es iter order rest left authorities places iter-
     )
 
 -- the CRLs are shown, where there is one
-pub crls_made : (crls : List (List ℕ)) (order before mark all : List ℕ) (empty : Bool) → empty ≡ (length crls == 0) → empty ≡ false → IsSortedPlaces (slice_cmp nat_cmp) crls order
+pub crls_made : (crls : List (List ℕ)) (order before mark all : List ℕ) (empty : Bool) → empty ≡ (length crls == 0) → empty ≡ false → IsSortedIndices (slice_cmp nat_cmp) crls order
     → mark ≡ before ++ codes " #" → all ≡ mark ++ hex_list (shown_at (λ c. c) crls) order → all ≡ before ++ revocations_text crls
 crls_made [] order before mark all empty is not_empty p named made = let e : true ≡ false = sym is ∙ not_empty in cc
 crls_made (c ∷ crls) order before mark all empty is not_empty p named made =

@@ -10,7 +10,7 @@ ghost use Rattle.spf_io.specs.Outside.{HasCause, PutAppends};
 ghost use Rattle.hex.specs.Hex.{encode_lower};
 ghost use Rattle.spf_view.specs.Views.{Waiting};
 ghost use Rattle.spf_view.specs.Standing.{shown_by};
-ghost use Rattle.spf_x509.specs.Places.{IsSortedPlaces};
+ghost use Rattle.spf_x509.specs.Indices.{IsSortedIndices};
 ghost use Rattle.spf_feed.specs.Lines.{after_comma, hex_list, shown_at, choice_text, withdrawn_text};
 ghost use Rattle.spf_feed.specs.Shown.{entry_text, revocations_text, context_text, visible_text, view_line, shown_text};
 ghost use Rattle.spf_feed.specs.Sorted.{ArePlaced, AreSorted};
@@ -180,7 +180,7 @@ fn push_bundles(
 
 /// The revocation lists, sorted, where there is one.
 fn push_crls(line: &mut Vec<u8>, crls: &[Bytes], order: &[usize]) -> Result<(), OutOfMemory>
-    requires { IsSortedPlaces (slice_cmp nat_cmp) crls.now order.now }
+    requires { IsSortedIndices (slice_cmp nat_cmp) crls.now order.now }
     ensures text { OnOk result (line.new.items ≡ line.old.items ++ revocations_text crls.now) }
     ensures grows { vec_len line.old ≤ vec_len line.new }
 {

@@ -11,7 +11,7 @@ use Rattle.spf_io.specs.Rule.{◌>>=◌}
 use Rattle.spf_id.specs.declared.error.SpiffeIdError.TheVariants.{Empty, TooLong, WrongScheme, MissingTrustDomain}
 use Rattle.spf_id.specs.Id.{Id, id_text}
 use Rattle.spf_id.specs.Rule.{IsTextOf, is_slash, domain_rule, segments_rule, segments_of, id_rule}
-use Rattle.spf_id.proofs.FirstPlace.{front_length}
+use Rattle.spf_id.proofs.FirstIndex.{front_length}
 use Rattle.spf_id.proofs.Parts.{halves_rule, parts_by_halves, rest_after}
 
 -- a rule that was not broken

@@ -1,6 +1,6 @@
 pub mod Exact
 mod ColonSlash
-mod FirstPlace
+mod FirstIndex
 mod Ids
 mod Parts
 mod Rows

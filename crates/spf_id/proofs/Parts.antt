@@ -12,7 +12,7 @@ use Rattle.spf_id.specs.declared.error.SpiffeIdError.{SpiffeIdError}
 use Rattle.spf_id.specs.declared.error.SpiffeIdError.TheVariants.{MissingTrustDomain, EmptySegment, TrailingSlash}
 use Rattle.spf_id.specs.Id.{Id}
 use Rattle.spf_id.specs.Rule.{is_slash, domain_rule, segment_rule, segments_rule, segments_of, path_of, parts_rule}
-use Rattle.spf_id.proofs.FirstPlace.{front_whole, split_whole}
+use Rattle.spf_id.proofs.FirstIndex.{front_whole, split_whole}
 
 -- a split has a first part
 split_shape : (xs : List ℕ) → (s : List ℕ) × (ss : List (List ℕ)) × (slice_split is_slash xs ≡ s ∷ ss)

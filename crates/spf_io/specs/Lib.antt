@@ -1,4 +1,5 @@
 pub mod Rule
+pub mod Option
 pub mod Exact
 pub mod Memory
 pub mod Outside

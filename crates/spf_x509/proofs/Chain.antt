@@ -5,8 +5,8 @@ use Rattle.spf_io.specs.Rule.{◌>>=◌, each, many}
 use Rattle.spf_der.specs.Part.{Parts}
 use Rattle.spf_x509.specs.declared.svid_error.X509SvidError.{X509SvidError}
 use Rattle.spf_x509.specs.declared.svid_rule.ChainPart.{ChainPart}
-use Rattle.spf_x509.specs.Rule.{sign_rule}
-use Rattle.spf_x509.specs.Chain.{plain_part, signers_rule}
+use Rattle.spf_x509.specs.Rule.{intermediate_rule}
+use Rattle.spf_x509.specs.Chain.{plain_part, intermediates_rule}
 use Rattle.spf_io.proofs.Many.{with_front}
 
 regroup : {A E : Type 0} (front : List A) (x : A) (read : Result (List A) E)
@@ -83,7 +83,7 @@ each-map f g [] = refl
 each-map {A} {B} {C} {E} f g (x ∷ xs) = ap (λ (r : Result (List C) E). f (g x) >>= λ y. r >>= λ ys. Ok (y ∷ ys)) (each-map f g xs)
 
 -- SignRule of the certificates of a chain, as a loop applies it
-pub signers_at : (parts : List ChainPart) (answers : Result (List (Unit {0})) X509SvidError) → each (λ (p : ChainPart). sign_rule p.view) parts ≡ answers
-    → signers_rule (map plain_part parts) ≡ (answers >>= λ _. Ok tt)
-signers_at parts answers is =
-    ap (λ (r : Result (List (Unit {0})) X509SvidError). r >>= λ _. Ok (tt {0})) (each-map (λ (p : Parts × List ℕ). sign_rule p.0) plain_part parts ∙ is)
+pub intermediates_at : (parts : List ChainPart) (answers : Result (List (Unit {0})) X509SvidError) → each (λ (p : ChainPart). intermediate_rule p.view) parts ≡ answers
+    → intermediates_rule (map plain_part parts) ≡ (answers >>= λ _. Ok tt)
+intermediates_at parts answers is =
+    ap (λ (r : Result (List (Unit {0})) X509SvidError). r >>= λ _. Ok (tt {0})) (each-map (λ (p : Parts × List ℕ). intermediate_rule p.0) plain_part parts ∙ is)

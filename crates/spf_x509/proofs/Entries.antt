@@ -25,7 +25,7 @@ step Less e es k v others seen is = refl
 step Equal e es k v others seen is = refl
 step Greater e es k v others seen is = ap (λ (xs : List (List ℕ × Bundle)). plain_entry e ∷ xs) is
 
--- putting a shared bundle in its place is putting the bundle in its place
+-- adding a shared bundle is adding the bundle
 pub insert_plain : (es : List Shared) (k : List ℕ) (v : Arc Bundle Global)
     → map plain_entry (insert_entry (slice_cmp nat_cmp) es k v) ≡ with_entry (map plain_entry es) k (arc_value v)
 insert_plain [] k v = refl

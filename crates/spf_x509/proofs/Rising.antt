@@ -1,4 +1,4 @@
--- Entries in the order of their trust domains, put in their places one after the other.
+-- Entries in the order of their trust domains, put in one after the other.
 use Rattle.std.proofs.Common.{◌≡◌, ℕ, List, [], ◌∷◌, ◌++◌, map, refl, sym, ap, ◌∙◌, subst, append_assoc}
 use Rattle.std.specs.declared.cmp.Ordering.{Ordering}
 use Rattle.std.specs.declared.cmp.Ordering.TheVariants.{Less, Greater}
@@ -52,11 +52,11 @@ pub same_keys : (es : List Shared) → keys_of es ≡ keys_of (map plain_entry e
 same_keys [] = refl
 same_keys (e ∷ es) = ap (λ (ks : List (List ℕ)). e.0 ∷ ks) (same_keys es)
 
--- entries in order that are put in their places are those entries
+-- entries in order that are put in are those entries
 pub again : (es : List Shared) → Rises es → with_entries [] (map plain_entry es) ≡ map plain_entry es
 again es rises = let P : List (List ℕ) → Type 0 = λ ks. IsStrictlySortedBy name_cmp ks in all_at_end [] (map plain_entry es) (subst P (same_keys es) rises)
 
--- one more entry is put in its place
+-- one more entry is added
 pub one_put : (es left after : List Shared) (k same_k : List ℕ) (v same_v : Arc Bundle Global) (total : List (List ℕ × Bundle))
     → left ≡ (k, v) ∷ after → same_k ≡ k → arc_value same_v ≡ arc_value v → with_entries (map plain_entry es) (map plain_entry left) ≡ total
     → with_entries (map plain_entry (insert_entry name_cmp es same_k same_v)) (map plain_entry after) ≡ total

@@ -17,7 +17,7 @@ use Rattle.spf_x509.specs.declared.error.PrivateKeyError.TheVariants.{DecodePkcs
 use Rattle.spf_x509.specs.declared.svid_error.X509SvidError.TheVariants.{EmptyChain, LeafCertificateHasCaFlag, LeafCertificateHasCrlSign, LeafCertificateHasKeyCertSign, LeafCertificateMissingDigitalSignature, SigningCertificateMissingCaFlag, SigningCertificateMissingKeyCertSign, UnparseableExtension, Certificate, LeafSpiffeIdMissingPath, PrivateKey}
 use Rattle.spf_x509.specs.Certificate.{extension_rule, uri_rule, uris_rule, san_rule}
 use Rattle.spf_x509.specs.Key.{key_rule}
-use Rattle.spf_x509.specs.Rule.{usage_rule, ca_rule, leaf_rule, sign_rule}
+use Rattle.spf_x509.specs.Rule.{usage_rule, ca_rule, leaf_rule, intermediate_rule}
 use Rattle.spf_x509.specs.Chain.{chain_rule, svid_of_parts, svid_of}
 
 -- an extension of 2.5.29.n
@@ -64,7 +64,7 @@ key = 48 ∷ 13 ∷ 2 ∷ 1 ∷ 0 ∷ 48 ∷ 5 ∷ 6 ∷ 3 ∷ 43 ∷ 101 ∷ 11
 
 whole : svid_of_parts key None ((leaf, codes "leaf") ∷ (inter, codes "inter") ∷ [])
     ≡ Ok (record { id = record { domain = codes "example.org"; path = codes "/w" }; hint = None; chain = codes "leaf" ∷ codes "inter" ∷ []; key = key; expiry = pos 1000 })
-unfolding leaf_rule sign_rule usage_rule ca_rule san_rule extension_rule uri_rule id_rule parts_rule domain_rule segment_rule has_spiffe_scheme key_usage_of basic_constraints_of san_uris_of name_at value_at whole_at tagged_at optional_at contents_at length_at default_false_at key_rule key_at small_integer_at after_algorithm_at object_identifier_at
+unfolding leaf_rule intermediate_rule usage_rule ca_rule san_rule extension_rule uri_rule id_rule parts_rule domain_rule segment_rule has_spiffe_scheme key_usage_of basic_constraints_of san_uris_of name_at value_at whole_at tagged_at optional_at contents_at length_at default_false_at key_rule key_at small_integer_at after_algorithm_at object_identifier_at
 whole = refl
 
 empty_chain : svid_of [] key None ≡ Err EmptyChain
@@ -77,7 +77,7 @@ no_key = refl
 
 -- the chain is looked at before the key
 chain_before_key : svid_of_parts (0 ∷ []) None ((leaf, []) ∷ (root, []) ∷ []) ≡ Err (Certificate (MissingX509Extension BasicConstraints))
-unfolding leaf_rule sign_rule usage_rule ca_rule san_rule extension_rule uri_rule id_rule parts_rule domain_rule segment_rule has_spiffe_scheme key_usage_of basic_constraints_of san_uris_of name_at value_at whole_at tagged_at optional_at contents_at length_at default_false_at
+unfolding leaf_rule intermediate_rule usage_rule ca_rule san_rule extension_rule uri_rule id_rule parts_rule domain_rule segment_rule has_spiffe_scheme key_usage_of basic_constraints_of san_uris_of name_at value_at whole_at tagged_at optional_at contents_at length_at default_false_at
 chain_before_key = refl
 
 -- the rule of a leaf
@@ -119,15 +119,15 @@ no_path : leaf_rule (kept (usage 128 ∷ no_ca ∷ names (name 134 (codes "spiff
 unfolding leaf_rule usage_rule ca_rule san_rule extension_rule uri_rule id_rule parts_rule domain_rule has_spiffe_scheme key_usage_of basic_constraints_of san_uris_of name_at value_at whole_at tagged_at optional_at contents_at length_at default_false_at
 no_path = refl
 
--- the rule of a further certificate
+-- the rule of an intermediate
 
-signer_without_ca : sign_rule (kept (usage 4 ∷ no_ca ∷ [])) ≡ Err SigningCertificateMissingCaFlag
-unfolding sign_rule usage_rule ca_rule extension_rule key_usage_of basic_constraints_of whole_at tagged_at optional_at contents_at length_at default_false_at
-signer_without_ca = refl
+intermediate_without_ca : intermediate_rule (kept (usage 4 ∷ no_ca ∷ [])) ≡ Err SigningCertificateMissingCaFlag
+unfolding intermediate_rule usage_rule ca_rule extension_rule key_usage_of basic_constraints_of whole_at tagged_at optional_at contents_at length_at default_false_at
+intermediate_without_ca = refl
 
-signer_without_usage : sign_rule (kept (usage 128 ∷ ca ∷ [])) ≡ Err SigningCertificateMissingKeyCertSign
-unfolding sign_rule usage_rule ca_rule extension_rule key_usage_of basic_constraints_of whole_at tagged_at optional_at contents_at length_at default_false_at
-signer_without_usage = refl
+intermediate_without_usage : intermediate_rule (kept (usage 128 ∷ ca ∷ [])) ≡ Err SigningCertificateMissingKeyCertSign
+unfolding intermediate_rule usage_rule ca_rule extension_rule key_usage_of basic_constraints_of whole_at tagged_at optional_at contents_at length_at default_false_at
+intermediate_without_usage = refl
 
 -- the SAN rule
 

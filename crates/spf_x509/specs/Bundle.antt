@@ -28,12 +28,12 @@ set_eq = pointwise entry_eq
 abbrev pub plain_entry : List ℕ × Arc Bundle Global → List ℕ × Bundle
 plain_entry e = (e.0, arc_value e.1)
 
--- the entries, in the order of the trust domains, with that value in the place of the one of that trust domain
+-- the entries, in the order of the trust domains, with that value instead of the one of that trust domain
 abbrev pub with_entry : {V : Type 0} → List (List ℕ × V) → List ℕ → V → List (List ℕ × V)
 with_entry [] k v = (k, v) ∷ []
 with_entry (e ∷ es) k v = match_ordering (slice_cmp nat_cmp k e.0) ((k, v) ∷ e ∷ es) ((e.0, v) ∷ es) (e ∷ with_entry es k v)
 
--- the entries with those put in their places, one after the other
+-- the entries with those put in, one after the other
 abbrev pub with_entries : {V : Type 0} → List (List ℕ × V) → List (List ℕ × V) → List (List ℕ × V)
 with_entries es [] = es
 with_entries es (f ∷ fs) = with_entries (with_entry es f.0 f.1) fs

@@ -12,7 +12,7 @@ use Rattle.spf_x509.specs.declared.svid_rule.ChainPart.{ChainPart}
 use Rattle.spf_x509.specs.Errors.{of_read, svid_of_certificate, svid_of_key}
 use Rattle.spf_x509.specs.Svid.{Svid}
 use Rattle.spf_x509.specs.Key.{key_rule}
-use Rattle.spf_x509.specs.Rule.{leaf_rule, sign_rule}
+use Rattle.spf_x509.specs.Rule.{leaf_rule, intermediate_rule}
 
 -- the certificate at the front, as what is kept of it and as its bytes, and what follows it
 unfoldable pub certificate_text_at : List ℕ → Result ((Parts × List ℕ) × List ℕ) CertificateError
@@ -42,18 +42,18 @@ plain_part p = (p.view, p.der.now)
 abbrev pub texts : List (Parts × List ℕ) → List (List ℕ)
 texts parts = map (λ (p : Parts × List ℕ). p.1) parts
 
--- SignRule of each further certificate, in order: the first that breaks it decides
-abbrev pub signers_rule : List (Parts × List ℕ) → Result (Unit {0}) X509SvidError
-signers_rule signers = each (λ (p : Parts × List ℕ). sign_rule p.0) signers >>= λ _. Ok tt
+-- SignRule of each intermediate, in order: the first that breaks it decides
+abbrev pub intermediates_rule : List (Parts × List ℕ) → Result (Unit {0}) X509SvidError
+intermediates_rule intermediates = each (λ (p : Parts × List ℕ). intermediate_rule p.0) intermediates >>= λ _. Ok tt
 
--- the rules of the leaf, of each further certificate in order, and of the key
+-- the rules of the leaf, of each intermediate in order, and of the key
 abbrev pub svid_of_parts : List ℕ → Option (List ℕ) → List (Parts × List ℕ) → Result Svid X509SvidError
 svid_of_parts key hint [] = Err EmptyChain
-svid_of_parts key hint (leaf ∷ signers) = do
+svid_of_parts key hint (leaf ∷ intermediates) = do
   found ← leaf_rule leaf.0
-  _ ← signers_rule signers
+  _ ← intermediates_rule intermediates
   kept ← broken_as svid_of_key (key_rule key)
-  Ok (record { id = found.0; hint = hint; chain = texts (leaf ∷ signers); key = kept; expiry = found.1 })
+  Ok (record { id = found.0; hint = hint; chain = texts (leaf ∷ intermediates); key = kept; expiry = found.1 })
 
 -- SvidOf: the SVID of a chain and a key, or the first broken rule
 unfoldable pub svid_of : List ℕ → List ℕ → Option (List ℕ) → Result Svid X509SvidError

@@ -1,4 +1,4 @@
--- How an error of one layer reads in the layer above: want of memory stays want of memory.
+-- How an error of one layer reads in the layer above: out of memory stays out of memory.
 use Rattle.std.specs.Prelude.{Bool, true, false}
 use Rattle.spf_id.specs.declared.error.SpiffeIdError.{SpiffeIdError}
 use Rattle.spf_id.specs.declared.error.SpiffeIdError.TheVariants as id
@@ -13,7 +13,7 @@ use Rattle.spf_x509.specs.declared.error.X509BundleError.TheVariants as bundle
 use Rattle.spf_x509.specs.declared.svid_error.X509SvidError.{X509SvidError}
 use Rattle.spf_x509.specs.declared.svid_error.X509SvidError.TheVariants as svid
 
--- whether an error is want of memory
+-- whether an error says that memory ran out
 abbrev pub is_memory_certificate : CertificateError → Bool
 is_memory_certificate cert.OutOfMemory = true
 is_memory_certificate _ = false

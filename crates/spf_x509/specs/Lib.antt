@@ -4,7 +4,7 @@ pub mod Svid
 pub mod Bundle
 pub mod Context
 pub mod Laws
-pub mod Places
+pub mod Indices
 pub mod Bag
 pub mod Order
 pub mod Certificate

@@ -50,9 +50,9 @@ leaf_rule parts = do
   _ ← must (not (length id.path == 0)) LeafSpiffeIdMissingPath
   Ok (id, parts.expiry)
 
--- SignRule: a further certificate may sign certificates
-unfoldable pub sign_rule : Parts → Result (Unit {0}) X509SvidError
-sign_rule parts = do
+-- SignRule: an intermediate may sign certificates
+unfoldable pub intermediate_rule : Parts → Result (Unit {0}) X509SvidError
+intermediate_rule parts = do
   ca ← ca_rule parts
   _ ← must ca SigningCertificateMissingCaFlag
   usage ← usage_rule parts

@@ -40,7 +40,7 @@ impl X509BundleSet {
         }
     }
 
-    /// Puts the bundle in the place of that of its trust domain.
+    /// Puts the bundle in place of that of its trust domain.
     pub fn add_bundle(&mut self, bundle: X509Bundle) -> Result<(), OutOfMemory>
         ensures ok { OnOk result (self.new ≡ with_entry self.old bundle.domain bundle) }
         ensures found { OnOk result (find_entry bundle.domain self.new ≡ Some bundle) }

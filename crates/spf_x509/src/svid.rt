@@ -9,7 +9,7 @@ ghost use Rattle.spf_x509.specs.Errors.{is_memory_svid};
 use crate::certificate::{Certificate, copies};
 use crate::private_key::PrivateKey;
 use crate::svid_error::X509SvidError;
-use crate::svid_rule::{ChainPart, cut_chain, leaf_rule, signing_rules};
+use crate::svid_rule::{ChainPart, cut_chain, leaf_rule, intermediate_rules};
 use spf_id::SpiffeId;
 use spf_io::{List, OutOfMemory, Text};
 use std::alloc::Global;
@@ -74,11 +74,11 @@ impl X509Svid {
         ensures { Gives is_memory_svid (λ s. s) result (svid_of chain.now key.now hint) }
     {
         let parts = cut_chain(alloc, chain)?;
-        let Some((leaf, signers)) = parts.split_first() else {
+        let Some((leaf, intermediates)) = parts.split_first() else {
             return Err(X509SvidError::EmptyChain);
         };
         let (spiffe_id, expiry) = leaf_rule(alloc, &leaf.view)?;
-        signing_rules(alloc, signers)?;
+        intermediate_rules(alloc, intermediates)?;
         let private_key = PrivateKey::try_from(alloc, key)?;
         let certificates = certificates_of(alloc, parts.as_slice())?;
         Ok(X509Svid {

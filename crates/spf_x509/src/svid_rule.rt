@@ -1,10 +1,10 @@
-//! The rules of a chain: how it is cut, what its leaf says, and what each further certificate says.
+//! The rules of a chain: how it is cut, what its leaf says, and what each intermediate says.
 
 ghost use Rattle.std.specs.Prelude.{◌≡◌, ◌<◌, codes, length, IfOk, map};
 ghost use Rattle.spf_io.specs.Rule.{Gives};
-ghost use Rattle.spf_x509.specs.Chain.{certificate_text_at, chain_rule, plain_part, signers_rule};
+ghost use Rattle.spf_x509.specs.Chain.{certificate_text_at, chain_rule, plain_part, intermediates_rule};
 ghost use Rattle.spf_x509.specs.Errors.{is_memory_certificate, is_memory_svid};
-ghost use Rattle.spf_x509.specs.Rule.{ca_rule, leaf_rule, leaf_usage, sign_rule, usage_rule};
+ghost use Rattle.spf_x509.specs.Rule.{ca_rule, leaf_rule, leaf_usage, intermediate_rule, usage_rule};
 
 use crate::certificate::{extension_contents, subject_id};
 use crate::error::CertificateError;
@@ -132,10 +132,10 @@ pub(crate) fn leaf_rule(
     Ok((id, leaf.expiry()))
 }
 
-/// The rule of a further certificate: it may sign certificates.
-#[tactic(auto, unfolding(crate::specs::Rule::sign_rule))]
-fn signing_rule(alloc: Global, certificate: &CertView<'_>) -> Result<(), X509SvidError>
-    ensures { Gives is_memory_svid (λ u. u) result (sign_rule certificate.now) }
+/// The rule of an intermediate: it may sign certificates.
+#[tactic(auto, unfolding(crate::specs::Rule::intermediate_rule))]
+fn intermediate_certificate(alloc: Global, certificate: &CertView<'_>) -> Result<(), X509SvidError>
+    ensures { Gives is_memory_svid (λ u. u) result (intermediate_rule certificate.now) }
 {
     if !ca_flag_of(alloc, certificate)? {
         return Err(X509SvidError::SigningCertificateMissingCaFlag);
@@ -146,15 +146,15 @@ fn signing_rule(alloc: Global, certificate: &CertView<'_>) -> Result<(), X509Svi
     Ok(())
 }
 
-/// The rule of each further certificate, in order.
-pub(crate) fn signing_rules(
+/// The rule of each intermediate, in order.
+pub(crate) fn intermediate_rules(
     alloc: Global,
     certificates: &[ChainPart<'_>],
 ) -> Result<(), X509SvidError>
-    ensures { Gives is_memory_svid (λ u. u) result (signers_rule (map plain_part certificates.now)) }
+    ensures { Gives is_memory_svid (λ u. u) result (intermediates_rule (map plain_part certificates.now)) }
 {
     for certificate in certificates {
-        signing_rule(alloc, &certificate.view)?;
+        intermediate_certificate(alloc, &certificate.view)?;
     }
     Ok(())
 }

@@ -61,12 +61,12 @@ fn root(alloc: Global, serial: u8) -> Result<Vec<u8>, OutOfMemory> {
     written(alloc, serial, None, None, &[])
 }
 
-/// The text with the one place of `old` turned into `new`.
+/// The text with the one index of `old` turned into `new`.
 fn edited(alloc: Global, text: &[u8], old: &[u8], new: &[u8]) -> Result<Vec<u8>, OutOfMemory> {
-    let place = text
+    let index = text
         .windows(old.len().max(1))
         .position(|octets| octets == old);
-    let (before, rest) = text.split_at(place.unwrap_or(text.len()).min(text.len()));
+    let (before, rest) = text.split_at(index.unwrap_or(text.len()).min(text.len()));
     let (_, after) = rest.split_at(old.len().min(rest.len()));
     let mut out = Vec::from_slice(alloc, before)?;
     out.extend_from_slice(new)?;

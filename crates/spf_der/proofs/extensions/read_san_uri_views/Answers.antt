@@ -1,5 +1,5 @@
 use Rattle.std.proofs.Common.{List, ℕ, Option, sym, ap, ◌∙◌}
-use Rattle.spf_der.specs.Option.{◌>>=◌}
+use Rattle.spf_io.specs.Option.{◌>>=◌}
 use Rattle.spf_der.specs.Names.{san_uris_of, uris_of}
 use Rattle.spf_der.proofs.NameWalk.{left_is_all}
 use Rattle.spf_der.proofs.extensions.read_san_uri_views.Goals as goal

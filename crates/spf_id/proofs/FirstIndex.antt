@@ -9,11 +9,11 @@ use Rattle.std.proofs.lemmas.Bool.{false_from_ne_true}
 use Rattle.memchr.specs.Find.{IsFirstByte, is_byte}
 
 -- where the first octet c stands
-pub first_place : (c : ℕ) (xs : List ℕ) (r : Option ℕ) → IsFirstByte (is_byte c) xs r
+pub first_index : (c : ℕ) (xs : List ℕ) (r : Option ℕ) → IsFirstByte (is_byte c) xs r
     → MatchOption r (position_or_len (λ x. x == c) xs ≡ length xs) (λ k. (k < length xs) × (position_or_len (λ x. x == c) xs ≡ k))
-first_place c xs None h =
+first_index c xs None h =
     position_or_len_is (λ x. x == c) xs (length xs) 0 (omega arith) (λ k lt. false_from_ne_true _ (h k (omega arith) lt)) (λ lt. absurd (omega arith))
-first_place c xs (Some k) h =
+first_index c xs (Some k) h =
     (h.0.high, position_or_len_is (λ x. x == c) xs k 0 (omega (arith, h.0.high)) (λ j lt. false_from_ne_true _ (h.0.before j (omega arith) lt)) (λ lt. h.1))
 
 -- where no octet is of the kind, the front is the whole
