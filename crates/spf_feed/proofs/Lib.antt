@@ -1,4 +1,5 @@
 pub mod Alike
+pub mod Differences
 pub mod EventLemmas
 pub mod FaultLemmas
 pub mod Filled
@@ -13,6 +14,7 @@ pub mod PlainLines
 pub mod PlainNames
 pub mod Received
 mod Rows
+pub mod SameSvids
 pub mod Seen
 pub mod SeenShown
 pub mod ShownLemmas

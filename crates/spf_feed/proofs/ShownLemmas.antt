@@ -17,7 +17,6 @@ use Rattle.spf_view.specs.Views.{View, Waiting, Withdrawn, Permitted}
 use Rattle.spf_view.specs.Standing.{Kept, held_in}
 use Rattle.spf_x509.specs.Bag.{same_bag, in_order}
 use Rattle.spf_x509.specs.Bundle.{Bundle}
-use Rattle.spf_x509.specs.Context.{svid_eq}
 use Rattle.spf_x509.specs.Order.{svid_cmp, IsSameSvid}
 use Rattle.spf_x509.specs.Indices.{IsSortedIndices}
 use Rattle.spf_x509.specs.Svid.{Svid}
@@ -27,11 +26,12 @@ use Rattle.spf_x509.proofs.Ties.{svids_tie}
 use Rattle.spf_x509.proofs.Walk.{indices_in_order}
 use Rattle.spf_feed.specs.declared.step.Denial.{Denial}
 use Rattle.spf_feed.specs.Lines.{after_comma, hex_list, shown_at, choice_text}
-use Rattle.spf_feed.specs.Material.{Material, chosen_of, svid_same, entry_same, same_set, same_material}
+use Rattle.spf_feed.specs.Material.{Material, chosen_of, same_svid, same_choice, entry_same, same_set, same_material}
 use Rattle.spf_feed.specs.Numbered.{LineView, Shows}
 use Rattle.spf_feed.specs.Prepared.{usable}
 use Rattle.spf_feed.specs.Shown.{sorted_text, entry_text, revocations_text, context_text, visible_text, view_line, shown_text}
 use Rattle.spf_feed.specs.Sorted.{ArePlaced}
+use Rattle.spf_feed.proofs.SameSvids.{svids_same_at}
 
 -- ---- values at sorted places
 
@@ -147,16 +147,16 @@ equal_from Less e = cc
 equal_from Equal e = refl
 equal_from Greater e = cc
 
-svids_same : (a b : Svid) → svid_eq a b ≡ true → IsSameSvid a b
-svids_same a b e = svids_tie a b (equal_from (svid_cmp a b) (sym (svid.matches_eq-law a b) ∙ e))
+svids_same : (a b : Svid) → same_svid a b ≡ true → IsSameSvid a b
+svids_same a b e = svids_tie a b (equal_from (svid_cmp a b) (sym (svid.matches_eq-law a b) ∙ svids_same_at a b ∙ e))
 
-chosen_same : (x y : Option Svid) (now : Option ℤ) → option_eq svid_same x y ≡ true → choice_text (usable x now) ≡ choice_text (usable y now)
+chosen_same : (x y : Option Svid) (now : Option ℤ) → option_eq same_choice x y ≡ true → choice_text (usable x now) ≡ choice_text (usable y now)
 chosen_same None None now e = refl
 chosen_same None (Some y) now e = cc
 chosen_same (Some x) None now e = cc
 chosen_same (Some x) (Some y) None e = refl
 chosen_same (Some x) (Some y) (Some t) e =
-    let p = both (svid_eq x y) (int_eq x.expiry y.expiry) e in
+    let p = both (same_svid x y) (int_eq x.expiry y.expiry) e in
     let s = svids_same x y p.0 in
     let expiry : x.expiry ≡ y.expiry = (Decides-int_eq x.expiry y.expiry).0 p.1 in
     (λ i. choice_text (usable (Some (record { id = s.id i; hint = s.hint i; chain = s.chain i; key = s.key i; expiry = expiry i })) (Some t)))
@@ -182,8 +182,8 @@ crls_same (x ∷ xs) (y ∷ ys) e = ap (λ (zs : List (List ℕ)). codes " #" ++
 pub material_shown : (m n : Material) (now : Option ℤ) → same_material m n ≡ true → visible_text (Permitted m) now ≡ visible_text (Permitted n) now
 unfolding same_material
 material_shown m n now e =
-    let p = both (option_eq svid_same (chosen_of m) (chosen_of n)) _ e in
-    let q = both (same_bag svid_eq m.context.svids n.context.svids) _ p.1 in
+    let p = both (option_eq same_choice (chosen_of m) (chosen_of n)) _ e in
+    let q = both (same_bag same_svid m.context.svids n.context.svids) _ p.1 in
     let r = both (same_set m.context.bundles n.context.bundles) _ q.1 in
     let a = chosen_same (chosen_of m) (chosen_of n) now p.0 in
     let b = sets_same m.context.bundles n.context.bundles r.0 in

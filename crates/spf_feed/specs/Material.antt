@@ -3,9 +3,10 @@ use Rattle.std.specs.Prelude.{ℕ, Bool, ◌&&◌, nat_eq, List, Option}
 use Rattle.std.specs.Option.{option_eq}
 use Rattle.std.specs.Ordering.{int_eq}
 use Rattle.std.specs.Cmp.Lexicographic.{pointwise}
+use Rattle.spf_id.specs.Id.{Id}
 use Rattle.spf_x509.specs.Bag.{same_bag}
 use Rattle.spf_x509.specs.Bundle.{Bundle}
-use Rattle.spf_x509.specs.Context.{Context, svid_eq}
+use Rattle.spf_x509.specs.Context.{Context}
 use Rattle.spf_x509.specs.Svid.{Svid}
 use Rattle.spf_feed.specs.Pick.{choice_of}
 
@@ -18,9 +19,19 @@ pub record Material : Type 0 where
 abbrev pub chosen_of : Material → Option Svid
 chosen_of material = choice_of material.context.svids material.choice
 
--- equal SVIDs, with their expiry
-abbrev pub svid_same : Svid → Svid → Bool
-svid_same a b = svid_eq a b && int_eq a.expiry b.expiry
+-- equal IDs: the same trust domain and the same path
+abbrev pub same_id : Id → Id → Bool
+same_id a b = pointwise nat_eq a.domain b.domain && pointwise nat_eq a.path b.path
+
+-- equal SVIDs: the same ID, hint, chain and key
+abbrev pub same_svid : Svid → Svid → Bool
+same_svid a b =
+    same_id a.id b.id
+    && (option_eq (pointwise nat_eq) a.hint b.hint && (pointwise (pointwise nat_eq) a.chain b.chain && pointwise nat_eq a.key b.key))
+
+-- equal choices: equal SVIDs with the same expiry
+abbrev pub same_choice : Svid → Svid → Bool
+same_choice a b = same_svid a b && int_eq a.expiry b.expiry
 
 -- the same trust domain, and equal bags of authorities
 abbrev pub entry_same : List ℕ × Bundle → List ℕ × Bundle → Bool
@@ -33,5 +44,5 @@ same_set = pointwise entry_same
 -- Same: equal choices, equal bags of SVIDs, the same trust domains with equal bags of authorities, equal bags of CRLs
 unfoldable pub same_material : Material → Material → Bool
 same_material a b =
-    option_eq svid_same (chosen_of a) (chosen_of b)
-    && (same_bag svid_eq a.context.svids b.context.svids && (same_set a.context.bundles b.context.bundles && same_bag (pointwise nat_eq) a.context.crls b.context.crls))
+    option_eq same_choice (chosen_of a) (chosen_of b)
+    && (same_bag same_svid a.context.svids b.context.svids && (same_set a.context.bundles b.context.bundles && same_bag (pointwise nat_eq) a.context.crls b.context.crls))

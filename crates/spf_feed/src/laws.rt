@@ -1,13 +1,15 @@
 //! Laws of what is the same and of lines, which contracts cite. No law has a body: its statement is what it says.
 
-ghost use Rattle.std.specs.Prelude.{◌≡◌, ℤ, Bool, true, false, List, Option};
+ghost use Rattle.std.specs.Prelude.{◌≡◌, ℕ, ℤ, Bool, true, false, nat_eq, List, Option, None, Some};
 ghost use Rattle.std.specs.Option.{option_eq};
 ghost use Rattle.std.specs.Cmp.{IsEquivalence};
+ghost use Rattle.std.specs.Cmp.Lexicographic.{pointwise};
+ghost use Rattle.spf_x509.specs.Bundle.{Bundle, find_entry};
 ghost use Rattle.spf_view.specs.Views.{Permitted};
 ghost use Rattle.spf_feed.specs.Items.{Event, Rules};
-ghost use Rattle.spf_feed.specs.Material.{Material, chosen_of, svid_same, same_material};
+ghost use Rattle.spf_feed.specs.Material.{Material, chosen_of, same_svid, same_choice, same_material};
 ghost use Rattle.spf_feed.specs.OneLine.{IsLine};
-ghost use Rattle.spf_feed.specs.Reordered.{IsReordered};
+ghost use Rattle.spf_feed.specs.Reordered.{IsReordered, HasAnother};
 ghost use Rattle.spf_feed.specs.Run.{outputs};
 ghost use Rattle.spf_feed.specs.Shown.{visible_text};
 
@@ -21,9 +23,26 @@ pub fn order_makes_no_difference()
     ensures { (a b : Material) → IsReordered a b → same_material a b ≡ true }
 {}
 
-/// Another chosen SVID does.
+/// Another chosen SVID makes a difference.
 pub fn choice_makes_a_difference()
-    ensures { (a b : Material) → option_eq svid_same (chosen_of a) (chosen_of b) ≡ false → same_material a b ≡ false }
+    ensures { (a b : Material) → option_eq same_choice (chosen_of a) (chosen_of b) ≡ false → same_material a b ≡ false }
+{}
+
+/// Another SVID makes a difference, also one that is not chosen.
+pub fn svid_makes_a_difference()
+    ensures { (a b : Material) → HasAnother same_svid a.context.svids b.context.svids → same_material a b ≡ false }
+{}
+
+/// Another trust domain makes a difference, and another authority of a trust domain does.
+pub fn authority_makes_a_difference()
+    ensures domain { (a b : Material) (domain : List ℕ) (q : Bundle) → find_entry domain a.context.bundles ≡ None → find_entry domain b.context.bundles ≡ Some q → same_material a b ≡ false }
+    ensures authority { (a b : Material) (domain : List ℕ) (p q : Bundle) → find_entry domain a.context.bundles ≡ Some p → find_entry domain b.context.bundles ≡ Some q
+        → HasAnother (pointwise nat_eq) p.authorities q.authorities → same_material a b ≡ false }
+{}
+
+/// Another revocation list makes a difference.
+pub fn crl_makes_a_difference()
+    ensures { (a b : Material) → HasAnother (pointwise nat_eq) a.context.crls b.context.crls → same_material a b ≡ false }
 {}
 
 /// Material that is the same is shown alike at one moment.

@@ -2,9 +2,8 @@
 
 ghost use Rattle.std.specs.Prelude.{◌≡◌, IsTrue, IfOk, is_some, List, [], ◌∷◌, ◌++◌};
 ghost use Rattle.std.specs.Option.{option_and_then};
-ghost use Rattle.spf_view.specs.Steps.{IsFit};
 ghost use Rattle.spf_view.specs.Standing.{Stands, IsShowing, is_change, kept_next};
-ghost use Rattle.spf_feed.specs.Steps.{PlainStep, is_accept, chosen_of, shown_by, held_in, raised, fits, same_material};
+ghost use Rattle.spf_feed.specs.Steps.{PlainStep, is_accept, chosen_of, shown_by, held_in, raised, same_material};
 ghost use Rattle.spf_feed.specs.Prepared.{usable as usable_of};
 ghost use Rattle.spf_feed.specs.Standing.{view_in, IsKept};
 
@@ -72,7 +71,7 @@ impl Snapshot {
     pub fn opening(step: Prepared) -> Snapshot
         requires { IsTrue (is_accept step) }
         ensures value { result ≡ record { revision = 0; view = shown_by step } }
-        ensures stands { IsFit fits step → Stands same_material fits (step ∷ []) result }
+        ensures stands { Stands same_material (step ∷ []) result }
     {
         Snapshot {
             revision: 0,
@@ -101,7 +100,7 @@ impl Snapshot {
     /// One more step. Unchanged material keeps the older context.
     pub fn apply(&mut self, step: Prepared)
         ensures value { self.new ≡ kept_next same_material self.old step }
-        ensures stands { (steps : List PlainStep) → Stands same_material fits steps self.old → IsFit fits step → Stands same_material fits (steps ++ step ∷ []) self.new }
+        ensures stands { (steps : List PlainStep) → Stands same_material steps self.old → Stands same_material (steps ++ step ∷ []) self.new }
     {
         if self.is_changed_by(&step) {
             self.show(step);

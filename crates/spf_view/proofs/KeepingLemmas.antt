@@ -1,15 +1,15 @@
 -- A session behind a history, and one event more.
-use Rattle.std.proofs.Common.{◌≡◌, Bool, true, false, not, cond, List, [], ◌∷◌, ◌++◌, reverse, Option, None, Some, refl, sym, ap, ◌∙◌, subst}
+use Rattle.std.proofs.Common.{◌≡◌, Bool, true, false, not, cond, ◌||◌, List, [], ◌∷◌, ◌++◌, reverse, Option, None, Some, refl, sym, ap, ◌∙◌, subst}
 use Rattle.std.specs.Prelude.{ℤ, is_some}
 use Rattle.std.specs.Option.{option_or, option_to_list, ForSome}
 use Rattle.std.specs.Cmp.{IsEquivalence}
 use Rattle.std.proofs.lemmas.List.{append-nil, reverse-reverse, reverse-append}
 use Rattle.spf_view.specs.Views.{Subject, View, Waiting, Withdrawn, Permitted, has_begun, last_moment, outcome, outcomes, outcome_with, view_of, revision_of, same_view}
-use Rattle.spf_view.specs.Steps.{Step, Accept, Deny, step_with, steps_of, replay_view, IsFit, BeginsWithAccept}
+use Rattle.spf_view.specs.Steps.{Step, Accept, Deny, step_with, steps_of, replay_view, BeginsWithAccept}
 use Rattle.spf_view.specs.Standing.{reason_of, held_in, StandsFor, Kept, StandsIf, KeptAfter, IsShowing, is_change, shown_by, raised}
 use Rattle.spf_view.specs.Keeping.{kept_with, kept_with_any, ShowsIf, IsAt, SeenAs}
 use Rattle.spf_view.proofs.Known.{Yes, No, known}
-use Rattle.spf_view.proofs.EventLemmas.{kept_before, kept_more, made_fits, made_first}
+use Rattle.spf_view.proofs.EventLemmas.{kept_before, kept_more, made_first}
 use Rattle.spf_view.proofs.HeldLemmas.{held_view}
 use Rattle.spf_view.proofs.RevisionLemmas.{reason_view}
 use Rattle.spf_view.proofs.StandsLemmas.{stands_opening, stands_changed, stands_unchanged}
@@ -29,28 +29,35 @@ outcome_at s past now kept e h = λ i. outcome_with s (begun_at s past now kept 
 
 -- ---- one event more
 
-opened : {M L D : Type 0} (E : M → M → Bool) (fits : L → M → Bool) (t : Step M L D) → IsFit fits t → BeginsWithAccept (t ∷ []) → StandsIf E fits (t ∷ []) (Some (record { revision = 0; view = shown_by t }))
-opened E fits (Accept m l) fit first = stands_opening E fits m l fit
-opened E fits (Deny d) fit first = absurd first
+opened : {M L D : Type 0} (E : M → M → Bool) (t : Step M L D) → BeginsWithAccept (t ∷ []) → StandsIf E (t ∷ []) (Some (record { revision = 0; view = shown_by t }))
+opened E (Accept m l) first = stands_opening E m l
+opened E (Deny d) first = absurd first
 
-moved : {M L D : Type 0} (E : M → M → Bool) (o : IsEquivalence E) (fits : L → M → Bool) (steps : List (Step M L D)) (k : Kept M D) (t : Step M L D) → IsShowing k.view → StandsIf E fits steps (Some k) → IsFit fits t
-    → StandsIf E fits (steps ++ t ∷ []) (kept_with E (Some k) t)
-moved {M} {L} {D} E o fits steps k t showing stands fit =
+moved : {M L D : Type 0} (E : M → M → Bool) (o : IsEquivalence E) (steps : List (Step M L D)) (k : Kept M D) (t : Step M L D) → IsShowing k.view → StandsIf E steps (Some k)
+    → StandsIf E (steps ++ t ∷ []) (kept_with E (Some k) t)
+moved {M} {L} {D} E o steps k t showing stands =
     elim (known (is_change E k.view t)) [
-      | Yes y ↦ subst (λ b. StandsIf E fits (steps ++ t ∷ []) (Some (cond b (record { revision = raised k.revision; view = shown_by t }) k))) (sym y) (stands_changed E o fits steps k t showing stands fit y)
-      | No n ↦ subst (λ b. StandsIf E fits (steps ++ t ∷ []) (Some (cond b (record { revision = raised k.revision; view = shown_by t }) k))) (sym n) (stands_unchanged E o fits steps k t showing stands fit n)
+      | Yes y ↦ subst (λ b. StandsIf E (steps ++ t ∷ []) (Some (cond b (record { revision = raised k.revision; view = shown_by t }) k))) (sym y) (stands_changed E o steps k t showing stands y)
+      | No n ↦ subst (λ b. StandsIf E (steps ++ t ∷ []) (Some (cond b (record { revision = raised k.revision; view = shown_by t }) k))) (sym n) (stands_unchanged E o steps k t showing stands n)
     ]
 
-step_kept : {M L D : Type 0} (E : M → M → Bool) (o : IsEquivalence E) (fits : L → M → Bool) (steps : List (Step M L D)) (kept : Option (Kept M D)) (step : Option (Step M L D)) → ShowsIf kept → ForSome step (IsFit fits)
-    → (is_some kept ≡ false → ForSome step (λ t. BeginsWithAccept (t ∷ []))) → StandsIf E fits steps kept → StandsIf E fits (steps ++ option_to_list step) (kept_with_any E kept step)
-step_kept {M} {L} {D} E o fits steps kept None shows fit first stands = subst (λ (l : List (Step M L D)). StandsIf E fits l kept) (sym (append-nil steps)) stands
-step_kept {M} {L} {D} E o fits steps None (Some t) shows fit first stands =
-    subst (λ (l : List (Step M L D)). StandsIf E fits (l ++ t ∷ []) (Some (record { revision = 0; view = shown_by t }))) (sym stands) (opened E fits t (fit t refl) (first refl t refl))
-step_kept E o fits steps (Some k) (Some t) shows fit first stands = moved E o fits steps k t shows stands (fit t refl)
+step_kept : {M L D : Type 0} (E : M → M → Bool) (o : IsEquivalence E) (steps : List (Step M L D)) (kept : Option (Kept M D)) (step : Option (Step M L D)) → ShowsIf kept
+    → (is_some kept ≡ false → ForSome step (λ t. BeginsWithAccept (t ∷ []))) → StandsIf E steps kept → StandsIf E (steps ++ option_to_list step) (kept_with_any E kept step)
+step_kept {M} {L} {D} E o steps kept None shows first stands = subst (λ (l : List (Step M L D)). StandsIf E l kept) (sym (append-nil steps)) stands
+step_kept {M} {L} {D} E o steps None (Some t) shows first stands =
+    subst (λ (l : List (Step M L D)). StandsIf E (l ++ t ∷ []) (Some (record { revision = 0; view = shown_by t }))) (sym stands) (opened E t (first refl t refl))
+step_kept E o steps (Some k) (Some t) shows first stands = moved E o steps k t shows stands
 
 shown_there : {M L D : Type 0} (t : Step M L D) → IsShowing (shown_by t)
 shown_there (Accept m l) = tt
 shown_there (Deny d) = tt
+
+-- something is kept after a step, and as before after none
+kept_any : {M L D : Type 0} (E : M → M → Bool) (kept : Option (Kept M D)) (step : Option (Step M L D)) → (is_some step || is_some kept) ≡ is_some (kept_with_any E kept step)
+kept_any E None None = refl
+kept_any E (Some k) None = refl
+kept_any E None (Some t) = refl
+kept_any E (Some k) (Some t) = refl
 
 shows_more : {M L D : Type 0} (E : M → M → Bool) (kept : Option (Kept M D)) (step : Option (Step M L D)) → ShowsIf kept → ShowsIf (kept_with_any E kept step)
 shows_more E kept None shows = shows
@@ -72,7 +79,7 @@ at_more {E} {M} {L} {D} s o past e now kept h =
     let more : reverse past ++ e ∷ [] ≡ reverse (e ∷ past) = sym (reverse-append (e ∷ []) past) in
     record {
       stands = subst (λ events. KeptAfter s events (option_or (s.moment e) now) new) more
-          (kept_more s (reverse past) e now kept new (λ steps stands. step_kept s.is_same o s.is_within steps kept step h.shows (made_fits s (is_some kept) now e) (first_step s now e (is_some kept)) stands) h.stands);
+          (kept_more s (reverse past) e now kept new (λ steps stands. step_kept s.is_same o steps kept step h.shows (first_step s now e (is_some kept)) stands) (kept_any s.is_same kept step) h.stands);
       shows = shows_more s.is_same kept step h.shows;
     }
 
@@ -87,7 +94,7 @@ view_at {E} {M} {L} {D} s o past now k h = cases k.view h.shows h.stands.stands
     seen : replay_view (steps_of s (reverse past)) ≡ view_of (outcomes s past)
     seen = link_view s (reverse past) ∙ ap (λ p. view_of (outcomes s p)) (reverse-reverse past)
 
-    cases : (v : View M D) → IsShowing v → StandsFor s.is_same s.is_within (steps_of s (reverse past)) k.revision (held_in v) (reason_of v) → SeenAs s.is_same v (view_of (outcomes s past))
+    cases : (v : View M D) → IsShowing v → StandsFor s.is_same (steps_of s (reverse past)) k.revision (held_in v) (reason_of v) → SeenAs s.is_same v (view_of (outcomes s past))
     cases Waiting w st = absurd w
     cases (Withdrawn d) w st = sym seen ∙ reason_view (replay_view (steps_of s (reverse past))) d st.reason_is
     cases (Permitted m) w st = let held = held_view s.is_same o m (steps_of s (reverse past)) (sym st.held_is) in (held.shown, sym seen ∙ held.view_is, held.same)

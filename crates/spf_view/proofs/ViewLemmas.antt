@@ -48,7 +48,7 @@ last_first xs x = reverse-append xs (x ∷ [])
 pub outcomes_more : {E M L D : Type 0} (s : Subject E M L D) (events : List E) (e : E) → outcomes s (reverse (events ++ e ∷ [])) ≡ outcome_after s events e ∷ outcomes s (reverse events)
 outcomes_more s events e = ap (outcomes s) (last_first events e)
 
-steps_back_more : {M L D : Type 0} (l : L) (o : Outcome M D) (os : List (Outcome M D)) → reverse (steps_back l (o ∷ os)) ≡ reverse (steps_back l os) ++ option_to_list (step_in l o)
+pub steps_back_more : {M L D : Type 0} (l : L) (o : Outcome M D) (os : List (Outcome M D)) → reverse (steps_back l (o ∷ os)) ≡ reverse (steps_back l os) ++ option_to_list (step_in l o)
 steps_back_more l (Accepted m) os = reverse-append (Accept m l ∷ []) (steps_back l os)
 steps_back_more l (Denied d) os = reverse-append (Deny d ∷ []) (steps_back l os)
 steps_back_more l Passed os = sym (append-nil (reverse (steps_back l os)))

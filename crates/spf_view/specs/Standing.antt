@@ -1,7 +1,7 @@
 -- What a snapshot keeps, and the steps that it stands for.
 use Rattle.std.specs.Prelude.{◌≡◌, ℕ, ◌+◌, ◌-◌, ◌^◌, min, ℤ, Bool, true, false, not, if◌then◌else◌, List, [], reverse, Option, None, Some, is_some}
 use Rattle.spf_view.specs.Views.{Subject, View, Waiting, Withdrawn, Permitted, has_begun, last_moment}
-use Rattle.spf_view.specs.Steps.{Step, Accept, Deny, steps_of, replay_view, replay_revision, replay_held, IsLegal}
+use Rattle.spf_view.specs.Steps.{Step, Accept, Deny, steps_of, replay_view, replay_revision, replay_held}
 
 abbrev pub reason_of : {M D : Type 0} → View M D → Option D
 reason_of Waiting = None
@@ -13,10 +13,9 @@ held_in Waiting = None
 held_in (Withdrawn d) = None
 held_in (Permitted m) = Some m
 
--- The revision, the held material and the reason of a withdrawal are those that a legal list of steps makes. (The view
--- of the last step may have other material than the held one; the two are the same.)
-pub record StandsFor {M L D : Type 0} (E : M → M → Bool) (fits : L → M → Bool) (steps : List (Step M L D)) (revision : ℕ) (held : Option M) (reason : Option D) : Type 0 where
-  pub legal : IsLegal fits steps
+-- The revision, the held material and the reason of a withdrawal are those that a list of steps makes. (The view of the
+-- last step may have other material than the held one; the two are the same.)
+pub record StandsFor {M L D : Type 0} (E : M → M → Bool) (steps : List (Step M L D)) (revision : ℕ) (held : Option M) (reason : Option D) : Type 0 where
   pub revision_is : revision ≡ replay_revision E steps
   pub held_is : held ≡ replay_held E steps
   pub reason_is : reason ≡ reason_of (replay_view steps)
@@ -27,13 +26,13 @@ pub record Kept (M D : Type 0) : Type 0 where
   pub view : View M D
 
 -- what is kept stands for these steps
-abbrev pub Stands : {M L D : Type 0} → (M → M → Bool) → (L → M → Bool) → List (Step M L D) → Kept M D → Type 0
-Stands E fits steps kept = StandsFor E fits steps kept.revision (held_in kept.view) (reason_of kept.view)
+abbrev pub Stands : {M L D : Type 0} → (M → M → Bool) → List (Step M L D) → Kept M D → Type 0
+Stands E steps kept = StandsFor E steps kept.revision (held_in kept.view) (reason_of kept.view)
 
 -- what is kept, where anything is, stands for these steps
-abbrev pub StandsIf : {M L D : Type 0} → (M → M → Bool) → (L → M → Bool) → List (Step M L D) → Option (Kept M D) → Type 0
-StandsIf E fits steps None = steps ≡ []
-StandsIf E fits steps (Some kept) = Stands E fits steps kept
+abbrev pub StandsIf : {M L D : Type 0} → (M → M → Bool) → List (Step M L D) → Option (Kept M D) → Type 0
+StandsIf E steps None = steps ≡ []
+StandsIf E steps (Some kept) = Stands E steps kept
 
 -- one more step makes a change
 abbrev pub is_change : {M L D : Type 0} → (M → M → Bool) → View M D → Step M L D → Bool
@@ -65,4 +64,4 @@ kept_next E kept s = if is_change E kept.view s then (record { revision = raised
 pub record KeptAfter {E M L D : Type 0} (s : Subject E M L D) (events : List E) (now : Option ℤ) (kept : Option (Kept M D)) : Type 0 where
   pub begun : has_begun s (reverse events) ≡ is_some kept
   pub moment : last_moment s (reverse events) ≡ now
-  pub stands : StandsIf s.is_same s.is_within (steps_of s events) kept
+  pub stands : StandsIf s.is_same (steps_of s events) kept

@@ -7,13 +7,18 @@ ghost use Rattle.std.specs.Option.{option_to_list};
 ghost use Rattle.spf_view.specs.Frames.{IsShort, raw_text};
 ghost use Rattle.spf_view.specs.Sessions.{Stream, IsReading, refusal_of, all_of};
 ghost use Rattle.spf_view.specs.Views.{Subject, outcome, Accepted, Denied, Passed, View, Waiting, Withdrawn, Permitted, same_view, view_after, view_at, revision_after, revision_at, outcome_after};
-ghost use Rattle.spf_view.specs.Steps.{Step, step_in, steps_of, replay_view, replay_revision, replay_held};
+ghost use Rattle.spf_view.specs.Steps.{Step, step_in, steps_of, IsLegal, replay_view, replay_revision, replay_held};
 ghost use Rattle.spf_view.specs.Standing.{Kept, Stands, IsShowing, held_in, reason_of};
 
 /// The steps of the first events make visible what these events do.
 pub fn steps_replay<E, M, L, D>()
     ensures { (s : Subject E M L D) (events : List E) (k : ℕ) →
         (replay_view (steps_of s (take k events)) ≡ view_at s events k) × (replay_revision s.is_same (steps_of s (take k events)) ≡ revision_at s events k) }
+{}
+
+/// The steps of a session, where there are any, are legal: the first accepts, and each accepted one keeps the limits.
+pub fn steps_are_legal<E, M, L, D>()
+    ensures { (s : Subject E M L D) (events : List E) → steps_of s events ≢ [] → IsLegal s.is_within (steps_of s events) }
 {}
 
 /// An event that is neither accepted nor a denial leaves view and revision, withdrawn or not.
@@ -49,7 +54,7 @@ pub fn revision_counts_changes<E, M, L, D>()
 /// What is kept for steps has the revision, the reason and the held material of their replay, and a view that is the
 /// same as theirs.
 pub fn kept_is_replayed<M, L, D>()
-    ensures { (eq : M → M → Bool) → IsEquivalence eq → (fits : L → M → Bool) (steps : List (Step M L D)) (kept : Kept M D) → IsShowing kept.view → Stands eq fits steps kept →
+    ensures { (eq : M → M → Bool) → IsEquivalence eq → (steps : List (Step M L D)) (kept : Kept M D) → IsShowing kept.view → Stands eq steps kept →
         (kept.revision ≡ replay_revision eq steps) × (held_in kept.view ≡ replay_held eq steps) × (reason_of kept.view ≡ reason_of (replay_view steps)) × (same_view eq kept.view (replay_view steps) ≡ true) }
 {}
 
