@@ -4,7 +4,7 @@ use Rattle.std.proofs.lemmas.List.{take_more, take_all, append-nil}
 use Rattle.std.proofs.lemmas.List.Elements.{All-more}
 use Rattle.std.proofs.lemmas.List.Concat.{flat_map-cons, flat_map-append}
 use Rattle.std.specs.List.{flat_map, All}
-use Rattle.spf_api.specs.Layout.{IsListOf, IsShort}
+use Rattle.spf_api.specs.Layout.{IsListOf, HasLength32}
 
 -- behind `start` the members are laid out, and each may be
 pub record Laid {A : Type 0} (one : A → List ℕ) (P : A → Type 0) (start now : List ℕ) (members : List A) : Type 0 where
@@ -27,7 +27,7 @@ laid_more {A} one P start now next xs i x laid lt is put fits =
 
 -- all members
 pub laid_list : {A : Type 0} (one : A → List ℕ) (P : A → Type 0) (start now : List ℕ) (xs : List A) (i : ℕ)
-    → Laid one P start now (take i xs) → length xs ≤ i → IsShort xs → IsListOf P xs
+    → Laid one P start now (take i xs) → length xs ≤ i → HasLength32 xs → IsListOf P xs
 laid_list {A} one P start now xs i laid le short = record { short = short; each = subst (λ (l : List A). All P l) (take_all i xs le) laid.fits }
 
 -- what all members add, behind their count

@@ -7,7 +7,7 @@ use Rattle.std.proofs.lemmas.List.Concat.{flat_map-cons}
 use Rattle.spf_api.specs.declared.response.SvidEntry.{SvidEntry}
 use Rattle.spf_api.specs.declared.response.BundleEntry.{BundleEntry}
 use Rattle.spf_api.specs.declared.response.JwtSvidEntry.{JwtSvidEntry}
-use Rattle.spf_api.specs.Layout.{field_text, list_text, IsShort, IsText, IsListOf, svid_entry_text, IsSvidEntry, bundle_entry_text, IsBundleEntry, jwt_svid_entry_text, IsJwtSvidEntry}
+use Rattle.spf_api.specs.Layout.{field_text, list_text, HasLength32, IsText, IsListOf, svid_entry_text, IsSvidEntry, bundle_entry_text, IsBundleEntry, jwt_svid_entry_text, IsJwtSvidEntry}
 use Rattle.spf_api.specs.Reading.{◌>>=◌, number_at, byte_field_at, text_field_at, counted, list_at, svid_entry_at, bundle_entry_at, jwt_svid_entry_at}
 use Rattle.spf_api.proofs.Spelled.{IsBytes, Reads, rest_bytes, bind_some, pair_parts, number_again, number_takes, byte_fields, text_fields}
 
@@ -85,7 +85,7 @@ list_takes {A} {one} {text} {P} reads bytes xs rest octets found =
     let number = number_takes bytes a.0.0 a.0.1 octets a.1 in
     let after : IsBytes a.0.1 = rest_bytes (to_be_bytes w32 a.0.0) a.0.1 (subst IsBytes number.1 octets) in
     let members = counted_takes reads a.0.0 a.0.1 xs rest after a.2 in
-    let short : IsShort xs = subst (λ (n : ℕ). n < 2 ^ 32) (sym members.0) number.0 in
+    let short : HasLength32 xs = subst (λ (n : ℕ). n < 2 ^ 32) (sym members.0) number.0 in
     let cut : bytes ≡ to_be_bytes w32 (length xs) ++ (flat_map text xs ++ rest) =
     number.1 ∙ (λ i. to_be_bytes w32 (sym members.0 i) ++ members.2 i) in
     (record { short = short; each = members.1 }, cut ∙ sym (append_assoc (to_be_bytes w32 (length xs)) (flat_map text xs) rest))
@@ -113,8 +113,8 @@ svid_entry_again e rest fits =
     ) refl
 
 svid_entry_laid : (i c k b h first second third fourth bytes rest : List ℕ)
-    → IsText i × Front bytes (field_text i) first → IsShort c × Front first (field_text c) second → IsShort k × Front second (field_text k) third
-    → IsShort b × Front third (field_text b) fourth → IsText h × Front fourth (field_text h) rest
+    → IsText i × Front bytes (field_text i) first → HasLength32 c × Front first (field_text c) second → HasLength32 k × Front second (field_text k) third
+    → HasLength32 b × Front third (field_text b) fourth → IsText h × Front fourth (field_text h) rest
     → LaidFront IsSvidEntry svid_entry_text bytes (record { spiffe_id = i; x509_svid = c; x509_svid_key = k; bundle = b; hint = h }) rest
 unfolding svid_entry_text
 svid_entry_laid i c k b h first second third fourth bytes rest fi fc fk fb fh = (
@@ -155,7 +155,7 @@ bundle_entry_again e rest fits =
     ap bundle_entry_at regrouped
     ∙ rw (text_fields.again e.name (b ++ rest) fits.name, byte_fields.again e.bundle rest fits.bundle) refl
 
-bundle_entry_laid : (n b first bytes rest : List ℕ) → IsText n × Front bytes (field_text n) first → IsShort b × Front first (field_text b) rest
+bundle_entry_laid : (n b first bytes rest : List ℕ) → IsText n × Front bytes (field_text n) first → HasLength32 b × Front first (field_text b) rest
     → LaidFront IsBundleEntry bundle_entry_text bytes (record { name = n; bundle = b }) rest
 unfolding bundle_entry_text
 bundle_entry_laid n b first bytes rest fn fb = (

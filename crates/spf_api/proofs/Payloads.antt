@@ -15,8 +15,8 @@ use Rattle.spf_api.specs.declared.response.Response.{Response}
 use Rattle.spf_api.specs.declared.response.Response.TheVariants as response
 use Rattle.spf_api.specs.declared.response.ResponseKind.{ResponseKind}
 use Rattle.spf_api.specs.declared.response.ResponseKind.TheVariants as kind
-use Rattle.spf_api.specs.Layout.{field_text, list_text, IsShort, IsListOf, svid_entry_text, IsSvidEntry, bundle_entry_text, IsBundleEntry, jwt_svid_entry_text, context_text, IsContext}
-use Rattle.spf_api.specs.Payload.{LaysOut, bundles_text, IsBundles, jwt_svids_text, IsJwtSvids, HasLayout, Payload, Finds}
+use Rattle.spf_api.specs.Layout.{field_text, list_text, HasLength32, IsListOf, svid_entry_text, IsSvidEntry, bundle_entry_text, IsBundleEntry, jwt_svid_entry_text, context_payload, IsContext}
+use Rattle.spf_api.specs.Payload.{LaysOut, bundles_payload, IsBundles, jwt_svids_payload, IsJwtSvids, HasLayout, Payload, Finds}
 use Rattle.spf_api.specs.Reading.{byte_field_at, list_at, svid_entry_at, bundle_entry_at, jwt_svid_entry_at, context_at, bundles_at, jwt_svids_at, IsRead}
 use Rattle.spf_api.specs.Views.{context_of}
 use Rattle.spf_api.proofs.Spelled.{IsBytes, Reads, chosen, byte_fields}
@@ -39,8 +39,8 @@ list_again : {A : Type 0} {one : List ℕ → Option (A × List ℕ)} {text : A 
 list_again {A} {one} {text} {P} reads xs fits =
     ap (list_at one) (sym (append-nil (list_text text xs))) ∙ (lists reads).again xs [] fits
 
-context_again : (r : ContextResponse) → IsContext r → context_at (context_text r) ≡ Some r
-unfolding context_at context_text
+context_again : (r : ContextResponse) → IsContext r → context_at (context_payload r) ≡ Some r
+unfolding context_at context_payload
 context_again r fits =
     let s = list_text svid_entry_text r.svids in
     let f = list_text bundle_entry_text r.federated in
@@ -49,14 +49,14 @@ context_again r fits =
 
 context_laid : (s : List SvidEntry) (f : List BundleEntry) (c : List (List ℕ)) (first second bytes : List ℕ)
     → IsListOf IsSvidEntry s × Front bytes (list_text svid_entry_text s) first → IsListOf IsBundleEntry f × Front first (list_text bundle_entry_text f) second
-    → IsListOf IsShort c × (second ≡ list_text field_text c) → LaysOut IsContext context_text bytes (record { svids = s; federated = f; crls = c })
-unfolding context_text
+    → IsListOf HasLength32 c × (second ≡ list_text field_text c) → LaysOut IsContext context_payload bytes (record { svids = s; federated = f; crls = c })
+unfolding context_payload
 context_laid s f c first second bytes fs ff fc = record {
   fits = record { svids = fs.0; federated = ff.0; crls = fc.0 };
   octets = fs.1.0 ∙ ap (λ (l : List ℕ). list_text svid_entry_text s ++ l) (ff.1.0 ∙ ap (λ (l : List ℕ). list_text bundle_entry_text f ++ l) fc.1);
 }
 
-context_takes : (bytes : List ℕ) (r : ContextResponse) → IsBytes bytes → context_at bytes ≡ Some r → LaysOut IsContext context_text bytes r
+context_takes : (bytes : List ℕ) (r : ContextResponse) → IsBytes bytes → context_at bytes ≡ Some r → LaysOut IsContext context_payload bytes r
 unfolding context_at
 context_takes bytes r octets found =
     bind_then (list_at svid_entry_at bytes) _ r found (λ s s_is then_s.
@@ -66,35 +66,35 @@ context_takes bytes r octets found =
     let fs = front (lists svid_entries) bytes s.0 s.1 octets s_is in
     let ff = front (lists bundle_entries) s.1 f.0 f.1 fs.1.1 f_is in
     let fc = front (lists byte_fields) f.1 c.0 c.1 ff.1.1 c_is in
-    subst (LaysOut IsContext context_text bytes) done.1
+    subst (LaysOut IsContext context_payload bytes) done.1
     (context_laid s.0 f.0 c.0 s.1 f.1 bytes fs ff (fc.0, fc.1.0 ∙ ap (λ (l : List ℕ). list_text field_text c.0 ++ l) done.0 ∙ append-nil (list_text field_text c.0))))))
 
-bundles_again : (r : BundlesResponse) → IsBundles r → bundles_at (bundles_text r) ≡ Some r.bundles
-unfolding bundles_at bundles_text
+bundles_again : (r : BundlesResponse) → IsBundles r → bundles_at (bundles_payload r) ≡ Some r.bundles
+unfolding bundles_at bundles_payload
 bundles_again r fits = rw (list_again bundle_entries r.bundles fits) refl
 
-bundles_takes : (bytes : List ℕ) (bs : List BundleEntry) → IsBytes bytes → bundles_at bytes ≡ Some bs → LaysOut IsBundles bundles_text bytes (record { bundles = bs })
-unfolding bundles_at bundles_text
+bundles_takes : (bytes : List ℕ) (bs : List BundleEntry) → IsBytes bytes → bundles_at bytes ≡ Some bs → LaysOut IsBundles bundles_payload bytes (record { bundles = bs })
+unfolding bundles_at bundles_payload
 bundles_takes bytes bs octets found =
     bind_then (list_at bundle_entry_at bytes) _ bs found (λ b b_is made.
     let done = ended b.1 b.0 bs made in
     let fb = front (lists bundle_entries) bytes b.0 b.1 octets b_is in
     let text = list_text bundle_entry_text b.0 in
-    subst (λ (l : List BundleEntry). LaysOut IsBundles bundles_text bytes (record { bundles = l })) done.1
+    subst (λ (l : List BundleEntry). LaysOut IsBundles bundles_payload bytes (record { bundles = l })) done.1
     (record { fits = fb.0; octets = fb.1.0 ∙ ap (λ (l : List ℕ). text ++ l) done.0 ∙ append-nil text }))
 
-jwt_svids_again : (r : JwtSvidsResponse) → IsJwtSvids r → jwt_svids_at (jwt_svids_text r) ≡ Some r.svids
-unfolding jwt_svids_at jwt_svids_text
+jwt_svids_again : (r : JwtSvidsResponse) → IsJwtSvids r → jwt_svids_at (jwt_svids_payload r) ≡ Some r.svids
+unfolding jwt_svids_at jwt_svids_payload
 jwt_svids_again r fits = rw (list_again jwt_svid_entries r.svids fits) refl
 
-jwt_svids_takes : (bytes : List ℕ) (ts : List JwtSvidEntry) → IsBytes bytes → jwt_svids_at bytes ≡ Some ts → LaysOut IsJwtSvids jwt_svids_text bytes (record { svids = ts })
-unfolding jwt_svids_at jwt_svids_text
+jwt_svids_takes : (bytes : List ℕ) (ts : List JwtSvidEntry) → IsBytes bytes → jwt_svids_at bytes ≡ Some ts → LaysOut IsJwtSvids jwt_svids_payload bytes (record { svids = ts })
+unfolding jwt_svids_at jwt_svids_payload
 jwt_svids_takes bytes ts octets found =
     bind_then (list_at jwt_svid_entry_at bytes) _ ts found (λ t t_is made.
     let done = ended t.1 t.0 ts made in
     let ft = front (lists jwt_svid_entries) bytes t.0 t.1 octets t_is in
     let text = list_text jwt_svid_entry_text t.0 in
-    subst (λ (l : List JwtSvidEntry). LaysOut IsJwtSvids jwt_svids_text bytes (record { svids = l })) done.1
+    subst (λ (l : List JwtSvidEntry). LaysOut IsJwtSvids jwt_svids_payload bytes (record { svids = l })) done.1
     (record { fits = ft.0; octets = ft.1.0 ∙ ap (λ (l : List ℕ). text ++ l) done.0 ∙ append-nil text }))
 
 -- what is laid out is read

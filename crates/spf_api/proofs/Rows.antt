@@ -15,8 +15,8 @@ use Rattle.spf_api.specs.declared.error.WorkloadApiError.TheVariants as api
 use Rattle.spf_api.specs.declared.status.GrpcStatusCode.TheVariants as code
 use Rattle.spf_api.specs.declared.status.TransportError.TheVariants as transport
 use Rattle.spf_api.specs.Errors.{status_reading}
-use Rattle.spf_api.specs.Layout.{field_text, list_text, svid_entry_text, context_text, IsSvidEntry, IsBundleEntry, IsShort, IsContext}
-use Rattle.spf_api.specs.Parsed.{required, bundle_required, fields_required, entries_rule, hint_rule, materials_of, parsed_of, bundle_set_of}
+use Rattle.spf_api.specs.Layout.{field_text, list_text, svid_entry_text, context_payload, IsSvidEntry, IsBundleEntry, HasLength32, IsContext}
+use Rattle.spf_api.specs.Parsed.{required, bundle_required, fields_required, entries_rule, hint_rule, svids_and_bundles_of, parsed_of, bundle_set_of}
 use Rattle.spf_api.specs.Payload.{Payload}
 use Rattle.spf_api.proofs.Spelled.{chosen}
 use Rattle.spf_api.specs.Reading.{number_at, byte_field_at, text_field_at, svid_entry_at, bundle_entry_at, context_at, IsRead}
@@ -65,8 +65,8 @@ size : length i1_payload ≡ 282
 unfolding octets digit root1 leaf1 key1 i1_payload
 size = refl
 
-i1_text : context_text i1 ≡ i1_payload
-unfolding octets digit root1 leaf1 key1 entry1 context1 i1 i1_payload context_text list_text svid_entry_text field_text
+i1_text : context_payload i1 ≡ i1_payload
+unfolding octets digit root1 leaf1 key1 entry1 context1 i1 i1_payload context_payload list_text svid_entry_text field_text
 i1_text = refl
 
 -- whether all octets are below 128
@@ -99,7 +99,7 @@ unfolding i1 context1
 i1_fits = record {
   svids = record { short = omega arith; each = All-cons IsSvidEntry (entry1 key1 root1) [] entry_fits (All-nil IsSvidEntry) };
   federated = record { short = omega arith; each = All-nil IsBundleEntry };
-  crls = record { short = omega arith; each = All-nil IsShort };
+  crls = record { short = omega arith; each = All-nil HasLength32 };
 }
 
 -- row payload: the payload of I1 lays it out, and is read as it is
@@ -130,16 +130,16 @@ far_count_lays = none_laid kind.Context (octets (codes "ffffffff")) tt (sym (ap 
 
 -- the response rule
 no_svids : parsed_of (context1 []) ≡ Err (api.MissingRequiredField (codes "X509SVIDResponse.svids"))
-unfolding context1 parsed_of materials_of entries_rule
+unfolding context1 parsed_of svids_and_bundles_of entries_rule
 no_svids = refl
 
 -- an empty bundle of any entry comes before the other fields of all
 no_bundle : parsed_of (context1 (entry1 [] root1 ∷ entry1 key1 [] ∷ [])) ≡ Err (api.MissingRequiredField (codes "X509SVID.bundle"))
-unfolding octets digit root1 leaf1 key1 entry1 context1 parsed_of materials_of entries_rule bundle_required required
+unfolding octets digit root1 leaf1 key1 entry1 context1 parsed_of svids_and_bundles_of entries_rule bundle_required required
 no_bundle = refl
 
 no_key : parsed_of (context1 (entry1 [] root1 ∷ [])) ≡ Err (api.MissingRequiredField (codes "X509SVID.x509_svid_key"))
-unfolding octets digit root1 leaf1 key1 entry1 context1 parsed_of materials_of entries_rule bundle_required fields_required required
+unfolding octets digit root1 leaf1 key1 entry1 context1 parsed_of svids_and_bundles_of entries_rule bundle_required fields_required required
 no_key = refl
 
 no_bundles : bundle_set_of (record { bundles = [] }) ≡ Err (api.MissingRequiredField (codes "X509BundlesResponse.bundles"))

@@ -7,7 +7,7 @@ use Rattle.std.proofs.lemmas.Str.{is_utf8-from_IsUtf8, IsUtf8-from_is_utf8}
 use Rattle.std.proofs.Math.Seq.{take-append_seam, drop-append_seam}
 use Rattle.std.specs.Int.{w32, to_be_bytes, from_be_bytes}
 use Rattle.std.specs.Str.{is_utf8}
-use Rattle.spf_api.specs.Layout.{field_text, IsShort, IsText}
+use Rattle.spf_api.specs.Layout.{field_text, HasLength32, IsText}
 use Rattle.spf_api.specs.Reading.{◌>>=◌, number_at, byte_field_at, text_field_at}
 
 abbrev pub IsBytes : List ℕ → Type 0
@@ -62,13 +62,13 @@ number_takes (a ∷ b ∷ c ∷ d ∷ bytes) n rest octets e =
     four h (suc (suc (suc zero))) = h 3
     four h (suc (suc (suc (suc i)))) = omega arith
 
-byte_field_again : (octets rest : List ℕ) → IsShort octets → byte_field_at (field_text octets ++ rest) ≡ Some (octets, rest)
+byte_field_again : (octets rest : List ℕ) → HasLength32 octets → byte_field_at (field_text octets ++ rest) ≡ Some (octets, rest)
 unfolding byte_field_at field_text
 byte_field_again octets rest short =
     let long : nat_lt (length (octets ++ rest)) (length octets) ≡ false = le-ltb (length (octets ++ rest)) (length octets) (omega (arith, length-append octets rest)) in
     rw (append_assoc (to_be_bytes w32 (length octets)) octets rest, number_again (length octets) (octets ++ rest) short, long, take-append_seam, drop-append_seam) refl
 
-byte_field_takes : (bytes octets rest : List ℕ) → IsBytes bytes → byte_field_at bytes ≡ Some (octets, rest) → IsShort octets × (bytes ≡ field_text octets ++ rest)
+byte_field_takes : (bytes octets rest : List ℕ) → IsBytes bytes → byte_field_at bytes ≡ Some (octets, rest) → HasLength32 octets × (bytes ≡ field_text octets ++ rest)
 unfolding byte_field_at field_text
 byte_field_takes bytes octets rest are e =
     let found = bind_some (number_at bytes) (λ (n : ℕ × List ℕ). cond (nat_lt (length n.1) n.0) None (Some (take n.0 n.1, drop n.0 n.1))) (octets, rest) e in
@@ -84,7 +84,7 @@ byte_field_takes bytes octets rest are e =
     (rw size (number.0), whole ∙ sym (append_assoc (to_be_bytes w32 (length octets)) octets rest)))
     (chosen (nat_lt (length after) n) None (Some (take n after, drop n after)) (Some (octets, rest)) found.2)
 
-pub byte_fields : Reads byte_field_at field_text IsShort
+pub byte_fields : Reads byte_field_at field_text HasLength32
 byte_fields = record { again = byte_field_again; takes = byte_field_takes }
 
 text_field_again : (text rest : List ℕ) → IsText text → text_field_at (field_text text ++ rest) ≡ Some (text, rest)

@@ -52,8 +52,8 @@ unfoldable pub bundle_for : List ℕ → List ℕ → Result Bundle WorkloadApiE
 bundle_for domain der = broken_as api_of_bundle (bundle_of domain (authorities_rule der))
 
 -- the SVID of an entry, and then its bundle, under the trust domain of the SVID
-unfoldable pub material_of : SvidEntry → Result (Svid × Bundle) WorkloadApiError
-material_of e = do
+unfoldable pub svid_and_bundle_of : SvidEntry → Result (Svid × Bundle) WorkloadApiError
+svid_and_bundle_of e = do
   svid ← svid_of_entry e
   bundle ← bundle_for svid.id.domain e.bundle
   Ok (svid, bundle)
@@ -65,10 +65,10 @@ named_bundle_of e = do
   bundle_for domain e.bundle
 
 -- the SVIDs of entries with their bundles, in order
-unfoldable pub materials_of : List SvidEntry → Result (List (Svid × Bundle)) WorkloadApiError
-materials_of entries = do
+unfoldable pub svids_and_bundles_of : List SvidEntry → Result (List (Svid × Bundle)) WorkloadApiError
+svids_and_bundles_of entries = do
   _ ← entries_rule entries
-  each material_of entries
+  each svid_and_bundle_of entries
 
 -- the first, or else the second
 abbrev pub or_else : {A : Type 0} → Option A → Option A → Option A
@@ -99,13 +99,13 @@ last_for domain (b ∷ bundles) = or_else (last_for domain bundles) (if bytes_eq
 -- domain the last stands, where those of SVIDs come before the federated ones.
 unfoldable pub parsed_of : ContextResponse → Result Context WorkloadApiError
 parsed_of r = do
-  materials ← materials_of r.svids
+  materials ← svids_and_bundles_of r.svids
   federated ← each named_bundle_of r.federated
   Ok (record { svids = svids_in materials; bundles = with_bundles [] (bundles_in materials ++ federated); crls = r.crls })
 
 -- the SVIDs of a response, whose federated entries are not looked at
 unfoldable pub svids_of : ContextResponse → Result (List Svid) WorkloadApiError
-svids_of r = read_as svids_in (materials_of r.svids)
+svids_of r = read_as svids_in (svids_and_bundles_of r.svids)
 
 -- a list of SVIDs holds one
 abbrev pub first_of : List Svid → Result Svid WorkloadApiError

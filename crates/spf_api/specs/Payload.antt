@@ -6,21 +6,21 @@ use Rattle.spf_api.specs.declared.response.Response.{Response}
 use Rattle.spf_api.specs.declared.response.Response.TheVariants as response
 use Rattle.spf_api.specs.declared.response.ResponseKind.{ResponseKind}
 use Rattle.spf_api.specs.declared.response.ResponseKind.TheVariants as kind
-use Rattle.spf_api.specs.Layout.{list_text, IsListOf, bundle_entry_text, IsBundleEntry, jwt_svid_entry_text, IsJwtSvidEntry, context_text, IsContext}
+use Rattle.spf_api.specs.Layout.{list_text, IsListOf, bundle_entry_text, IsBundleEntry, jwt_svid_entry_text, IsJwtSvidEntry, context_payload, IsContext}
 
 -- the octets are the text of a response that may be laid out
 pub record LaysOut {R : Type 0} (Fits : R → Type 0) (text : R → List ℕ) (bytes : List ℕ) (r : R) : Type 0 where
   pub fits : Fits r
   pub octets : bytes ≡ text r
 
-unfoldable pub bundles_text : BundlesResponse → List ℕ
-bundles_text r = list_text bundle_entry_text r.bundles
+unfoldable pub bundles_payload : BundlesResponse → List ℕ
+bundles_payload r = list_text bundle_entry_text r.bundles
 
 abbrev pub IsBundles : BundlesResponse → Type 0
 IsBundles r = IsListOf IsBundleEntry r.bundles
 
-unfoldable pub jwt_svids_text : JwtSvidsResponse → List ℕ
-jwt_svids_text r = list_text jwt_svid_entry_text r.svids
+unfoldable pub jwt_svids_payload : JwtSvidsResponse → List ℕ
+jwt_svids_payload r = list_text jwt_svid_entry_text r.svids
 
 abbrev pub IsJwtSvids : JwtSvidsResponse → Type 0
 IsJwtSvids r = IsListOf IsJwtSvidEntry r.svids
@@ -39,10 +39,10 @@ HasLayout _ = Unit {0}
 
 -- the octets lay out the response, which is of that kind
 unfoldable pub Payload : ResponseKind → List ℕ → Response → Type 0
-Payload kind.Context bytes (response.Context r) = LaysOut IsContext context_text bytes r
-Payload kind.Bundles bytes (response.Bundles r) = LaysOut IsBundles bundles_text bytes r
-Payload kind.JwtSvids bytes (response.JwtSvids r) = LaysOut IsJwtSvids jwt_svids_text bytes r
-Payload kind.JwtBundles bytes (response.JwtBundles r) = LaysOut IsBundles bundles_text bytes r
+Payload kind.Context bytes (response.Context r) = LaysOut IsContext context_payload bytes r
+Payload kind.Bundles bytes (response.Bundles r) = LaysOut IsBundles bundles_payload bytes r
+Payload kind.JwtSvids bytes (response.JwtSvids r) = LaysOut IsJwtSvids jwt_svids_payload bytes r
+Payload kind.JwtBundles bytes (response.JwtBundles r) = LaysOut IsBundles bundles_payload bytes r
 Payload _ _ _ = ⊥
 
 -- the response that the octets lay out; none where they lay out none

@@ -4,7 +4,7 @@ ghost use Rattle.std.specs.Prelude.{◌≡◌, ◌<◌, ◌^◌, ◌++◌, lengt
 ghost use Rattle.std.specs.Int.{w32, to_be_bytes};
 ghost use Rattle.std.specs.Option.{option_map};
 ghost use Rattle.std.specs.Str.{IsUtf8};
-ghost use Rattle.spf_api.specs.Layout.{IsShort, IsText, field_text};
+ghost use Rattle.spf_api.specs.Layout.{HasLength32, IsText, field_text};
 ghost use Rattle.spf_api.specs.Reading.{number_at, byte_field_at, text_field_at};
 
 use spf_io::{OutOfMemory, Text};
@@ -59,7 +59,7 @@ pub(crate) fn put_number(out: &mut Vec<u8>, number: usize) -> Result<(), OutOfMe
 
 #[tactic(auto, unfolding(crate::specs::Layout::field_text))]
 pub(crate) fn put_bytes(out: &mut Vec<u8>, octets: &[u8]) -> Result<(), OutOfMemory>
-    ensures short { OnOk result (IsShort octets.now) }
+    ensures short { OnOk result (HasLength32 octets.now) }
     ensures octets { OnOk result (out.new.items ≡ out.old.items ++ field_text octets.now) }
 {
     put_number(out, octets.len())?;

@@ -1,7 +1,7 @@
 //! How a response is laid out, appended to what was written before.
 
 ghost use Rattle.std.specs.Prelude.{◌≡◌, ◌++◌, OnOk};
-ghost use Rattle.spf_api.specs.Layout.{IsListOf, IsShort, IsSvidEntry, IsBundleEntry, IsJwtSvidEntry, IsContext, field_text, list_text, svid_entry_text, bundle_entry_text, jwt_svid_entry_text, context_text};
+ghost use Rattle.spf_api.specs.Layout.{IsListOf, HasLength32, IsSvidEntry, IsBundleEntry, IsJwtSvidEntry, IsContext, field_text, list_text, svid_entry_text, bundle_entry_text, jwt_svid_entry_text, context_payload};
 
 use crate::layout::{put_bytes, put_number, put_text};
 use crate::response::{
@@ -61,7 +61,7 @@ pub(crate) fn put_bundle_entries(
 
 #[tactic(auto, unfolding(crate::specs::Layout::list_text))]
 fn put_byte_fields(out: &mut Vec<u8>, fields: &[Bytes]) -> Result<(), OutOfMemory>
-    ensures fits { OnOk result (IsListOf IsShort fields.now) }
+    ensures fits { OnOk result (IsListOf HasLength32 fields.now) }
     ensures octets { OnOk result (out.new.items ≡ out.old.items ++ list_text field_text fields.now) }
 {
     put_number(out, fields.len())?;
@@ -71,10 +71,10 @@ fn put_byte_fields(out: &mut Vec<u8>, fields: &[Bytes]) -> Result<(), OutOfMemor
     Ok(())
 }
 
-#[tactic(auto, unfolding(crate::specs::Layout::context_text))]
+#[tactic(auto, unfolding(crate::specs::Layout::context_payload))]
 pub(crate) fn put_context(out: &mut Vec<u8>, context: &ContextResponse) -> Result<(), OutOfMemory>
     ensures fits { OnOk result (IsContext context.now) }
-    ensures octets { OnOk result (out.new.items ≡ out.old.items ++ context_text context.now) }
+    ensures octets { OnOk result (out.new.items ≡ out.old.items ++ context_payload context.now) }
 {
     put_svid_entries(out, context.svids.as_slice())?;
     put_bundle_entries(out, context.federated.as_slice())?;

@@ -8,7 +8,7 @@ ghost use Rattle.spf_x509.specs.Bundle.{with_bundles};
 ghost use Rattle.spf_api.specs.Errors.{is_memory_api};
 ghost use Rattle.spf_api.specs.Views.{svid_entry_of, bundle_entry_of, context_of, HasTexts, IsNamed, IsTextual};
 ghost use Rattle.spf_api.specs.Parsed.{required, bundle_required, fields_required, kept_by_each, entries_rule, hint_rule};
-ghost use Rattle.spf_api.specs.Parsed.{material_of, named_bundle_of, svids_in, brought_to, read_as, parsed_of, svids_of, first_svid_of, bundle_set_of};
+ghost use Rattle.spf_api.specs.Parsed.{svid_and_bundle_of, named_bundle_of, svids_in, brought_to, read_as, parsed_of, svids_of, first_svid_of, bundle_set_of};
 
 use crate::error::WorkloadApiError;
 use crate::owned::{byte_fields, text};
@@ -99,13 +99,13 @@ fn hint_of(alloc: Global, hint: &[u8]) -> Result<Option<Text>, OutOfMemory>
 }
 
 /// The SVID of an entry, and the bundle of its trust domain.
-#[tactic(auto, unfolding(crate::specs::Parsed::material_of, crate::specs::Parsed::svid_of_entry, crate::specs::Parsed::bundle_for))]
+#[tactic(auto, unfolding(crate::specs::Parsed::svid_and_bundle_of, crate::specs::Parsed::svid_of_entry, crate::specs::Parsed::bundle_for))]
 fn material(
     alloc: Global,
     entry: &SvidEntryView<'_>,
 ) -> Result<(X509Svid, X509Bundle), WorkloadApiError>
     requires { HasTexts entry.now }
-    ensures { Gives is_memory_api (λ m. (m.0, m.1)) result (material_of (svid_entry_of entry.now)) }
+    ensures { Gives is_memory_api (λ m. (m.0, m.1)) result (svid_and_bundle_of (svid_entry_of entry.now)) }
 {
     let hint = hint_of(alloc, entry.hint)?;
     let svid = X509Svid::parse_from_der_with_hint(
@@ -146,7 +146,7 @@ fn shared_svids(
     bundles: &mut X509BundleSet,
 ) -> Result<Vec<Arc<X509Svid>>, WorkloadApiError>
     requires { All HasTexts entries.now }
-    ensures { Gives is_memory_api (λ v. (map arc_value v.items, bundles.new)) result (read_as (brought_to bundles.old) (each material_of (map svid_entry_of entries.now))) }
+    ensures { Gives is_memory_api (λ v. (map arc_value v.items, bundles.new)) result (read_as (brought_to bundles.old) (each svid_and_bundle_of (map svid_entry_of entries.now))) }
 {
     let mut svids = Vec::new(alloc);
     for entry in entries {
@@ -174,7 +174,7 @@ fn add_federated(
 
 /// The context of the response that the view holds. A later bundle of a trust domain replaces an earlier one. Each
 /// certificate is copied once.
-#[tactic(auto, unfolding(crate::specs::Parsed::parsed_of, crate::specs::Parsed::materials_of))]
+#[tactic(auto, unfolding(crate::specs::Parsed::parsed_of, crate::specs::Parsed::svids_and_bundles_of))]
 pub fn context_from_view(
     alloc: Global,
     view: &ContextView<'_>,
@@ -205,7 +205,7 @@ fn owned_svids(
     entries: &[SvidEntryView<'_>],
 ) -> Result<Vec<X509Svid>, WorkloadApiError>
     requires { All HasTexts entries.now }
-    ensures { Gives is_memory_api (λ v. v.items) result (read_as svids_in (each material_of (map svid_entry_of entries.now))) }
+    ensures { Gives is_memory_api (λ v. v.items) result (read_as svids_in (each svid_and_bundle_of (map svid_entry_of entries.now))) }
 {
     let mut svids = Vec::new(alloc);
     for entry in entries {
@@ -216,7 +216,7 @@ fn owned_svids(
 }
 
 /// The SVIDs of the response in order. Its federated entries are not looked at.
-#[tactic(auto, unfolding(crate::specs::Parsed::svids_of, crate::specs::Parsed::materials_of))]
+#[tactic(auto, unfolding(crate::specs::Parsed::svids_of, crate::specs::Parsed::svids_and_bundles_of))]
 pub fn svids_from(alloc: Global, r: &ContextResponse) -> Result<Vec<X509Svid>, WorkloadApiError>
     ensures { Gives is_memory_api (λ v. v.items) result (svids_of r.now) }
 {

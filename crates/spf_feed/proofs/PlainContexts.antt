@@ -21,7 +21,7 @@ use Rattle.spf_api.specs.declared.response.SvidEntry.{SvidEntry}
 use Rattle.spf_api.specs.declared.response.BundleEntry.{BundleEntry}
 use Rattle.spf_api.specs.declared.error.WorkloadApiError.{WorkloadApiError}
 use Rattle.spf_api.specs.Errors.{api_of_bundle, api_of_id, api_of_svid}
-use Rattle.spf_api.specs.Parsed.{entries_rule, hint_rule, svid_of_entry, bundle_for, material_of as entry_material, named_bundle_of, materials_of, svids_in, bundles_in, parsed_of}
+use Rattle.spf_api.specs.Parsed.{entries_rule, hint_rule, svid_of_entry, bundle_for, svid_and_bundle_of, named_bundle_of, svids_and_bundles_of, svids_in, bundles_in, parsed_of}
 use Rattle.spf_view.specs.Views.{Subject, Outcome, Accepted, keep_if, brings, has_begun, last_moment, denied_or_passed, outcomes, last_accepted}
 use Rattle.spf_feed.specs.declared.event.SessionEvent.TheVariants as events
 use Rattle.spf_feed.specs.Items.{Event, Rules, value_of, context_in, picked, material_of, subject}
@@ -93,8 +93,8 @@ PlainSvid svid = PlainId svid.id
 abbrev PlainPair : Svid × Bundle → Type 0
 PlainPair m = PlainSvid m.0 × PlainBundle m.1
 
-pair_plain : (e : SvidEntry) (m : Svid × Bundle) → entry_material e ≡ Ok m → PlainPair m
-unfolding entry_material svid_of_entry
+pair_plain : (e : SvidEntry) (m : Svid × Bundle) → svid_and_bundle_of e ≡ Ok m → PlainPair m
+unfolding svid_and_bundle_of svid_of_entry
 pair_plain e m h =
     bound (broken_as api_of_svid (svid_of e.x509_svid e.x509_svid_key (hint_rule e.hint))) _ m h (λ svid s_is rest.
     bound (bundle_for svid.id.domain e.bundle) _ m rest (λ bundle b_is made.
@@ -108,9 +108,9 @@ named_plain e b h =
     bound (broken_as api_of_id (name_rule e.name)) _ b h (λ domain d_is rest.
     bundle_plain domain e.bundle b rest (name_plain e.name domain (as_read api_of_id (name_rule e.name) domain d_is)))
 
-pairs_plain : (entries : List SvidEntry) (ms : List (Svid × Bundle)) → materials_of entries ≡ Ok ms → AllByRecursion PlainPair ms
-unfolding materials_of
-pairs_plain entries ms h = bound (entries_rule entries) _ ms h (λ done d_is rest. each_kept entry_material PlainPair pair_plain entries ms rest)
+pairs_plain : (entries : List SvidEntry) (ms : List (Svid × Bundle)) → svids_and_bundles_of entries ≡ Ok ms → AllByRecursion PlainPair ms
+unfolding svids_and_bundles_of
+pairs_plain entries ms h = bound (entries_rule entries) _ ms h (λ done d_is rest. each_kept svid_and_bundle_of PlainPair pair_plain entries ms rest)
 
 -- the names in a context have no line feed
 abbrev pub PlainContext : Context → Type 0
@@ -119,7 +119,7 @@ PlainContext context = AllByRecursion PlainSvid context.svids × AllByRecursion 
 parsed_plain : (r : ContextResponse) (context : Context) → parsed_of r ≡ Ok context → PlainContext context
 unfolding parsed_of
 parsed_plain r context h =
-    bound (materials_of r.svids) _ context h (λ ms m_is rest.
+    bound (svids_and_bundles_of r.svids) _ context h (λ ms m_is rest.
     bound (each named_bundle_of r.federated) _ context rest (λ federated f_is made.
     let pairs = pairs_plain r.svids ms m_is in
     let svids = all_map (λ (m : Svid × Bundle). m.0) PlainPair PlainSvid (λ m p. p.0) ms pairs in

@@ -7,7 +7,7 @@ use Rattle.spf_der.specs.Value.{length_octets}
 use Rattle.spf_api.specs.declared.response.ContextResponse.{ContextResponse}
 use Rattle.spf_api.specs.declared.response.Response.TheVariants as response
 use Rattle.spf_api.specs.declared.response.SvidEntry.{SvidEntry}
-use Rattle.spf_api.specs.Layout.{context_text, field_text}
+use Rattle.spf_api.specs.Layout.{context_payload, field_text}
 use Rattle.spf_api.specs.Payload.{Payload, kind_of}
 use Rattle.spf_view.specs.Frames.{sized}
 use Rattle.spiffe_watch.specs.declared.made.Variant.{Variant}
@@ -50,7 +50,7 @@ entry_of_workload place generation w t time key key' bundle bundle' e is signer 
     made ∙ (λ i. record { spiffe_id = w.identity; x509_svid = dated w.leaf (dates i) ++ dated t (dates i); x509_svid_key = keys i; bundle = bundles i; hint = [] })
     ∙ entry_is place generation w t key' bundle' is signer
 
-pub payload_is : (r : ContextResponse) (bytes : List ℕ) → Payload (kind_of (response.Context r)) bytes (response.Context r) → bytes ≡ context_text r
+pub payload_is : (r : ContextResponse) (bytes : List ℕ) → Payload (kind_of (response.Context r)) bytes (response.Context r) → bytes ≡ context_payload r
 unfolding Payload
 payload_is r bytes p = p.octets
 
@@ -58,7 +58,7 @@ regroup : (old a b : List ℕ) → old ++ 5 ∷ [] ++ a ++ b ≡ old ++ 5 ∷ (a
 regroup old a b = simp append_assoc
 
 -- the frame of an item, put after what was there
-pub item_put : (variant : Variant) (generation : ℕ) (old payload : List ℕ) → payload ≡ context_text (item variant generation)
+pub item_put : (variant : Variant) (generation : ℕ) (old payload : List ℕ) → payload ≡ context_payload (item variant generation)
     → old ++ 5 ∷ [] ++ to_be_bytes w32 (length payload) ++ payload ≡ old ++ item_frame variant generation
 unfolding item_frame sized
 item_put variant generation old payload is =

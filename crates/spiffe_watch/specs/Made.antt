@@ -7,7 +7,7 @@ use Rattle.spf_der.specs.Written.{certificate_text, key_text}
 use Rattle.spf_der.specs.WrittenTime.{utc_text}
 use Rattle.spf_api.specs.declared.response.SvidEntry.{SvidEntry}
 use Rattle.spf_api.specs.declared.response.ContextResponse.{ContextResponse}
-use Rattle.spf_api.specs.Layout.{field_text, context_text}
+use Rattle.spf_api.specs.Layout.{field_text, context_payload}
 use Rattle.spf_view.specs.Frames.{raw_text}
 use Rattle.spiffe_watch.specs.declared.made.Variant.{Variant}
 use Rattle.spiffe_watch.specs.declared.made.Variant.TheVariants as variants
@@ -106,7 +106,7 @@ abbrev pub client_frames : List ℕ
 client_frames = raw_text 1 [] ++ raw_text 3 []
 
 unfoldable pub item_frame : Variant → ℕ → List ℕ
-item_frame variant generation = raw_text 5 (context_text (item variant generation))
+item_frame variant generation = raw_text 5 (context_payload (item variant generation))
 
 -- the status 7, `no`
 abbrev pub denial_frame : List ℕ

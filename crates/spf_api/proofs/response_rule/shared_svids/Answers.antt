@@ -8,7 +8,7 @@ use Rattle.spf_io.proofs.Each.{unless}
 use Rattle.spf_x509.specs.Svid.{Svid}
 use Rattle.spf_api.specs.Errors.{is_memory_api}
 use Rattle.spf_api.specs.Views.{svid_entry_of}
-use Rattle.spf_api.specs.Parsed.{material_of, read_as, brought_to}
+use Rattle.spf_api.specs.Parsed.{svid_and_bundle_of, read_as, brought_to}
 use Rattle.spf_api.proofs.Added.{placed_more, brought_fails, placed_all}
 use Rattle.spf_api.proofs.Rules.{each-map, get_or_same, no_entry}
 use Rattle.spf_api.proofs.response_rule.shared_svids.Goals as goal
@@ -26,7 +26,7 @@ loop-entry-preserved c =
     ap (map arc_value) c.in_ok-push.ensures.items ∙ map_push arc_value svids c.in_ok-new.field-0
     ∙ ap (λ (s : Svid). map arc_value svids ++ s ∷ []) c.in_ok-new.ensures.ok in
     rw pushed
-    (placed_more (λ v. material_of (svid_entry_of v)) xs i x (map arc_value svids) c.args.bundles.now c.loop-entry.bundles c.add_bundle.new.self (c.in_ok-svid.svid, c.in_ok-svid.bundle)
+    (placed_more (λ v. svid_and_bundle_of (svid_entry_of v)) xs i x (map arc_value svids) c.args.bundles.now c.loop-entry.bundles c.add_bundle.new.self (c.in_ok-svid.svid, c.in_ok-svid.bundle)
     c.loop-entry.invariant c.loop-entry-test.true (get_or_same xs i no_entry x c.loop-entry-test.true) c.in_ok-svid.ensures c.in_ok-add_bundle.ensures.ok)
 
 pub returns-in_err-svid : goal.returns-in_err-svid
@@ -38,14 +38,14 @@ returns-in_err-svid c =
     let x = get_or xs i no_entry in
     rw (p.1, p.2)
     (unless (is_memory_api e)
-    (λ broken. ap (read_as (brought_to c.args.bundles.now)) (each-map material_of svid_entry_of xs)
-    ∙ brought_fails (λ v. material_of (svid_entry_of v)) xs i x (map arc_value c.loop-entry.svids.items) e (brought_to c.args.bundles.now)
+    (λ broken. ap (read_as (brought_to c.args.bundles.now)) (each-map svid_and_bundle_of svid_entry_of xs)
+    ∙ brought_fails (λ v. svid_and_bundle_of (svid_entry_of v)) xs i x (map arc_value c.loop-entry.svids.items) e (brought_to c.args.bundles.now)
     c.loop-entry.invariant.brought c.loop-entry-test.true (get_or_same xs i no_entry x c.loop-entry-test.true) broken)
     c.in_err-svid.ensures)
 
 pub returns : goal.returns
 returns c =
     let xs = c.args.entries.now in
-    ap (read_as (brought_to c.args.bundles.now)) (each-map material_of svid_entry_of xs)
-    ∙ placed_all (λ v. material_of (svid_entry_of v)) xs c.loop-entry.entry-index (map arc_value c.loop-entry.svids.items) c.args.bundles.now c.loop-entry.bundles
+    ap (read_as (brought_to c.args.bundles.now)) (each-map svid_and_bundle_of svid_entry_of xs)
+    ∙ placed_all (λ v. svid_and_bundle_of (svid_entry_of v)) xs c.loop-entry.entry-index (map arc_value c.loop-entry.svids.items) c.args.bundles.now c.loop-entry.bundles
     c.loop-entry.invariant (omega arith)
