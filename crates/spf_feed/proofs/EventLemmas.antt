@@ -9,10 +9,10 @@ use Rattle.spf_view.proofs.FrameLemmas.{raw_same}
 use Rattle.spf_feed.specs.declared.event.SessionEvent.{SessionEvent}
 use Rattle.spf_feed.specs.declared.event.SessionEvent.TheVariants as events
 use Rattle.spf_feed.specs.declared.frame.Phase.{Phase}
-use Rattle.spf_feed.specs.Events.{failure_at, status_at, moment_at, when_empty, event_at, heard}
+use Rattle.spf_feed.specs.Events.{failure_at, status_at, moment_at, when_empty, event_at, map_item}
 use Rattle.spf_feed.specs.declared.frame.FrameError.TheVariants as errors
 use Rattle.spf_feed.specs.Following.{IsEventRead, IsEventUnread}
-use Rattle.spf_feed.specs.Frames.{allows, IsShort, raw_text, NoFrame, IsRead}
+use Rattle.spf_feed.specs.Frames.{allows, FitsFrame, raw_text, NoFrame, IsRead}
 use Rattle.spf_feed.specs.Items.{Event, Received, Rules, context_in, item_at}
 use Rattle.spf_feed.specs.Run.{ask_of, stream}
 use Rattle.spf_feed.proofs.Parts.{none_from_front}
@@ -31,13 +31,13 @@ once : {A C D : Type 0} (c : A → D) (d : A → C) (g : C → D) (o : Option A)
 once c d g None h = refl
 once c d g (Some a) h = ap Some (h a)
 
-emptied : {I J : Type 0} (f : I → J) (payload : List ℕ) (e : SessionEvent I) → when_empty payload (heard f e) ≡ option_map (heard f) (when_empty payload e)
-emptied f payload e = chosen (heard f) (length payload == 0) (Some e) None (Some (heard f e)) None refl refl
+emptied : {I J : Type 0} (f : I → J) (payload : List ℕ) (e : SessionEvent I) → when_empty payload (map_item f e) ≡ option_map (map_item f) (when_empty payload e)
+emptied f payload e = chosen (map_item f) (length payload == 0) (Some e) None (Some (map_item f e)) None refl refl
 
-pub event_at-heard : {I J : Type 0} (f : I → J) (item : List ℕ → Option I) (kind : ℕ) (payload : List ℕ) → event_at (λ b. option_map f (item b)) kind payload ≡ option_map (heard f) (event_at item kind payload)
+pub event_at-map_item : {I J : Type 0} (f : I → J) (item : List ℕ → Option I) (kind : ℕ) (payload : List ℕ) → event_at (λ b. option_map f (item b)) kind payload ≡ option_map (map_item f) (event_at item kind payload)
 unfolding event_at
-event_at-heard {I} {J} f item kind payload =
-    let g : SessionEvent I → SessionEvent J = heard f in
+event_at-map_item {I} {J} f item kind payload =
+    let g : SessionEvent I → SessionEvent J = map_item f in
     chosen g (kind == 1) _ _ _ _ (emptied f payload events.ClientMade) (
     chosen g (kind == 2) _ _ _ _ (once events.ClientFailed events.ClientFailed g (failure_at payload) (λ a. refl)) (
     chosen g (kind == 3) _ _ _ _ (emptied f payload events.Connected) (
@@ -60,14 +60,14 @@ none_in rules past phase None asks none = tt
 none_in rules past phase (Some bytes) asks none = none_at rules past phase bytes asks none
 
 -- a frame whose payload lays out nothing is no frame of an event
-unlaid : (rules : Rules) (past : List Event) (kind : ℕ) (payload : List ℕ) → IsShort payload → event_at item_at kind payload ≡ None → (ys : List ℕ) → NoFrameAt (stream rules) past (raw_text kind payload ++ ys)
+unlaid : (rules : Rules) (past : List Event) (kind : ℕ) (payload : List ℕ) → FitsFrame payload → event_at item_at kind payload ≡ None → (ys : List ℕ) → NoFrameAt (stream rules) past (raw_text kind payload ++ ys)
 unlaid rules past kind payload short none ys e front rest frame same =
     let parts = raw_same kind payload ys frame.kind frame.payload rest short frame.short (same ∙ ap (λ l. l ++ rest) frame.text) in
     let laid : event_at context_at kind payload ≡ Some e = ap (λ k. event_at context_at k payload) parts.0 ∙ ap (event_at context_at frame.kind) parts.1 ∙ frame.lays_out in
-    let both : None ≡ option_map (heard context_in) (Some e) = sym none ∙ event_at-heard context_in context_at kind payload ∙ ap (option_map (heard context_in)) laid in
+    let both : None ≡ option_map (map_item context_in) (Some e) = sym none ∙ event_at-map_item context_in context_at kind payload ∙ ap (option_map (map_item context_in)) laid in
     absurd cc
 
-pub unlaid_in : (rules : Rules) (past : List Event) (kind : ℕ) (payload : List ℕ) (old new : Option (List ℕ)) → IsShort payload → event_at item_at kind payload ≡ None → Consumes old new (raw_text kind payload)
+pub unlaid_in : (rules : Rules) (past : List Event) (kind : ℕ) (payload : List ℕ) (old new : Option (List ℕ)) → FitsFrame payload → event_at item_at kind payload ≡ None → Consumes old new (raw_text kind payload)
     → IfSome old (NoFrameAt (stream rules) past)
 unlaid_in rules past kind payload old new short none took = none_from_front (NoFrameAt (stream rules) past) old new (raw_text kind payload) took (unlaid rules past kind payload short none)
 
@@ -75,14 +75,14 @@ unlaid_in rules past kind payload old new short none took = none_from_front (NoF
 pub record Laid (kind : ℕ) (payload : List ℕ) (received : Received) : Type 0 where
   pub event : Event
   pub lays_out : event_at context_at kind payload ≡ Some event
-  pub is : received ≡ heard context_in event
+  pub is : received ≡ map_item context_in event
 
-laid_by : (o : Option Event) (kind : ℕ) (payload : List ℕ) (received : Received) → event_at context_at kind payload ≡ o → Some received ≡ option_map (heard context_in) o → Laid kind payload received
+laid_by : (o : Option Event) (kind : ℕ) (payload : List ℕ) (received : Received) → event_at context_at kind payload ≡ o → Some received ≡ option_map (map_item context_in) o → Laid kind payload received
 laid_by None kind payload received is h = absurd cc
 laid_by (Some e) kind payload received is h = record { event = e; lays_out = is; is = cc }
 
 pub laid : (kind : ℕ) (payload : List ℕ) (received : Received) → Some received ≡ event_at item_at kind payload → Laid kind payload received
-laid kind payload received h = laid_by (event_at context_at kind payload) kind payload received refl (h ∙ event_at-heard context_in context_at kind payload)
+laid kind payload received h = laid_by (event_at context_at kind payload) kind payload received refl (h ∙ event_at-map_item context_in context_at kind payload)
 
 -- ---- what was read
 

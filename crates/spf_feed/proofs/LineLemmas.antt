@@ -16,11 +16,11 @@ hex_list_made {X} shown x xs before first all is then =
     let rest = flat_map (λ (y : X). after_comma (shown y)) xs in
     then ∙ ap (λ l. l ++ rest) is ∙ append_assoc before (encode_lower (shown x)) rest
 
--- a place that is out of range shows nothing
-pub nothing_shown : {X : Type 0} (shown : X → List ℕ) (xs : List X) (place : ℕ) (before : List ℕ)
-    → slice_get xs place ≡ None → before ≡ before ++ encode_lower (shown_at shown xs place)
+-- an index that is out of range shows nothing
+pub nothing_shown : {X : Type 0} (shown : X → List ℕ) (xs : List X) (index : ℕ) (before : List ℕ)
+    → slice_get xs index ≡ None → before ≡ before ++ encode_lower (shown_at shown xs index)
 unfolding encode_with
-nothing_shown {X} shown xs place before none =
+nothing_shown {X} shown xs index before none =
     sym (append-nil before) ∙ ap (λ (o : Option X). before ++ encode_lower (option_map_or shown o [])) (sym none)
 
 -- the reason of a withdrawal with its message

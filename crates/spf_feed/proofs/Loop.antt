@@ -5,14 +5,14 @@ use Rattle.std.specs.Option.{option_or}
 use Rattle.std.specs.Cmp.{IsEquivalence}
 use Rattle.std.specs.Io.KnownBytes.{Consumes, IsAtEnd, Appends}
 use Rattle.std.proofs.lemmas.Bool.{ltb-true, ltb-false}
-use Rattle.spf_view.specs.Views.{Waiting, outcome_with, outcome, outcomes, last_moment, view_of, revision_of, has_begun}
+use Rattle.spf_view.specs.Views.{Waiting, outcome_with, outcome, outcomes, last_moment, view_of, revision_of, has_synced}
 use Rattle.spf_view.specs.Steps.{step_in, step_with}
 use Rattle.spf_view.specs.Standing.{Kept, is_change, shown_by, raised}
 use Rattle.spf_view.specs.Sessions.{NoFrameAt, Told, Grows, Followed, Whole, OutOfMemory, ReadFault, WriteFault, TooLong, BadFrame, Refused, NeverSynced}
 use Rattle.spf_view.specs.Keeping.{kept_with_any, IsAt}
 use Rattle.spf_view.proofs.FollowLemmas.{SoFar, begins, grows_all, IsNext, followed_end, followed_long, followed_bad, followed_fault, followed_no_frame, followed_refused, followed_free, followed_closed, goes_on, AddsAll}
 use Rattle.spf_view.proofs.SessionLemmas.{length-onto}
-use Rattle.spf_view.proofs.KeepingLemmas.{at_start, begun_at, moment_at, outcome_at, revision_at, view_at, waiting_at, at_more}
+use Rattle.spf_view.proofs.KeepingLemmas.{at_start, synced_at, moment_at, outcome_at, revision_at, view_at, waiting_at, at_more}
 use Rattle.spf_feed.specs.declared.follow_error.FollowError.{FollowError}
 use Rattle.spf_feed.specs.declared.follow_error.FollowError.TheVariants as answers
 use Rattle.spf_feed.specs.declared.frame.Phase.{Phase}
@@ -23,34 +23,34 @@ use Rattle.spf_feed.specs.declared.turn.Terminal.{Terminal}
 use Rattle.spf_feed.specs.declared.turn.Terminal.TheVariants as terminal
 use Rattle.spf_feed.specs.declared.event.SessionEvent.TheVariants as events
 use Rattle.spf_feed.specs.declared.following.Change.TheVariants as change
-use Rattle.spf_feed.specs.Events.{closes, heard}
+use Rattle.spf_feed.specs.Events.{closes, map_item}
 use Rattle.spf_feed.specs.Following.{answer_to, is_changed, IsEventRead, TurnTaken}
 use Rattle.spf_feed.specs.Items.{Event, Received, Rules, subject, subject_by, context_in, moment_of}
 use Rattle.spf_feed.specs.Received.{received_ask, received_refusal, received_outcome, received_records, received_moment, received_close}
 use Rattle.spf_feed.specs.Turns.{IsTurn}
 use Rattle.spf_feed.specs.declared.turn.Turn.{Turn}
 use Rattle.spf_feed.specs.Following.{IsLineOf, IsShownAfter}
-use Rattle.spf_feed.specs.Numbered.{LineView, Shows}
+use Rattle.spf_feed.specs.Numbered.{LineView, ShowsKept}
 use Rattle.spf_feed.specs.Run.{asked_by, ask_of, refusal_by, records_by, stream, outputs, end_for}
 use Rattle.spf_feed.specs.Shown.{shown_text}
 use Rattle.spf_feed.specs.Steps.{Material, PlainStep, same_material}
-use Rattle.spf_feed.proofs.TurnLemmas.{asked-heard, moment-heard, closes-heard}
+use Rattle.spf_feed.proofs.TurnLemmas.{asked-map_item, moment-map_item, closes-map_item}
 use Rattle.spf_feed.proofs.Alike.{material_equiv}
 use Rattle.spf_feed.proofs.Turned.{turn_at, IsThrough, went, IsRefused, IsStopped, ended_by, changes_any}
 use Rattle.spf_feed.proofs.HandLemmas.{none_since}
 use Rattle.spf_feed.proofs.SeenShown.{waiting_text, shown_seen}
 
-pub record LoopAt (rules : Rules) (most : ℕ) (left now : Option (List ℕ)) (old cur : Told PlainStep MetricsRecord) (count : ℕ) (kept : Option (Kept Material Denial)) (moment : Option ℤ) (phase : Phase) (line : LineView) : Type 0 where
+pub record LoopAt (rules : Rules) (max_frames : ℕ) (left now : Option (List ℕ)) (old cur : Told PlainStep MetricsRecord) (count : ℕ) (kept : Option (Kept Material Denial)) (moment : Option ℤ) (phase : Phase) (line : LineView) : Type 0 where
   pub past : List Event
-  pub so_far : SoFar (stream rules) (outputs rules) most left now old cur past count
+  pub so_far : SoFar (stream rules) (outputs rules) max_frames left now old cur past count
   pub at : IsAt (subject rules) past moment kept
   pub asks : ask_of context_in rules past ≡ phase
   pub line_is : IsLineOf line kept moment
 
-pub loop_begins : (rules : Rules) (most : ℕ) (left : Option (List ℕ)) (old : Told PlainStep MetricsRecord) (line : LineView) → line.text ≡ shown_text Waiting 0 None → LoopAt rules most left left old old 0 None None phases.Client line
-loop_begins rules most left old line is = record {
+pub loop_begins : (rules : Rules) (max_frames : ℕ) (left : Option (List ℕ)) (old : Told PlainStep MetricsRecord) (line : LineView) → line.text ≡ shown_text Waiting 0 None → LoopAt rules max_frames left left old old 0 None None phases.Client line
+loop_begins rules max_frames left old line is = record {
   past = [];
-  so_far = begins (stream rules) (outputs rules) most left old;
+  so_far = begins (stream rules) (outputs rules) max_frames left old;
   at = at_start (subject rules);
   asks = refl;
   line_is = is;
@@ -66,29 +66,29 @@ whole_calm : (b : Bool) (n : ℕ) → end_for (cond b (Ok n) (Err answers.NeverS
 whole_calm true n e = cc
 whole_calm false n e = cc
 
-pub exit_end : (rules : Rules) (most : ℕ) (left now after : Option (List ℕ)) (old cur : Told PlainStep MetricsRecord) (count : ℕ) (kept : Option (Kept Material Denial)) (moment : Option ℤ) (phase : Phase) (line : LineView) (r : Result ℕ FollowError)
-    → LoopAt rules most left now old cur count kept moment phase line → Consumes now after [] → IsAtEnd now → r ≡ cond (is_some kept) (Ok count) (Err answers.NeverSynced) → Followed (stream rules) (outputs rules) most left after old cur (end_for r)
-exit_end rules most left now after old cur count kept moment phase line r at took end is =
-    followed_end (stream rules) (outputs rules) most left now after old cur at.past count (end_for r) at.so_far took end
+pub exit_end : (rules : Rules) (max_frames : ℕ) (left now after : Option (List ℕ)) (old cur : Told PlainStep MetricsRecord) (count : ℕ) (kept : Option (Kept Material Denial)) (moment : Option ℤ) (phase : Phase) (line : LineView) (r : Result ℕ FollowError)
+    → LoopAt rules max_frames left now old cur count kept moment phase line → Consumes now after [] → IsAtEnd now → r ≡ cond (is_some kept) (Ok count) (Err answers.NeverSynced) → Followed (stream rules) (outputs rules) max_frames left after old cur (end_for r)
+exit_end rules max_frames left now after old cur count kept moment phase line r at took end is =
+    followed_end (stream rules) (outputs rules) max_frames left now after old cur at.past count (end_for r) at.so_far took end
     (λ e. whole_calm (is_some kept) count (ap end_for (sym is) ∙ e))
-    (ap end_for is ∙ whole_end (is_some kept) count ∙ ap (λ b. cond b (Whole count) NeverSynced) (sym (begun_at (subject rules) at.past moment kept at.at)))
+    (ap end_for is ∙ whole_end (is_some kept) count ∙ ap (λ b. cond b (Whole count) NeverSynced) (sym (synced_at (subject rules) at.past moment kept at.at)))
 
 -- ---- one event more
 
-pub next_of : (rules : Rules) (most : ℕ) (left now after : Option (List ℕ)) (old cur : Told PlainStep MetricsRecord) (count : ℕ) (kept : Option (Kept Material Denial)) (moment : Option ℤ) (phase : Phase) (line : LineView) (received : Received)
-    (at : LoopAt rules most left now old cur count kept moment phase line) (read : IsEventRead rules at.past (ltb count most) now after received) → IsNext (stream rules) most now after at.past count read.event
-next_of rules most left now after old cur count kept moment phase line received at read = record { room = ltb-true count most read.leave; front = read.front; frame = read.frame; took = read.taken }
+pub next_of : (rules : Rules) (max_frames : ℕ) (left now after : Option (List ℕ)) (old cur : Told PlainStep MetricsRecord) (count : ℕ) (kept : Option (Kept Material Denial)) (moment : Option ℤ) (phase : Phase) (line : LineView) (received : Received)
+    (at : LoopAt rules max_frames left now old cur count kept moment phase line) (read : IsEventRead rules at.past (ltb count max_frames) now after received) → IsNext (stream rules) max_frames now after at.past count read.event
+next_of rules max_frames left now after old cur count kept moment phase line received at read = record { room = ltb-true count max_frames read.leave; front = read.front; frame = read.frame; took = read.taken }
 
 -- a refusal
-pub exit_refused : (rules : Rules) (most : ℕ) (left now after : Option (List ℕ)) (old cur new : Told PlainStep MetricsRecord) (count : ℕ) (kept : Option (Kept Material Denial)) (moment : Option ℤ) (phase : Phase) (line : LineView) (e : Event) (x : FollowError)
-    (at : LoopAt rules most left now old cur count kept moment phase line) → IsNext (stream rules) most now after at.past count e → new.held ≡ cur.held → IsRefused rules at.past e cur.steps new.steps cur.records new.records x
-    → Followed (stream rules) (outputs rules) most left after old new (end_for (Err x))
-exit_refused rules most left now after old cur new count kept moment phase line e x at next held refused =
+pub exit_refused : (rules : Rules) (max_frames : ℕ) (left now after : Option (List ℕ)) (old cur new : Told PlainStep MetricsRecord) (count : ℕ) (kept : Option (Kept Material Denial)) (moment : Option ℤ) (phase : Phase) (line : LineView) (e : Event) (x : FollowError)
+    (at : LoopAt rules max_frames left now old cur count kept moment phase line) → IsNext (stream rules) max_frames now after at.past count e → new.held ≡ cur.held → IsRefused rules at.past e cur.steps new.steps cur.records new.records x
+    → Followed (stream rules) (outputs rules) max_frames left after old new (end_for (Err x))
+exit_refused rules max_frames left now after old cur new count kept moment phase line e x at next held refused =
     let same : cur ≡ new = λ i. record { held = sym held i; steps = sym refused.steps_same i; records = sym refused.records_same i } in
     let ends : end_for (Err x) ≡ Refused refused.end = ap (λ a. end_for (Err a)) refused.answer ∙ refused_end refused.end in
-    subst (λ r. Followed (stream rules) (outputs rules) most left after old new r) (sym ends)
-    (subst (λ t. Followed (stream rules) (outputs rules) most left after old t (Refused refused.end)) same
-    (followed_refused (stream rules) (outputs rules) most left now after old cur at.past count e refused.end at.so_far next refused.refused))
+    subst (λ r. Followed (stream rules) (outputs rules) max_frames left after old new r) (sym ends)
+    (subst (λ t. Followed (stream rules) (outputs rules) max_frames left after old t (Refused refused.end)) same
+    (followed_refused (stream rules) (outputs rules) max_frames left now after old cur at.past count e refused.end at.so_far next refused.refused))
   where
     refused_end : (t : Terminal) → end_for (Err (answer_to t)) ≡ Refused t
     refused_end (terminal.Source a) = refl
@@ -97,21 +97,21 @@ exit_refused rules most left now after old cur new count kept moment phase line 
     refused_end terminal.Closed = refl
 
 -- want of memory over a turn
-pub exit_stopped : (rules : Rules) (most : ℕ) (left now after : Option (List ℕ)) (old cur new : Told PlainStep MetricsRecord) (count : ℕ) (kept : Option (Kept Material Denial)) (moment : Option ℤ) (phase : Phase) (line : LineView) (e : Event) (x : FollowError)
-    (at : LoopAt rules most left now old cur count kept moment phase line) → IsNext (stream rules) most now after at.past count e → new.held ≡ cur.held → IsStopped rules at.past e cur.steps new.steps cur.records new.records x
-    → Followed (stream rules) (outputs rules) most left after old new (end_for (Err x))
-exit_stopped rules most left now after old cur new count kept moment phase line e x at next held stopped =
-    subst (λ r. Followed (stream rules) (outputs rules) most left after old new r) (sym (ap (λ a. end_for (Err a)) stopped.answer))
-    (followed_free (stream rules) (outputs rules) most left now after old cur new at.past count e OutOfMemory at.so_far next stopped.none refl (λ is. cc)
+pub exit_stopped : (rules : Rules) (max_frames : ℕ) (left now after : Option (List ℕ)) (old cur new : Told PlainStep MetricsRecord) (count : ℕ) (kept : Option (Kept Material Denial)) (moment : Option ℤ) (phase : Phase) (line : LineView) (e : Event) (x : FollowError)
+    (at : LoopAt rules max_frames left now old cur count kept moment phase line) → IsNext (stream rules) max_frames now after at.past count e → new.held ≡ cur.held → IsStopped rules at.past e cur.steps new.steps cur.records new.records x
+    → Followed (stream rules) (outputs rules) max_frames left after old new (end_for (Err x))
+exit_stopped rules max_frames left now after old cur new count kept moment phase line e x at next held stopped =
+    subst (λ r. Followed (stream rules) (outputs rules) max_frames left after old new r) (sym (ap (λ a. end_for (Err a)) stopped.answer))
+    (followed_free (stream rules) (outputs rules) max_frames left now after old cur new at.past count e OutOfMemory at.so_far next stopped.none refl (λ is. cc)
     (record { line = none_since cur.held new.held ((outputs rules).line at.past e) held; steps = stopped.steps_are; records = stopped.records_are }))
 
 -- what is kept behind the event
 pub kept_behind : (o : IsEquivalence same_material) (rules : Rules) (past : List Event) (moment : Option ℤ) (kept kept' : Option (Kept Material Denial)) (e : Event) → IsAt (subject rules) past moment kept
-    → kept' ≡ kept_with_any same_material kept (step_in rules.limits (outcome (subject rules) e past)) → IsAt (subject rules) (e ∷ past) (option_or (moment_of (heard context_in e)) moment) kept'
+    → kept' ≡ kept_with_any same_material kept (step_in rules.limits (outcome (subject rules) e past)) → IsAt (subject rules) (e ∷ past) (option_or (moment_of (map_item context_in e)) moment) kept'
 kept_behind o rules past moment kept kept' e at is =
     let step : step_in rules.limits (outcome (subject rules) e past) ≡ step_with (subject rules) (is_some kept) moment e = ap (step_in rules.limits) (outcome_at (subject rules) past moment kept e at) in
     let same : kept_with_any same_material kept (step_with (subject rules) (is_some kept) moment e) ≡ kept' = sym (is ∙ ap (kept_with_any same_material kept) step) in
-    let when : option_or (moment_of e) moment ≡ option_or (moment_of (heard context_in e)) moment = ap (λ m. option_or m moment) (moment-heard context_in e) in
+    let when : option_or (moment_of e) moment ≡ option_or (moment_of (map_item context_in e)) moment = ap (λ m. option_or m moment) (moment-map_item context_in e) in
     subst (λ m. IsAt (subject rules) (e ∷ past) m kept') when
     (subst (λ k. IsAt (subject rules) (e ∷ past) (option_or (moment_of e) moment) k) same (at_more (subject rules) o past e moment kept at))
 
@@ -135,9 +135,9 @@ line_behind None (Some x) None line line' moment now changed is k c shown = absu
 line_behind None (Some x) (Some step) line line' moment now changed is k c shown = shown moment (λ e. absurd cc)
 line_behind (Some k0) (Some x) None line line' moment now changed is k c shown =
     let same : k0 ≡ x = cc in
-    shown moment (λ e. subst (λ y. Shows y moment line) same is)
+    shown moment (λ e. subst (λ y. ShowsKept y moment line) same is)
 line_behind (Some k0) (Some x) (Some step) line line' moment now changed is k c shown =
-    shown moment (λ e. subst (λ y. Shows y moment line) (unchanged k0 x step (is_change same_material k0.view step) (stays (is_change same_material k0.view step) (sym c ∙ e)) k) is)
+    shown moment (λ e. subst (λ y. ShowsKept y moment line) (unchanged k0 x step (is_change same_material k0.view step) (stays (is_change same_material k0.view step) (sym c ∙ e)) k) is)
 
 -- the line is that of the view that the events make visible
 line_seen : (o : IsEquivalence same_material) (rules : Rules) (past : List Event) (now : Option ℤ) (kept : Option (Kept Material Denial)) (line : LineView) → IsAt (subject rules) past now kept → IsLineOf line kept now
@@ -156,12 +156,12 @@ pub record IsLined (rules : Rules) (past : List Event) (e : Event) (count : ℕ)
   pub line_is : IsLineOf line kept now
   pub text : decimal (count + 1) ++ line.text ≡ (outputs rules).line past e
 
-pub lined : (o : IsEquivalence same_material) (rules : Rules) (most : ℕ) (left before : Option (List ℕ)) (old cur : Told PlainStep MetricsRecord) (count : ℕ) (kept kept' : Option (Kept Material Denial)) (moment : Option ℤ) (phase : Phase) (line line' : LineView)
-    (e : Event) (steps steps' : Option (List PlainStep)) (recorded recorded' : Option (List MetricsRecord)) (changed : Bool) (at : LoopAt rules most left before old cur count kept moment phase line)
-    → IsThrough rules at.past e kept kept' steps steps' recorded recorded' changed → IsShownAfter line line' kept' changed (option_or (moment_of (heard context_in e)) moment)
-    → IsLined rules at.past e count (option_or (moment_of (heard context_in e)) moment) kept' line'
-lined o rules most left before old cur count kept kept' moment phase line line' e steps steps' recorded recorded' changed at through shown =
-    let now = option_or (moment_of (heard context_in e)) moment in
+pub lined : (o : IsEquivalence same_material) (rules : Rules) (max_frames : ℕ) (left before : Option (List ℕ)) (old cur : Told PlainStep MetricsRecord) (count : ℕ) (kept kept' : Option (Kept Material Denial)) (moment : Option ℤ) (phase : Phase) (line line' : LineView)
+    (e : Event) (steps steps' : Option (List PlainStep)) (recorded recorded' : Option (List MetricsRecord)) (changed : Bool) (at : LoopAt rules max_frames left before old cur count kept moment phase line)
+    → IsThrough rules at.past e kept kept' steps steps' recorded recorded' changed → IsShownAfter line line' kept' changed (option_or (moment_of (map_item context_in e)) moment)
+    → IsLined rules at.past e count (option_or (moment_of (map_item context_in e)) moment) kept' line'
+lined o rules max_frames left before old cur count kept kept' moment phase line line' e steps steps' recorded recorded' changed at through shown =
+    let now = option_or (moment_of (map_item context_in e)) moment in
     let behind = kept_behind o rules at.past moment kept kept' e at.at through.kept_is in
     let is = line_behind kept kept' (step_in rules.limits (outcome (subject rules) e at.past)) line line' moment now changed at.line_is through.kept_is through.changed shown in
     let number : count + 1 ≡ length at.past + 1 = omega (arith, length-onto [] at.so_far.es, ap length at.so_far.history, at.so_far.count_is) in
@@ -174,11 +174,11 @@ lined o rules most left before old cur count kept kept' moment phase line line' 
 -- ---- the exits behind a turn
 
 -- want of memory over the line
-pub exit_no_line : (rules : Rules) (most : ℕ) (left now after : Option (List ℕ)) (old cur new : Told PlainStep MetricsRecord) (count : ℕ) (kept kept' : Option (Kept Material Denial)) (moment : Option ℤ) (phase : Phase) (line : LineView) (e : Event) (b : Bool)
-    (at : LoopAt rules most left now old cur count kept moment phase line) → IsNext (stream rules) most now after at.past count e → new.held ≡ cur.held → IsThrough rules at.past e kept kept' cur.steps new.steps cur.records new.records b
-    → Followed (stream rules) (outputs rules) most left after old new OutOfMemory
-exit_no_line rules most left now after old cur new count kept kept' moment phase line e b at next held through =
-    followed_free (stream rules) (outputs rules) most left now after old cur new at.past count e OutOfMemory at.so_far next through.none refl (λ is. cc) (record {
+pub exit_no_line : (rules : Rules) (max_frames : ℕ) (left now after : Option (List ℕ)) (old cur new : Told PlainStep MetricsRecord) (count : ℕ) (kept kept' : Option (Kept Material Denial)) (moment : Option ℤ) (phase : Phase) (line : LineView) (e : Event) (b : Bool)
+    (at : LoopAt rules max_frames left now old cur count kept moment phase line) → IsNext (stream rules) max_frames now after at.past count e → new.held ≡ cur.held → IsThrough rules at.past e kept kept' cur.steps new.steps cur.records new.records b
+    → Followed (stream rules) (outputs rules) max_frames left after old new OutOfMemory
+exit_no_line rules max_frames left now after old cur new count kept kept' moment phase line e b at next held through =
+    followed_free (stream rules) (outputs rules) max_frames left now after old cur new at.past count e OutOfMemory at.so_far next through.none refl (λ is. cc) (record {
       line = none_since cur.held new.held ((outputs rules).line at.past e) held;
       steps = grows_all cur.steps new.steps ((outputs rules).steps at.past e) true through.steps_are;
       records = grows_all cur.records new.records ((outputs rules).records at.past e) true through.records_are;
@@ -190,11 +190,11 @@ grows_of (Some old) None more h = absurd h
 grows_of (Some old) (Some new) more h = h
 
 -- a fault of the sink
-pub exit_unput : (rules : Rules) (most : ℕ) (left now after : Option (List ℕ)) (old cur new : Told PlainStep MetricsRecord) (count : ℕ) (kept kept' : Option (Kept Material Denial)) (moment moment' : Option ℤ) (phase : Phase) (line line' : LineView) (e : Event) (b : Bool) (n : ℕ)
-    (at : LoopAt rules most left now old cur count kept moment phase line) → IsNext (stream rules) most now after at.past count e → IsThrough rules at.past e kept kept' cur.steps new.steps cur.records new.records b
-    → IsLined rules at.past e count moment' kept' line' → Appends cur.held new.held (take n (decimal (count + 1) ++ line'.text)) → Followed (stream rules) (outputs rules) most left after old new WriteFault
-exit_unput rules most left now after old cur new count kept kept' moment moment' phase line line' e b n at next through lined put =
-    followed_free (stream rules) (outputs rules) most left now after old cur new at.past count e WriteFault at.so_far next through.none refl (λ is. cc) (record {
+pub exit_unput : (rules : Rules) (max_frames : ℕ) (left now after : Option (List ℕ)) (old cur new : Told PlainStep MetricsRecord) (count : ℕ) (kept kept' : Option (Kept Material Denial)) (moment moment' : Option ℤ) (phase : Phase) (line line' : LineView) (e : Event) (b : Bool) (n : ℕ)
+    (at : LoopAt rules max_frames left now old cur count kept moment phase line) → IsNext (stream rules) max_frames now after at.past count e → IsThrough rules at.past e kept kept' cur.steps new.steps cur.records new.records b
+    → IsLined rules at.past e count moment' kept' line' → Appends cur.held new.held (take n (decimal (count + 1) ++ line'.text)) → Followed (stream rules) (outputs rules) max_frames left after old new WriteFault
+exit_unput rules max_frames left now after old cur new count kept kept' moment moment' phase line line' e b n at next through lined put =
+    followed_free (stream rules) (outputs rules) max_frames left now after old cur new at.past count e WriteFault at.so_far next through.none refl (λ is. cc) (record {
       line = record { count = n; grows = grows_of cur.held new.held (take n ((outputs rules).line at.past e)) (subst (λ t. Appends cur.held new.held (take n t)) lined.text put); all = λ is. absurd cc };
       steps = grows_all cur.steps new.steps ((outputs rules).steps at.past e) false through.steps_are;
       records = grows_all cur.records new.records ((outputs rules).records at.past e) false through.records_are;
@@ -209,116 +209,116 @@ added rules past e cur new count kept kept' moment line b through lined put = re
 }
 
 -- a close
-pub exit_closed : (rules : Rules) (most : ℕ) (left now after : Option (List ℕ)) (old cur new : Told PlainStep MetricsRecord) (count : ℕ) (kept kept' : Option (Kept Material Denial)) (moment moment' : Option ℤ) (phase : Phase) (line line' : LineView) (e : Event) (b : Bool)
-    (at : LoopAt rules most left now old cur count kept moment phase line) → IsNext (stream rules) most now after at.past count e → IsThrough rules at.past e kept kept' cur.steps new.steps cur.records new.records b
-    → IsLined rules at.past e count moment' kept' line' → Appends cur.held new.held (decimal (count + 1) ++ line'.text) → closes (heard context_in e) ≡ true → Followed (stream rules) (outputs rules) most left after old new (Whole (count + 1))
-exit_closed rules most left now after old cur new count kept kept' moment moment' phase line line' e b at next through lined put closed =
-    followed_closed (stream rules) (outputs rules) most left now after old cur new at.past count e (Whole (count + 1)) at.so_far next through.none (closes-heard context_in e ∙ closed)
+pub exit_closed : (rules : Rules) (max_frames : ℕ) (left now after : Option (List ℕ)) (old cur new : Told PlainStep MetricsRecord) (count : ℕ) (kept kept' : Option (Kept Material Denial)) (moment moment' : Option ℤ) (phase : Phase) (line line' : LineView) (e : Event) (b : Bool)
+    (at : LoopAt rules max_frames left now old cur count kept moment phase line) → IsNext (stream rules) max_frames now after at.past count e → IsThrough rules at.past e kept kept' cur.steps new.steps cur.records new.records b
+    → IsLined rules at.past e count moment' kept' line' → Appends cur.held new.held (decimal (count + 1) ++ line'.text) → closes (map_item context_in e) ≡ true → Followed (stream rules) (outputs rules) max_frames left after old new (Whole (count + 1))
+exit_closed rules max_frames left now after old cur new count kept kept' moment moment' phase line line' e b at next through lined put closed =
+    followed_closed (stream rules) (outputs rules) max_frames left now after old cur new at.past count e (Whole (count + 1)) at.so_far next through.none (closes-map_item context_in e ∙ closed)
     (added rules at.past e cur new count kept kept' moment' line' b through lined put) (λ is. cc)
-    (sym (ap (λ x. cond x (Whole (count + 1)) NeverSynced) (begun_close rules at.past e (closes-heard context_in e ∙ closed) through.none)))
+    (sym (ap (λ x. cond x (Whole (count + 1)) NeverSynced) (synced_close rules at.past e (closes-map_item context_in e ∙ closed) through.none)))
   where
-    begun_past : (rules : Rules) (past : List Event) (b : Bool) → has_begun (subject rules) past ≡ b → cond b None (Some terminal.Closed) ≡ None → b ≡ true
-    begun_past rules past true is none = refl
-    begun_past rules past false is none = absurd cc
+    synced_past : (rules : Rules) (past : List Event) (b : Bool) → has_synced (subject rules) past ≡ b → cond b None (Some terminal.Closed) ≡ None → b ≡ true
+    synced_past rules past true is none = refl
+    synced_past rules past false is none = absurd cc
 
-    begun_close : (rules : Rules) (past : List Event) (e : Event) → closes e ≡ true → (stream rules).refusal past e ≡ None → has_begun (subject rules) (e ∷ past) ≡ true
-    begun_close rules past events.Close is none = begun_past rules past (has_begun (subject rules) past) refl none
-    begun_close rules past events.ClientMade is none = absurd cc
-    begun_close rules past (events.ClientFailed x) is none = absurd cc
-    begun_close rules past events.Connected is none = absurd cc
-    begun_close rules past (events.ConnectStatus x) is none = absurd cc
-    begun_close rules past (events.Item x) is none = absurd cc
-    begun_close rules past (events.ItemStatus x) is none = absurd cc
-    begun_close rules past events.StreamEnd is none = absurd cc
-    begun_close rules past (events.Moment x) is none = absurd cc
+    synced_close : (rules : Rules) (past : List Event) (e : Event) → closes e ≡ true → (stream rules).refusal past e ≡ None → has_synced (subject rules) (e ∷ past) ≡ true
+    synced_close rules past events.Close is none = synced_past rules past (has_synced (subject rules) past) refl none
+    synced_close rules past events.ClientMade is none = absurd cc
+    synced_close rules past (events.ClientFailed x) is none = absurd cc
+    synced_close rules past events.Connected is none = absurd cc
+    synced_close rules past (events.ConnectStatus x) is none = absurd cc
+    synced_close rules past (events.Item x) is none = absurd cc
+    synced_close rules past (events.ItemStatus x) is none = absurd cc
+    synced_close rules past events.StreamEnd is none = absurd cc
+    synced_close rules past (events.Moment x) is none = absurd cc
 
 -- on to the next event
-pub loop_goes : (rules : Rules) (most : ℕ) (left now after : Option (List ℕ)) (old cur new : Told PlainStep MetricsRecord) (count : ℕ) (kept kept' : Option (Kept Material Denial)) (moment moment' : Option ℤ) (phase phase' : Phase) (line line' : LineView) (e : Event) (b : Bool)
-    (at : LoopAt rules most left now old cur count kept moment phase line) → IsNext (stream rules) most now after at.past count e → IsThrough rules at.past e kept kept' cur.steps new.steps cur.records new.records b
-    → IsLined rules at.past e count moment' kept' line' → Appends cur.held new.held (decimal (count + 1) ++ line'.text) → closes (heard context_in e) ≡ false → phase' ≡ asked_by (λ o. o) phase (is_some kept) (heard context_in e)
-    → LoopAt rules most left after old new (count + 1) kept' moment' phase' line'
-loop_goes rules most left now after old cur new count kept kept' moment moment' phase phase' line line' e b at next through lined put going asks = record {
+pub loop_goes : (rules : Rules) (max_frames : ℕ) (left now after : Option (List ℕ)) (old cur new : Told PlainStep MetricsRecord) (count : ℕ) (kept kept' : Option (Kept Material Denial)) (moment moment' : Option ℤ) (phase phase' : Phase) (line line' : LineView) (e : Event) (b : Bool)
+    (at : LoopAt rules max_frames left now old cur count kept moment phase line) → IsNext (stream rules) max_frames now after at.past count e → IsThrough rules at.past e kept kept' cur.steps new.steps cur.records new.records b
+    → IsLined rules at.past e count moment' kept' line' → Appends cur.held new.held (decimal (count + 1) ++ line'.text) → closes (map_item context_in e) ≡ false → phase' ≡ asked_by (λ o. o) phase (is_some kept) (map_item context_in e)
+    → LoopAt rules max_frames left after old new (count + 1) kept' moment' phase' line'
+loop_goes rules max_frames left now after old cur new count kept kept' moment moment' phase phase' line line' e b at next through lined put going asks = record {
   past = e ∷ at.past;
-  so_far = goes_on (stream rules) (outputs rules) most left now after old cur new at.past count e at.so_far next through.none (closes-heard context_in e ∙ going) (added rules at.past e cur new count kept kept' moment' line' b through lined put);
+  so_far = goes_on (stream rules) (outputs rules) max_frames left now after old cur new at.past count e at.so_far next through.none (closes-map_item context_in e ∙ going) (added rules at.past e cur new count kept kept' moment' line' b through lined put);
   at = lined.at;
-  asks = (λ i. asked_by context_in (at.asks i) (begun_at (subject rules) at.past moment kept at.at i) e) ∙ asked-heard context_in phase (is_some kept) e ∙ sym asks;
+  asks = (λ i. asked_by context_in (at.asks i) (synced_at (subject rules) at.past moment kept at.at i) e) ∙ asked-map_item context_in phase (is_some kept) e ∙ sym asks;
   line_is = lined.line_is;
 }
 
 -- ---- the other exits before an event
 
-pub exit_long : (rules : Rules) (most : ℕ) (left now after : Option (List ℕ)) (old cur : Told PlainStep MetricsRecord) (count : ℕ) (kept : Option (Kept Material Denial)) (moment : Option ℤ) (phase : Phase) (line : LineView) (x : ℕ)
-    → LoopAt rules most left now old cur count kept moment phase line → ltb count most ≡ false → Consumes now after (x ∷ []) → Followed (stream rules) (outputs rules) most left after old cur TooLong
-exit_long rules most left now after old cur count kept moment phase line x at full took = followed_long (stream rules) (outputs rules) most left now after old cur at.past count x at.so_far (ltb-false count most full) took
+pub exit_long : (rules : Rules) (max_frames : ℕ) (left now after : Option (List ℕ)) (old cur : Told PlainStep MetricsRecord) (count : ℕ) (kept : Option (Kept Material Denial)) (moment : Option ℤ) (phase : Phase) (line : LineView) (x : ℕ)
+    → LoopAt rules max_frames left now old cur count kept moment phase line → ltb count max_frames ≡ false → Consumes now after (x ∷ []) → Followed (stream rules) (outputs rules) max_frames left after old cur TooLong
+exit_long rules max_frames left now after old cur count kept moment phase line x at full took = followed_long (stream rules) (outputs rules) max_frames left now after old cur at.past count x at.so_far (ltb-false count max_frames full) took
 
-pub exit_bad : (rules : Rules) (most : ℕ) (left now after : Option (List ℕ)) (old cur : Told PlainStep MetricsRecord) (count : ℕ) (kept : Option (Kept Material Denial)) (moment : Option ℤ) (phase : Phase) (line : LineView) (given : List ℕ)
-    (at : LoopAt rules most left now old cur count kept moment phase line) → ltb count most ≡ true → Consumes now after given → given ≢ [] → IfSome now (NoFrameAt (stream rules) at.past) → Followed (stream rules) (outputs rules) most left after old cur (BadFrame (count + 1))
-exit_bad rules most left now after old cur count kept moment phase line given at room took some none = followed_bad (stream rules) (outputs rules) most left now after old cur at.past count given at.so_far (ltb-true count most room) took some none
+pub exit_bad : (rules : Rules) (max_frames : ℕ) (left now after : Option (List ℕ)) (old cur : Told PlainStep MetricsRecord) (count : ℕ) (kept : Option (Kept Material Denial)) (moment : Option ℤ) (phase : Phase) (line : LineView) (given : List ℕ)
+    (at : LoopAt rules max_frames left now old cur count kept moment phase line) → ltb count max_frames ≡ true → Consumes now after given → given ≢ [] → IfSome now (NoFrameAt (stream rules) at.past) → Followed (stream rules) (outputs rules) max_frames left after old cur (BadFrame (count + 1))
+exit_bad rules max_frames left now after old cur count kept moment phase line given at room took some none = followed_bad (stream rules) (outputs rules) max_frames left now after old cur at.past count given at.so_far (ltb-true count max_frames room) took some none
 
-pub exit_fault : (rules : Rules) (most : ℕ) (left now after : Option (List ℕ)) (old cur : Told PlainStep MetricsRecord) (count : ℕ) (kept : Option (Kept Material Denial)) (moment : Option ℤ) (phase : Phase) (line : LineView) (given : List ℕ)
-    (at : LoopAt rules most left now old cur count kept moment phase line) → Consumes now after given → NoFrameAt (stream rules) at.past given → (ltb count most ≡ false → given ≡ []) → Followed (stream rules) (outputs rules) most left after old cur ReadFault
-exit_fault rules most left now after old cur count kept moment phase line given at took none full = followed_fault (stream rules) (outputs rules) most left now after old cur at.past count given at.so_far took none full
+pub exit_fault : (rules : Rules) (max_frames : ℕ) (left now after : Option (List ℕ)) (old cur : Told PlainStep MetricsRecord) (count : ℕ) (kept : Option (Kept Material Denial)) (moment : Option ℤ) (phase : Phase) (line : LineView) (given : List ℕ)
+    (at : LoopAt rules max_frames left now old cur count kept moment phase line) → Consumes now after given → NoFrameAt (stream rules) at.past given → (ltb count max_frames ≡ false → given ≡ []) → Followed (stream rules) (outputs rules) max_frames left after old cur ReadFault
+exit_fault rules max_frames left now after old cur count kept moment phase line given at took none full = followed_fault (stream rules) (outputs rules) max_frames left now after old cur at.past count given at.so_far took none full
 
-pub exit_no_frame : (rules : Rules) (most : ℕ) (left now after : Option (List ℕ)) (old cur : Told PlainStep MetricsRecord) (count : ℕ) (kept : Option (Kept Material Denial)) (moment : Option ℤ) (phase : Phase) (line : LineView) (given : List ℕ)
-    → LoopAt rules most left now old cur count kept moment phase line → ltb count most ≡ true → Consumes now after given → Followed (stream rules) (outputs rules) most left after old cur OutOfMemory
-exit_no_frame rules most left now after old cur count kept moment phase line given at room took = followed_no_frame (stream rules) (outputs rules) most left now after old cur at.past count given at.so_far (ltb-true count most room) took
+pub exit_no_frame : (rules : Rules) (max_frames : ℕ) (left now after : Option (List ℕ)) (old cur : Told PlainStep MetricsRecord) (count : ℕ) (kept : Option (Kept Material Denial)) (moment : Option ℤ) (phase : Phase) (line : LineView) (given : List ℕ)
+    → LoopAt rules max_frames left now old cur count kept moment phase line → ltb count max_frames ≡ true → Consumes now after given → Followed (stream rules) (outputs rules) max_frames left after old cur OutOfMemory
+exit_no_frame rules max_frames left now after old cur count kept moment phase line given at room took = followed_no_frame (stream rules) (outputs rules) max_frames left now after old cur at.past count given at.so_far (ltb-true count max_frames room) took
 
 -- ---- a turn, as the loop has it
 
-received_turn : (rules : Rules) (kept : Option (Kept Material Denial)) (moment : Option ℤ) (begun : Bool) (received b : Received) (turn : Turn) → begun ≡ is_some kept → received ≡ b
-    → IsTurn (received_refusal rules.deadline begun received) (received_outcome rules begun moment received) (received_records begun rules.limits received) turn
+received_turn : (rules : Rules) (kept : Option (Kept Material Denial)) (moment : Option ℤ) (synced : Bool) (received b : Received) (turn : Turn) → synced ≡ is_some kept → received ≡ b
+    → IsTurn (received_refusal rules.deadline synced received) (received_outcome rules synced moment received) (received_records synced rules.limits received) turn
     → IsTurn (refusal_by rules.deadline (is_some kept) b) (outcome_with (subject_by (λ o. o) rules) (is_some kept) moment b) (records_by (λ o. o) (is_some kept) rules.limits b) turn
-received_turn rules kept moment begun received b turn began same h =
+received_turn rules kept moment synced received b turn began same h =
     subst (λ r. IsTurn (refusal_by rules.deadline (is_some kept) r) (outcome_with (subject_by (λ o. o) rules) (is_some kept) moment r) (records_by (λ o. o) (is_some kept) rules.limits r) turn) same
     (subst (λ x. IsTurn (received_refusal rules.deadline x received) (received_outcome rules x moment received) (received_records x rules.limits received) turn) began h)
 
 -- the turn that was taken went through
-pub went_through : (rules : Rules) (most : ℕ) (left before after : Option (List ℕ)) (old cur : Told PlainStep MetricsRecord) (count : ℕ) (kept kept' : Option (Kept Material Denial)) (moment : Option ℤ) (phase : Phase) (line : LineView) (allowed : Bool) (received : Received)
-    (steps' : Option (List PlainStep)) (recorded' : Option (List MetricsRecord)) (b begun : Bool) (turn : Turn) (at : LoopAt rules most left before old cur count kept moment phase line) (read : IsEventRead rules at.past allowed before after received)
-    → begun ≡ is_some kept → IsTurn (received_refusal rules.deadline begun received) (received_outcome rules begun moment received) (received_records begun rules.limits received) turn
+pub went_through : (rules : Rules) (max_frames : ℕ) (left before after : Option (List ℕ)) (old cur : Told PlainStep MetricsRecord) (count : ℕ) (kept kept' : Option (Kept Material Denial)) (moment : Option ℤ) (phase : Phase) (line : LineView) (allowed : Bool) (received : Received)
+    (steps' : Option (List PlainStep)) (recorded' : Option (List MetricsRecord)) (b synced : Bool) (turn : Turn) (at : LoopAt rules max_frames left before old cur count kept moment phase line) (read : IsEventRead rules at.past allowed before after received)
+    → synced ≡ is_some kept → IsTurn (received_refusal rules.deadline synced received) (received_outcome rules synced moment received) (received_records synced rules.limits received) turn
     → TurnTaken rules.limits turn kept kept' cur.steps steps' cur.records recorded' (Ok b) → IsThrough rules at.past read.event kept kept' cur.steps steps' cur.records recorded' b
-went_through rules most left before after old cur count kept kept' moment phase line allowed received steps' recorded' b begun turn at read began is taken =
+went_through rules max_frames left before after old cur count kept kept' moment phase line allowed received steps' recorded' b synced turn at read began is taken =
     went material_equiv rules at.past moment read.event kept kept' cur.steps steps' cur.records recorded' b turn at.at
-    (turn_at rules at.past moment kept read.event turn at.at (received_turn rules kept moment begun received (heard context_in read.event) turn began read.is is)) taken
+    (turn_at rules at.past moment kept read.event turn at.at (received_turn rules kept moment synced received (map_item context_in read.event) turn began read.is is)) taken
 
 -- the turn that was taken ends the session
-pub exit_turn : (rules : Rules) (most : ℕ) (left before after : Option (List ℕ)) (old cur new : Told PlainStep MetricsRecord) (count : ℕ) (kept kept' : Option (Kept Material Denial)) (moment : Option ℤ) (phase : Phase) (line : LineView) (allowed : Bool) (received : Received)
-    (x : FollowError) (begun : Bool) (turn : Turn) (at : LoopAt rules most left before old cur count kept moment phase line) (read : IsEventRead rules at.past allowed before after received) → IsNext (stream rules) most before after at.past count read.event
-    → begun ≡ is_some kept → IsTurn (received_refusal rules.deadline begun received) (received_outcome rules begun moment received) (received_records begun rules.limits received) turn
-    → new.held ≡ cur.held → TurnTaken rules.limits turn kept kept' cur.steps new.steps cur.records new.records (Err x) → Followed (stream rules) (outputs rules) most left after old new (end_for (Err x))
-exit_turn rules most left before after old cur new count kept kept' moment phase line allowed received x begun turn at read next began is held taken =
+pub exit_turn : (rules : Rules) (max_frames : ℕ) (left before after : Option (List ℕ)) (old cur new : Told PlainStep MetricsRecord) (count : ℕ) (kept kept' : Option (Kept Material Denial)) (moment : Option ℤ) (phase : Phase) (line : LineView) (allowed : Bool) (received : Received)
+    (x : FollowError) (synced : Bool) (turn : Turn) (at : LoopAt rules max_frames left before old cur count kept moment phase line) (read : IsEventRead rules at.past allowed before after received) → IsNext (stream rules) max_frames before after at.past count read.event
+    → synced ≡ is_some kept → IsTurn (received_refusal rules.deadline synced received) (received_outcome rules synced moment received) (received_records synced rules.limits received) turn
+    → new.held ≡ cur.held → TurnTaken rules.limits turn kept kept' cur.steps new.steps cur.records new.records (Err x) → Followed (stream rules) (outputs rules) max_frames left after old new (end_for (Err x))
+exit_turn rules max_frames left before after old cur new count kept kept' moment phase line allowed received x synced turn at read next began is held taken =
     by_cases (ended_by material_equiv rules at.past moment read.event kept kept' cur.steps new.steps cur.records new.records x turn at.at
-    (turn_at rules at.past moment kept read.event turn at.at (received_turn rules kept moment begun received (heard context_in read.event) turn began read.is is)) taken)
+    (turn_at rules at.past moment kept read.event turn at.at (received_turn rules kept moment synced received (map_item context_in read.event) turn began read.is is)) taken)
   where
-    by_cases : IsRefused rules at.past read.event cur.steps new.steps cur.records new.records x ⊎ IsStopped rules at.past read.event cur.steps new.steps cur.records new.records x → Followed (stream rules) (outputs rules) most left after old new (end_for (Err x))
-    by_cases (inl refused) = exit_refused rules most left before after old cur new count kept moment phase line read.event x at next held refused
-    by_cases (inr stopped) = exit_stopped rules most left before after old cur new count kept moment phase line read.event x at next held stopped
+    by_cases : IsRefused rules at.past read.event cur.steps new.steps cur.records new.records x ⊎ IsStopped rules at.past read.event cur.steps new.steps cur.records new.records x → Followed (stream rules) (outputs rules) max_frames left after old new (end_for (Err x))
+    by_cases (inl refused) = exit_refused rules max_frames left before after old cur new count kept moment phase line read.event x at next held refused
+    by_cases (inr stopped) = exit_stopped rules max_frames left before after old cur new count kept moment phase line read.event x at next held stopped
 
 -- the line behind a turn that went through
-pub lined_on : (rules : Rules) (most : ℕ) (left before after : Option (List ℕ)) (old cur : Told PlainStep MetricsRecord) (count : ℕ) (kept kept' : Option (Kept Material Denial)) (moment moment' : Option ℤ) (phase : Phase) (line line' : LineView) (allowed : Bool) (received : Received)
-    (steps' : Option (List PlainStep)) (recorded' : Option (List MetricsRecord)) (b : Bool) (at : LoopAt rules most left before old cur count kept moment phase line) (read : IsEventRead rules at.past allowed before after received)
+pub lined_on : (rules : Rules) (max_frames : ℕ) (left before after : Option (List ℕ)) (old cur : Told PlainStep MetricsRecord) (count : ℕ) (kept kept' : Option (Kept Material Denial)) (moment moment' : Option ℤ) (phase : Phase) (line line' : LineView) (allowed : Bool) (received : Received)
+    (steps' : Option (List PlainStep)) (recorded' : Option (List MetricsRecord)) (b : Bool) (at : LoopAt rules max_frames left before old cur count kept moment phase line) (read : IsEventRead rules at.past allowed before after received)
     → IsThrough rules at.past read.event kept kept' cur.steps steps' cur.records recorded' b → moment' ≡ option_or (received_moment received) moment → IsShownAfter line line' kept' b moment' → IsLined rules at.past read.event count moment' kept' line'
-lined_on rules most left before after old cur count kept kept' moment moment' phase line line' allowed received steps' recorded' b at read through is shown =
-    let same : moment' ≡ option_or (moment_of (heard context_in read.event)) moment = is ∙ ap (λ r. option_or (moment_of r) moment) read.is in
+lined_on rules max_frames left before after old cur count kept kept' moment moment' phase line line' allowed received steps' recorded' b at read through is shown =
+    let same : moment' ≡ option_or (moment_of (map_item context_in read.event)) moment = is ∙ ap (λ r. option_or (moment_of r) moment) read.is in
     subst (λ m. IsLined rules at.past read.event count m kept' line') (sym same)
-    (lined material_equiv rules most left before old cur count kept kept' moment phase line line' read.event cur.steps steps' cur.records recorded' b at through (subst (IsShownAfter line line' kept' b) same shown))
+    (lined material_equiv rules max_frames left before old cur count kept kept' moment phase line line' read.event cur.steps steps' cur.records recorded' b at through (subst (IsShownAfter line line' kept' b) same shown))
 
 -- the same line
 line_same : (a b : LineView) → b.text ≡ a.text → b.shows_choice ≡ a.shows_choice → a ≡ b
 line_same a b text choice = λ i. record { text = sym text i; shows_choice = sym choice i }
 
 -- on to the next event, with the line that was put
-pub loop_on : (rules : Rules) (most : ℕ) (left now after : Option (List ℕ)) (old cur new : Told PlainStep MetricsRecord) (count : ℕ) (kept kept' : Option (Kept Material Denial)) (moment moment' : Option ℤ) (phase phase' : Phase) (line line' put_line : LineView) (b begun : Bool) (received : Received)
-    (at : LoopAt rules most left now old cur count kept moment phase line) (read : IsEventRead rules at.past (ltb count most) now after received) → IsThrough rules at.past read.event kept kept' cur.steps new.steps cur.records new.records b
-    → IsLined rules at.past read.event count moment' kept' line' → Appends cur.held new.held (decimal (count + 1) ++ line'.text) → received_close received ≡ false → begun ≡ is_some kept → phase' ≡ received_ask phase begun received
-    → put_line.text ≡ line'.text → put_line.shows_choice ≡ line'.shows_choice → LoopAt rules most left after old new (count + 1) kept' moment' phase' put_line
-loop_on rules most left now after old cur new count kept kept' moment moment' phase phase' line line' put_line b begun received at read through lined put going began asks text choice =
-    subst (λ l. LoopAt rules most left after old new (count + 1) kept' moment' phase' l) (line_same line' put_line text choice)
-    (loop_goes rules most left now after old cur new count kept kept' moment moment' phase phase' line line' read.event b at (next_of rules most left now after old cur count kept moment phase line received at read) through lined put
+pub loop_on : (rules : Rules) (max_frames : ℕ) (left now after : Option (List ℕ)) (old cur new : Told PlainStep MetricsRecord) (count : ℕ) (kept kept' : Option (Kept Material Denial)) (moment moment' : Option ℤ) (phase phase' : Phase) (line line' put_line : LineView) (b synced : Bool) (received : Received)
+    (at : LoopAt rules max_frames left now old cur count kept moment phase line) (read : IsEventRead rules at.past (ltb count max_frames) now after received) → IsThrough rules at.past read.event kept kept' cur.steps new.steps cur.records new.records b
+    → IsLined rules at.past read.event count moment' kept' line' → Appends cur.held new.held (decimal (count + 1) ++ line'.text) → received_close received ≡ false → synced ≡ is_some kept → phase' ≡ received_ask phase synced received
+    → put_line.text ≡ line'.text → put_line.shows_choice ≡ line'.shows_choice → LoopAt rules max_frames left after old new (count + 1) kept' moment' phase' put_line
+loop_on rules max_frames left now after old cur new count kept kept' moment moment' phase phase' line line' put_line b synced received at read through lined put going began asks text choice =
+    subst (λ l. LoopAt rules max_frames left after old new (count + 1) kept' moment' phase' l) (line_same line' put_line text choice)
+    (loop_goes rules max_frames left now after old cur new count kept kept' moment moment' phase phase' line line' read.event b at (next_of rules max_frames left now after old cur count kept moment phase line received at read) through lined put
     (ap closes (sym read.is) ∙ going) (asks ∙ ap (λ x. received_ask phase x received) began ∙ ap (received_ask phase (is_some kept)) read.is))
 
-pub exit_close : (rules : Rules) (most : ℕ) (left now after : Option (List ℕ)) (old cur new : Told PlainStep MetricsRecord) (count : ℕ) (kept kept' : Option (Kept Material Denial)) (moment moment' : Option ℤ) (phase : Phase) (line line' : LineView) (b : Bool) (received : Received)
-    (at : LoopAt rules most left now old cur count kept moment phase line) (read : IsEventRead rules at.past (ltb count most) now after received) → IsThrough rules at.past read.event kept kept' cur.steps new.steps cur.records new.records b
-    → IsLined rules at.past read.event count moment' kept' line' → Appends cur.held new.held (decimal (count + 1) ++ line'.text) → received_close received ≡ true → Followed (stream rules) (outputs rules) most left after old new (Whole (count + 1))
-exit_close rules most left now after old cur new count kept kept' moment moment' phase line line' b received at read through lined put closed =
-    exit_closed rules most left now after old cur new count kept kept' moment moment' phase line line' read.event b at (next_of rules most left now after old cur count kept moment phase line received at read) through lined put (ap closes (sym read.is) ∙ closed)
+pub exit_close : (rules : Rules) (max_frames : ℕ) (left now after : Option (List ℕ)) (old cur new : Told PlainStep MetricsRecord) (count : ℕ) (kept kept' : Option (Kept Material Denial)) (moment moment' : Option ℤ) (phase : Phase) (line line' : LineView) (b : Bool) (received : Received)
+    (at : LoopAt rules max_frames left now old cur count kept moment phase line) (read : IsEventRead rules at.past (ltb count max_frames) now after received) → IsThrough rules at.past read.event kept kept' cur.steps new.steps cur.records new.records b
+    → IsLined rules at.past read.event count moment' kept' line' → Appends cur.held new.held (decimal (count + 1) ++ line'.text) → received_close received ≡ true → Followed (stream rules) (outputs rules) max_frames left after old new (Whole (count + 1))
+exit_close rules max_frames left now after old cur new count kept kept' moment moment' phase line line' b received at read through lined put closed =
+    exit_closed rules max_frames left now after old cur new count kept kept' moment moment' phase line line' read.event b at (next_of rules max_frames left now after old cur count kept moment phase line received at read) through lined put (ap closes (sym read.is) ∙ closed)

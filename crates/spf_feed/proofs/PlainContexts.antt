@@ -22,9 +22,9 @@ use Rattle.spf_api.specs.declared.response.BundleEntry.{BundleEntry}
 use Rattle.spf_api.specs.declared.error.WorkloadApiError.{WorkloadApiError}
 use Rattle.spf_api.specs.Errors.{api_of_bundle, api_of_id, api_of_svid}
 use Rattle.spf_api.specs.Parsed.{entries_rule, hint_rule, svid_of_entry, bundle_for, svid_and_bundle_of, named_bundle_of, svids_and_bundles_of, svids_in, bundles_in, parsed_of}
-use Rattle.spf_view.specs.Views.{Subject, Outcome, Accepted, keep_if, brings, has_begun, last_moment, denied_or_passed, outcomes, last_accepted}
+use Rattle.spf_view.specs.Views.{Subject, Outcome, Accepted, keep_if, brings, has_synced, last_moment, denied_or_passed, outcomes, last_accepted}
 use Rattle.spf_feed.specs.declared.event.SessionEvent.TheVariants as events
-use Rattle.spf_feed.specs.Items.{Event, Rules, value_of, context_in, picked, material_of, subject}
+use Rattle.spf_feed.specs.Items.{Event, Rules, value_of, context_in, picked, item_material, subject}
 use Rattle.spf_feed.specs.Material.{Material}
 use Rattle.spf_feed.proofs.Plain.{Plain}
 use Rattle.spf_feed.proofs.PlainNames.{PlainId, bound, as_read, name_plain, svid_plain}
@@ -53,15 +53,15 @@ all_append P (x ∷ xs) ys p q = (p.0, all_append P xs ys p.1 q)
 abbrev pub PlainEntry : List ℕ × Bundle → Type 0
 PlainEntry e = Plain e.0
 
-placed_plain : (o : Ordering) (e : List ℕ × Bundle) (es others : List (List ℕ × Bundle)) (k : List ℕ) (v : Bundle) → PlainEntry e → AllByRecursion PlainEntry es → AllByRecursion PlainEntry others → Plain k
+indexed_plain : (o : Ordering) (e : List ℕ × Bundle) (es others : List (List ℕ × Bundle)) (k : List ℕ) (v : Bundle) → PlainEntry e → AllByRecursion PlainEntry es → AllByRecursion PlainEntry others → Plain k
     → AllByRecursion PlainEntry (match_ordering o ((k, v) ∷ e ∷ es) ((e.0, v) ∷ es) (e ∷ others))
-placed_plain Less e es others k v p ps qs q = (q, (p, ps))
-placed_plain Equal e es others k v p ps qs q = (p, ps)
-placed_plain Greater e es others k v p ps qs q = (p, qs)
+indexed_plain Less e es others k v p ps qs q = (q, (p, ps))
+indexed_plain Equal e es others k v p ps qs q = (p, ps)
+indexed_plain Greater e es others k v p ps qs q = (p, qs)
 
 entry_plain : (es : List (List ℕ × Bundle)) (k : List ℕ) (v : Bundle) → AllByRecursion PlainEntry es → Plain k → AllByRecursion PlainEntry (with_entry es k v)
 entry_plain [] k v ps q = (q, tt)
-entry_plain (e ∷ es) k v ps q = placed_plain (slice_cmp nat_cmp k e.0) e es (with_entry es k v) k v ps.0 ps.1 (entry_plain es k v ps.1 q) q
+entry_plain (e ∷ es) k v ps q = indexed_plain (slice_cmp nat_cmp k e.0) e es (with_entry es k v) k v ps.0 ps.1 (entry_plain es k v ps.1 q) q
 
 entries_plain : (es fs : List (List ℕ × Bundle)) → AllByRecursion PlainEntry es → AllByRecursion PlainEntry fs → AllByRecursion PlainEntry (with_entries es fs)
 entries_plain es [] ps qs = ps
@@ -148,7 +148,7 @@ read_plain : (rules : Rules) (o : Option Context) (material : Material) → ((co
 read_plain rules None material holds h = absurd (cc)
 read_plain rules (Some context) material holds h = let same : picked rules context ≡ material = cc in subst PlainMaterial same (holds context refl)
 
-event_plain : (rules : Rules) (e : Event) (material : Material) → material_of context_in rules e ≡ Some material → PlainMaterial material
+event_plain : (rules : Rules) (e : Event) (material : Material) → item_material context_in rules e ≡ Some material → PlainMaterial material
 event_plain rules (events.Item r) material h = read_plain rules (context_in r) material (context_plain r) h
 event_plain rules events.ClientMade material h = absurd (cc)
 event_plain rules (events.ClientFailed e) material h = absurd (cc)
@@ -171,24 +171,24 @@ if_known : {M : Type 0} (P : M → Type 0) (o : Option M) → ((m : M) → o ≡
 if_known P None known = tt
 if_known P (Some m) known = known m refl
 
-passed_on : {M D : Type 0} (P : M → Type 0) (begun : Bool) (o : Option D) (os : List (Outcome M D)) → IfSome (last_accepted os) P → IfSome (last_accepted (denied_or_passed begun o ∷ os)) P
-passed_on P begun None os p = p
+passed_on : {M D : Type 0} (P : M → Type 0) (synced : Bool) (o : Option D) (os : List (Outcome M D)) → IfSome (last_accepted os) P → IfSome (last_accepted (denied_or_passed synced o ∷ os)) P
+passed_on P synced None os p = p
 passed_on P true (Some d) os p = p
 passed_on P false (Some d) os p = p
 
-one_outcome : {M D : Type 0} (P : M → Type 0) (begun : Bool) (brought : Option M) (denial : Option D) (os : List (Outcome M D)) → IfSome brought P → IfSome (last_accepted os) P
-    → IfSome (last_accepted (option_map_or Accepted brought (denied_or_passed begun denial) ∷ os)) P
-one_outcome P begun None denial os b p = passed_on P begun denial os p
-one_outcome P begun (Some m) denial os b p = b
+one_outcome : {M D : Type 0} (P : M → Type 0) (synced : Bool) (brought : Option M) (denial : Option D) (os : List (Outcome M D)) → IfSome brought P → IfSome (last_accepted os) P
+    → IfSome (last_accepted (option_map_or Accepted brought (denied_or_passed synced denial) ∷ os)) P
+one_outcome P synced None denial os b p = passed_on P synced denial os p
+one_outcome P synced (Some m) denial os b p = b
 
 -- what holds of the material of each event holds of the last accepted one
 last_holds : {E M L D : Type 0} (s : Subject E M L D) (P : M → Type 0) → ((e : E) (m : M) → s.parsed e ≡ Some m → P m) → (events : List E) → IfSome (last_accepted (outcomes s events)) P
 last_holds s P holds [] = tt
 last_holds s P holds (e ∷ events) =
-    let begun = has_begun s events in
+    let synced = has_synced s events in
     let now = last_moment s events in
-    one_outcome P begun (brings s begun now e) (s.denial e) (outcomes s events)
-    (kept_if P (λ m. begun || s.may_begin m now) (keep_if (s.is_within s.limits) (s.parsed e)) (kept_if P (s.is_within s.limits) (s.parsed e) (if_known P (s.parsed e) (holds e))))
+    one_outcome P synced (brings s synced now e) (s.denial e) (outcomes s events)
+    (kept_if P (λ m. synced || s.may_sync m now) (keep_if (s.is_within s.limits) (s.parsed e)) (kept_if P (s.is_within s.limits) (s.parsed e) (if_known P (s.parsed e) (holds e))))
     (last_holds s P holds events)
 
 -- the last accepted material

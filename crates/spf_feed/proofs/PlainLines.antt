@@ -11,7 +11,7 @@ use Rattle.spf_x509.specs.Bag.{in_order}
 use Rattle.spf_x509.specs.Bundle.{Bundle}
 use Rattle.spf_x509.specs.Context.{Context}
 use Rattle.spf_x509.specs.Svid.{Svid}
-use Rattle.spf_view.specs.Views.{View, Waiting, Withdrawn, Permitted, seen, first_denial, last_accepted, last_moment, outcomes, view_of, revision_of}
+use Rattle.spf_view.specs.Views.{View, Waiting, Withdrawn, Permitted, view_from, first_denial, last_accepted, last_moment, outcomes, view_of, revision_of}
 use Rattle.spf_feed.specs.declared.step.Denial.{Denial}
 use Rattle.spf_feed.specs.declared.step.Denial.TheVariants as denial
 use Rattle.spf_feed.specs.Items.{Event, Rules, subject}
@@ -71,14 +71,14 @@ usable_plain (Some svid) (Some now) p = by (int_lt now svid.expiry)
     by true = p
     by false = tt
 
-member_plain : (svids : List Svid) (place : ℕ) → AllByRecursion PlainSvid svids → IfSome (slice_get svids place) PlainSvid
-member_plain [] place ps = tt
+member_plain : (svids : List Svid) (index : ℕ) → AllByRecursion PlainSvid svids → IfSome (slice_get svids index) PlainSvid
+member_plain [] index ps = tt
 member_plain (svid ∷ svids) zero ps = ps.0
-member_plain (svid ∷ svids) (suc place) ps = member_plain svids place ps.1
+member_plain (svid ∷ svids) (suc index) ps = member_plain svids index ps.1
 
 chosen_plain : (svids : List Svid) (choice : Option ℕ) → AllByRecursion PlainSvid svids → IfSome (choice_of svids choice) PlainSvid
 chosen_plain svids None ps = tt
-chosen_plain svids (Some place) ps = member_plain svids place ps
+chosen_plain svids (Some index) ps = member_plain svids index ps
 
 -- ---- a view
 
@@ -87,7 +87,7 @@ denial_plain denial.NoIdentityIssued = refl
 denial_plain (denial.PermissionDenied message) = hex_plain message
 
 -- what is visible of material whose names have no line feed has none
-visible_plain : (accepted : Option Material) (reason : Option Denial) (now : Option ℤ) → IfSome accepted PlainMaterial → Plain (visible_text (seen accepted reason) now)
+visible_plain : (accepted : Option Material) (reason : Option Denial) (now : Option ℤ) → IfSome accepted PlainMaterial → Plain (visible_text (view_from accepted reason) now)
 visible_plain None reason now p = refl
 visible_plain (Some material) (Some reason) now p = denial_plain reason
 visible_plain (Some material) None now p =

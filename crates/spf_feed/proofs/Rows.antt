@@ -77,16 +77,16 @@ unavailable = record { code = code.Unavailable; message = codes "x"; source = No
 abbrev connected : List Received → List Received
 connected past = events.Connected ∷ events.ClientMade ∷ past
 
-abbrev begun : List Received
-begun = connected (events.Moment (pos 999) ∷ [])
+abbrev synced : List Received
+synced = connected (events.Moment (pos 999) ∷ [])
 
 -- ---- what is visible
 
-waiting : behind begun ≡ (Waiting, 0, Some (pos 999))
+waiting : behind synced ≡ (Waiting, 0, Some (pos 999))
 unfolding within
 waiting = refl
 
-first_run : behind (events.Item (Some one) ∷ begun) ≡ (Permitted (first_of one), 0, Some (pos 999))
+first_run : behind (events.Item (Some one) ∷ synced) ≡ (Permitted (first_of one), 0, Some (pos 999))
 unfolding within same_material
 first_run = refl
 
@@ -94,31 +94,31 @@ no_moment_yet : behind (events.Item (Some one) ∷ connected []) ≡ (Waiting, 0
 unfolding within
 no_moment_yet = refl
 
-denial : behind (events.ItemStatus denied ∷ connected (events.Item (Some one) ∷ begun)) ≡ (Withdrawn (denials.PermissionDenied (codes "no")), 1, Some (pos 999))
+denial : behind (events.ItemStatus denied ∷ connected (events.Item (Some one) ∷ synced)) ≡ (Withdrawn (denials.PermissionDenied (codes "no")), 1, Some (pos 999))
 unfolding within same_material
 denial = refl
 
-rejected_restores_nothing : behind (events.Item None ∷ connected (events.ItemStatus denied ∷ connected (events.Item (Some one) ∷ begun))) ≡ (Withdrawn (denials.PermissionDenied (codes "no")), 1, Some (pos 999))
+rejected_restores_nothing : behind (events.Item None ∷ connected (events.ItemStatus denied ∷ connected (events.Item (Some one) ∷ synced))) ≡ (Withdrawn (denials.PermissionDenied (codes "no")), 1, Some (pos 999))
 unfolding within same_material
 rejected_restores_nothing = refl
 
-recovery : behind (events.Item (Some one) ∷ connected (events.ItemStatus denied ∷ connected (events.Item (Some one) ∷ begun))) ≡ (Permitted (first_of one), 2, Some (pos 999))
+recovery : behind (events.Item (Some one) ∷ connected (events.ItemStatus denied ∷ connected (events.Item (Some one) ∷ synced))) ≡ (Permitted (first_of one), 2, Some (pos 999))
 unfolding within same_material
 recovery = refl
 
-unavailable_keeps : behind (events.ItemStatus unavailable ∷ connected (events.Item (Some one) ∷ begun)) ≡ (Permitted (first_of one), 0, Some (pos 999))
+unavailable_keeps : behind (events.ItemStatus unavailable ∷ connected (events.Item (Some one) ∷ synced)) ≡ (Permitted (first_of one), 0, Some (pos 999))
 unfolding within same_material
 unavailable_keeps = refl
 
-client_failure_keeps : behind (events.ClientFailed (fault.Status denied) ∷ events.Item (Some one) ∷ begun) ≡ (Permitted (first_of one), 0, Some (pos 999))
+client_failure_keeps : behind (events.ClientFailed (fault.Status denied) ∷ events.Item (Some one) ∷ synced) ≡ (Permitted (first_of one), 0, Some (pos 999))
 unfolding within same_material
 client_failure_keeps = refl
 
-reshuffled_material : behind (events.Item (Some reshuffled) ∷ events.Item (Some shuffled) ∷ begun) ≡ (Permitted (first_of reshuffled), 0, Some (pos 999))
+reshuffled_material : behind (events.Item (Some reshuffled) ∷ events.Item (Some shuffled) ∷ synced) ≡ (Permitted (first_of reshuffled), 0, Some (pos 999))
 unfolding within same_material id_text
 reshuffled_material = refl
 
-other_material : behind (events.Item (Some shuffled) ∷ events.Item (Some one) ∷ begun) ≡ (Permitted (first_of shuffled), 1, Some (pos 999))
+other_material : behind (events.Item (Some shuffled) ∷ events.Item (Some one) ∷ synced) ≡ (Permitted (first_of shuffled), 1, Some (pos 999))
 unfolding within same_material id_text
 other_material = refl
 
@@ -145,17 +145,17 @@ asks_client = refl
 asks_connect : asked_after (events.ClientMade ∷ []) ≡ phases.Connect
 asks_connect = refl
 
-asks_next : asked_after begun ≡ phases.Next
+asks_next : asked_after synced ≡ phases.Next
 asks_next = refl
 
-moment_keeps_the_ask : asked_after (events.Moment (pos 0) ∷ begun) ≡ phases.Next
+moment_keeps_the_ask : asked_after (events.Moment (pos 0) ∷ synced) ≡ phases.Next
 moment_keeps_the_ask = refl
 
-first_item_asks_client : asked_after (events.Item (Some one) ∷ begun) ≡ phases.Client
+first_item_asks_client : asked_after (events.Item (Some one) ∷ synced) ≡ phases.Client
 unfolding within
 first_item_asks_client = refl
 
-later_item_asks_next : asked_after (events.Item (Some one) ∷ connected (events.Item (Some one) ∷ begun)) ≡ phases.Next
+later_item_asks_next : asked_after (events.Item (Some one) ∷ connected (events.Item (Some one) ∷ synced)) ≡ phases.Next
 unfolding within
 later_item_asks_next = refl
 

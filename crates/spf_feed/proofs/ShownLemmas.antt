@@ -1,4 +1,4 @@
--- The texts of lines: of sorted places, at two moments, and of material that is the same.
+-- The texts of lines: of sorted indices, at two moments, and of material that is the same.
 use Rattle.std.proofs.Common.{◌≡◌, ℕ, ◌+◌, ◌≤◌, Bool, true, false, not, cond, ◌&&◌, List, [], ◌∷◌, ◌++◌, length, map, take, Option, None, Some, refl, sym, ap, ◌∙◌, subst, append_assoc, length-take-le, arith}
 use Rattle.std.specs.Prelude.{ℤ, int_lt, codes, nat_eq, slice_get, is_some, decimal, drop, ◌==◌}
 use Rattle.std.proofs.Math.Bool.{beq}
@@ -27,13 +27,13 @@ use Rattle.spf_x509.proofs.Walk.{indices_in_order}
 use Rattle.spf_feed.specs.declared.step.Denial.{Denial}
 use Rattle.spf_feed.specs.Lines.{after_comma, hex_list, shown_at, choice_text}
 use Rattle.spf_feed.specs.Material.{Material, chosen_of, same_svid, same_choice, entry_same, same_set, same_material}
-use Rattle.spf_feed.specs.Numbered.{LineView, Shows}
+use Rattle.spf_feed.specs.Numbered.{LineView, ShowsKept}
 use Rattle.spf_feed.specs.Prepared.{usable}
 use Rattle.spf_feed.specs.Shown.{sorted_text, entry_text, revocations_text, context_text, visible_text, view_line, shown_text}
-use Rattle.spf_feed.specs.Sorted.{ArePlaced}
+use Rattle.spf_feed.specs.Sorted.{AreIndexed}
 use Rattle.spf_feed.proofs.SameSvids.{svids_same_at}
 
--- ---- values at sorted places
+-- ---- values at sorted indices
 
 flat_map_through : {X Y : Type 0} (h : X → Y) (k : Y → List ℕ) (xs : List X) → flat_map (λ x. k (h x)) xs ≡ flat_map k (map h xs)
 flat_map_through h k [] = refl
@@ -43,23 +43,23 @@ hex_list_through : {X Y : Type 0} (h : X → Y) (g : Y → List ℕ) (xs : List 
 hex_list_through h g [] = refl
 hex_list_through {X} {Y} h g (x ∷ xs) = ap (λ l. encode_lower (g (h x)) ++ l) (flat_map_through h (λ (y : Y). after_comma (g y)) xs)
 
--- what stands at sorted places is shown as the sorted values are
-pub places_text : (xs : List (List ℕ)) (ps : List ℕ) → IsSortedIndices (slice_cmp nat_cmp) xs ps → hex_list (shown_at (λ c. c) xs) ps ≡ sorted_text xs
-places_text xs ps p =
+-- what stands at sorted indices is shown as the sorted values are
+pub indices_text : (xs : List (List ℕ)) (ps : List ℕ) → IsSortedIndices (slice_cmp nat_cmp) xs ps → hex_list (shown_at (λ c. c) xs) ps ≡ sorted_text xs
+indices_text xs ps p =
     let shown : Option (List ℕ) → List ℕ = λ o. option_map_or (λ c. c) o [] in
     hex_list_through (λ (k : ℕ). slice_get xs k) shown ps
     ∙ ap (λ (os : List (Option (List ℕ))). hex_list shown os) (indices_in_order (slice_cmp nat_cmp) nat_list_cmp_total exact_bytes xs ps p)
     ∙ sym (hex_list_through (λ (c : List ℕ). Some c) shown (in_order (slice_cmp nat_cmp) xs))
 
 -- one more trust domain is shown
-pub bundles_more : (all line line' : List ℕ) (d : List ℕ) (b : Bundle) (es iter : List (List ℕ × Bundle)) (order : List ℕ) (rest left : List (List ℕ)) (authorities : List (List ℕ)) (places : List ℕ)
-    → iter ≡ (d, b) ∷ es → left ≡ order ∷ rest → authorities ≡ b.authorities → places ≡ order
-    → ArePlaced iter left → all ≡ line ++ flat_map entry_text iter → line' ≡ line ++ 32 ∷ d ++ 61 ∷ hex_list (shown_at (λ c. c) authorities) places
-    → (all ≡ line' ++ flat_map entry_text es) × ArePlaced es rest
-bundles_more all line line' d b es iter order rest left authorities places iter-is left-is authorities-are places-are placed text made =
-    let p = subst (ArePlaced ((d, b) ∷ es)) left-is (subst (λ (is : List (List ℕ × Bundle)). ArePlaced is left) iter-is placed) in
+pub bundles_more : (all line line' : List ℕ) (d : List ℕ) (b : Bundle) (es iter : List (List ℕ × Bundle)) (order : List ℕ) (rest left : List (List ℕ)) (authorities : List (List ℕ)) (indices : List ℕ)
+    → iter ≡ (d, b) ∷ es → left ≡ order ∷ rest → authorities ≡ b.authorities → indices ≡ order
+    → AreIndexed iter left → all ≡ line ++ flat_map entry_text iter → line' ≡ line ++ 32 ∷ d ++ 61 ∷ hex_list (shown_at (λ c. c) authorities) indices
+    → (all ≡ line' ++ flat_map entry_text es) × AreIndexed es rest
+bundles_more all line line' d b es iter order rest left authorities indices iter-is left-is authorities-are indices-are indexed text made =
+    let p = subst (AreIndexed ((d, b) ∷ es)) left-is (subst (λ (is : List (List ℕ × Bundle)). AreIndexed is left) iter-is indexed) in
     let shown : line' ≡ line ++ entry_text (d, b) =
-    made ∙ (λ i. line ++ 32 ∷ d ++ 61 ∷ hex_list (shown_at (λ c. c) (authorities-are i)) (places-are i)) ∙ ap (λ (t : List ℕ). line ++ 32 ∷ d ++ 61 ∷ t) (places_text b.authorities order p.0)
+    made ∙ (λ i. line ++ 32 ∷ d ++ 61 ∷ hex_list (shown_at (λ c. c) (authorities-are i)) (indices-are i)) ∙ ap (λ (t : List ℕ). line ++ 32 ∷ d ++ 61 ∷ t) (indices_text b.authorities order p.0)
     ∙ append_assoc line (32 ∷ d) (61 ∷ sorted_text b.authorities) in (
       text ∙ ap (λ (is : List (List ℕ × Bundle)). line ++ flat_map entry_text is) iter-is
           ∙ sym (append_assoc line (entry_text (d, b)) (flat_map entry_text es)) ∙ ap (λ (l : List ℕ). l ++ flat_map entry_text es) (sym shown),
@@ -72,7 +72,7 @@ pub crls_made : (crls : List (List ℕ)) (order before mark all : List ℕ) (emp
 crls_made [] order before mark all empty is not_empty p named made = let e : true ≡ false = sym is ∙ not_empty in cc
 crls_made (c ∷ crls) order before mark all empty is not_empty p named made =
     made ∙ ap (λ (l : List ℕ). l ++ hex_list (shown_at (λ x. x) (c ∷ crls)) order) named ∙ append_assoc before (codes " #") (hex_list (shown_at (λ x. x) (c ∷ crls)) order)
-    ∙ ap (λ (t : List ℕ). before ++ (codes " #" ++ t)) (places_text (c ∷ crls) order p)
+    ∙ ap (λ (t : List ℕ). before ++ (codes " #" ++ t)) (indices_text (c ∷ crls) order p)
 
 -- ---- the line of a session, behind the room for its number
 
@@ -128,7 +128,7 @@ tests_agree false false e = refl
 
 -- a line that is not written anew shows the same at a later moment
 pub shown_again : (kept : Kept Material Denial) (before now : Option ℤ) (line : LineView) (b c : Bool) → b ≡ is_some (usable (option_and_then chosen_of (held_in kept.view)) now) → not (beq b c) ≡ false → c ≡ line.shows_choice
-    → Shows kept before line → Shows kept now line
+    → ShowsKept kept before line → ShowsKept kept now line
 shown_again kept before now line b c is agree same s =
     let choice : line.shows_choice ≡ is_some (usable (option_and_then chosen_of (held_in kept.view)) now) = sym same ∙ sym (tests_agree b c agree) ∙ is in
     record { text = s.text ∙ shown_same kept.view kept.revision before now (sym s.choice ∙ choice); choice = choice }

@@ -16,7 +16,7 @@ use Rattle.spf_feed.specs.declared.frame.Phase.{Phase}
 use Rattle.spf_feed.specs.declared.limits.ResourceLimits.{ResourceLimits}
 use Rattle.spf_feed.specs.declared.turn.Turn.{Turn}
 use Rattle.spf_feed.specs.declared.record.MetricsRecord.{MetricsRecord}
-use Rattle.spf_feed.specs.Events.{heard, closes}
+use Rattle.spf_feed.specs.Events.{map_item, closes}
 use Rattle.spf_feed.specs.Items.{Rules, subject_by, moment_of, denial_in}
 use Rattle.spf_feed.specs.Run.{asked_by, rejected, rejected_or_unsupported, refusal_by, terminal_of, records_by}
 use Rattle.spf_feed.specs.Turns.{IsTurn, refusal_by_code, refusal_in, client_refusal_by_code, client_refusal_in}
@@ -77,11 +77,11 @@ passed_before None = refl
 passed_before (Some d) = refl
 
 -- a turn by the reading of a status is one by the status
-pub turn_of_status : (begun : Bool) (answer : WorkloadApiError) (s : Refused) (told : List MetricsRecord) (turn : Turn) → answer ≡ status_reading s
-    → IsTurn (cond begun None (refusal_in answer)) (denied_or_passed begun (denial_in answer)) told turn → IsTurn (cond begun None (rejected_or_unsupported s)) (denied_or_passed begun (denial_in (status_reading s))) told turn
-turn_of_status begun answer s told turn reads h =
-    subst (λ r. IsTurn (cond begun None r) (denied_or_passed begun (denial_in (status_reading s))) told turn) (refusal_of_status s)
-    (subst (λ a. IsTurn (cond begun None (refusal_in a)) (denied_or_passed begun (denial_in a)) told turn) reads h)
+pub turn_of_status : (synced : Bool) (answer : WorkloadApiError) (s : Refused) (told : List MetricsRecord) (turn : Turn) → answer ≡ status_reading s
+    → IsTurn (cond synced None (refusal_in answer)) (denied_or_passed synced (denial_in answer)) told turn → IsTurn (cond synced None (rejected_or_unsupported s)) (denied_or_passed synced (denial_in (status_reading s))) told turn
+turn_of_status synced answer s told turn reads h =
+    subst (λ r. IsTurn (cond synced None r) (denied_or_passed synced (denial_in (status_reading s))) told turn) (refusal_of_status s)
+    (subst (λ a. IsTurn (cond synced None (refusal_in a)) (denied_or_passed synced (denial_in a)) told turn) reads h)
 
 -- ---- a status of the client
 
@@ -133,71 +133,71 @@ client_refusal_of_status s = client_refusal_of_code s.code s.message s.source
 
 -- ---- the same of an event as it is received
 
-pub outcome-heard : {I : Type 0} (read : I → Option Context) (rules : Rules) (begun : Bool) (now : Option ℤ) (e : SessionEvent I) → outcome_with (subject_by read rules) begun now e ≡ outcome_with (subject_by (λ o. o) rules) begun now (heard read e)
-outcome-heard read rules begun now events.ClientMade = refl
-outcome-heard read rules begun now (events.ClientFailed x) = refl
-outcome-heard read rules begun now events.Connected = refl
-outcome-heard read rules begun now (events.ConnectStatus x) = refl
-outcome-heard read rules begun now (events.Item x) = refl
-outcome-heard read rules begun now (events.ItemStatus x) = refl
-outcome-heard read rules begun now events.StreamEnd = refl
-outcome-heard read rules begun now (events.Moment x) = refl
-outcome-heard read rules begun now events.Close = refl
+pub outcome-map_item : {I : Type 0} (read : I → Option Context) (rules : Rules) (synced : Bool) (now : Option ℤ) (e : SessionEvent I) → outcome_with (subject_by read rules) synced now e ≡ outcome_with (subject_by (λ o. o) rules) synced now (map_item read e)
+outcome-map_item read rules synced now events.ClientMade = refl
+outcome-map_item read rules synced now (events.ClientFailed x) = refl
+outcome-map_item read rules synced now events.Connected = refl
+outcome-map_item read rules synced now (events.ConnectStatus x) = refl
+outcome-map_item read rules synced now (events.Item x) = refl
+outcome-map_item read rules synced now (events.ItemStatus x) = refl
+outcome-map_item read rules synced now events.StreamEnd = refl
+outcome-map_item read rules synced now (events.Moment x) = refl
+outcome-map_item read rules synced now events.Close = refl
 
-terminal-heard : {I J : Type 0} (f : I → J) (deadline : Option ℤ) (e : SessionEvent I) → terminal_of deadline e ≡ terminal_of deadline (heard f e)
-terminal-heard f deadline events.ClientMade = refl
-terminal-heard f deadline (events.ClientFailed x) = refl
-terminal-heard f deadline events.Connected = refl
-terminal-heard f deadline (events.ConnectStatus x) = refl
-terminal-heard f deadline (events.Item x) = refl
-terminal-heard f deadline (events.ItemStatus x) = refl
-terminal-heard f deadline events.StreamEnd = refl
-terminal-heard f deadline (events.Moment x) = refl
-terminal-heard f deadline events.Close = refl
+terminal-map_item : {I J : Type 0} (f : I → J) (deadline : Option ℤ) (e : SessionEvent I) → terminal_of deadline e ≡ terminal_of deadline (map_item f e)
+terminal-map_item f deadline events.ClientMade = refl
+terminal-map_item f deadline (events.ClientFailed x) = refl
+terminal-map_item f deadline events.Connected = refl
+terminal-map_item f deadline (events.ConnectStatus x) = refl
+terminal-map_item f deadline (events.Item x) = refl
+terminal-map_item f deadline (events.ItemStatus x) = refl
+terminal-map_item f deadline events.StreamEnd = refl
+terminal-map_item f deadline (events.Moment x) = refl
+terminal-map_item f deadline events.Close = refl
 
-pub refusal-heard : {I J : Type 0} (f : I → J) (deadline : Option ℤ) (begun : Bool) (e : SessionEvent I) → refusal_by deadline begun e ≡ refusal_by deadline begun (heard f e)
-refusal-heard f deadline begun e = ap (λ t. cond begun None t) (terminal-heard f deadline e)
+pub refusal-map_item : {I J : Type 0} (f : I → J) (deadline : Option ℤ) (synced : Bool) (e : SessionEvent I) → refusal_by deadline synced e ≡ refusal_by deadline synced (map_item f e)
+refusal-map_item f deadline synced e = ap (λ t. cond synced None t) (terminal-map_item f deadline e)
 
-pub records-heard : {I : Type 0} (read : I → Option Context) (begun : Bool) (limits : ResourceLimits) (e : SessionEvent I) → records_by read begun limits e ≡ records_by (λ o. o) begun limits (heard read e)
-records-heard read begun limits events.ClientMade = refl
-records-heard read begun limits (events.ClientFailed x) = refl
-records-heard read begun limits events.Connected = refl
-records-heard read begun limits (events.ConnectStatus x) = refl
-records-heard read begun limits (events.Item x) = refl
-records-heard read begun limits (events.ItemStatus x) = refl
-records-heard read begun limits events.StreamEnd = refl
-records-heard read begun limits (events.Moment x) = refl
-records-heard read begun limits events.Close = refl
+pub records-map_item : {I : Type 0} (read : I → Option Context) (synced : Bool) (limits : ResourceLimits) (e : SessionEvent I) → records_by read synced limits e ≡ records_by (λ o. o) synced limits (map_item read e)
+records-map_item read synced limits events.ClientMade = refl
+records-map_item read synced limits (events.ClientFailed x) = refl
+records-map_item read synced limits events.Connected = refl
+records-map_item read synced limits (events.ConnectStatus x) = refl
+records-map_item read synced limits (events.Item x) = refl
+records-map_item read synced limits (events.ItemStatus x) = refl
+records-map_item read synced limits events.StreamEnd = refl
+records-map_item read synced limits (events.Moment x) = refl
+records-map_item read synced limits events.Close = refl
 
-pub asked-heard : {I : Type 0} (read : I → Option Context) (phase : Phase) (begun : Bool) (e : SessionEvent I) → asked_by read phase begun e ≡ asked_by (λ o. o) phase begun (heard read e)
-asked-heard read phase begun events.ClientMade = refl
-asked-heard read phase begun (events.ClientFailed x) = refl
-asked-heard read phase begun events.Connected = refl
-asked-heard read phase begun (events.ConnectStatus x) = refl
-asked-heard read phase begun (events.Item x) = refl
-asked-heard read phase begun (events.ItemStatus x) = refl
-asked-heard read phase begun events.StreamEnd = refl
-asked-heard read phase begun (events.Moment x) = refl
-asked-heard read phase begun events.Close = refl
+pub asked-map_item : {I : Type 0} (read : I → Option Context) (phase : Phase) (synced : Bool) (e : SessionEvent I) → asked_by read phase synced e ≡ asked_by (λ o. o) phase synced (map_item read e)
+asked-map_item read phase synced events.ClientMade = refl
+asked-map_item read phase synced (events.ClientFailed x) = refl
+asked-map_item read phase synced events.Connected = refl
+asked-map_item read phase synced (events.ConnectStatus x) = refl
+asked-map_item read phase synced (events.Item x) = refl
+asked-map_item read phase synced (events.ItemStatus x) = refl
+asked-map_item read phase synced events.StreamEnd = refl
+asked-map_item read phase synced (events.Moment x) = refl
+asked-map_item read phase synced events.Close = refl
 
-pub moment-heard : {I J : Type 0} (f : I → J) (e : SessionEvent I) → moment_of e ≡ moment_of (heard f e)
-moment-heard f events.ClientMade = refl
-moment-heard f (events.ClientFailed x) = refl
-moment-heard f events.Connected = refl
-moment-heard f (events.ConnectStatus x) = refl
-moment-heard f (events.Item x) = refl
-moment-heard f (events.ItemStatus x) = refl
-moment-heard f events.StreamEnd = refl
-moment-heard f (events.Moment x) = refl
-moment-heard f events.Close = refl
+pub moment-map_item : {I J : Type 0} (f : I → J) (e : SessionEvent I) → moment_of e ≡ moment_of (map_item f e)
+moment-map_item f events.ClientMade = refl
+moment-map_item f (events.ClientFailed x) = refl
+moment-map_item f events.Connected = refl
+moment-map_item f (events.ConnectStatus x) = refl
+moment-map_item f (events.Item x) = refl
+moment-map_item f (events.ItemStatus x) = refl
+moment-map_item f events.StreamEnd = refl
+moment-map_item f (events.Moment x) = refl
+moment-map_item f events.Close = refl
 
-pub closes-heard : {I J : Type 0} (f : I → J) (e : SessionEvent I) → closes e ≡ closes (heard f e)
-closes-heard f events.ClientMade = refl
-closes-heard f (events.ClientFailed x) = refl
-closes-heard f events.Connected = refl
-closes-heard f (events.ConnectStatus x) = refl
-closes-heard f (events.Item x) = refl
-closes-heard f (events.ItemStatus x) = refl
-closes-heard f events.StreamEnd = refl
-closes-heard f (events.Moment x) = refl
-closes-heard f events.Close = refl
+pub closes-map_item : {I J : Type 0} (f : I → J) (e : SessionEvent I) → closes e ≡ closes (map_item f e)
+closes-map_item f events.ClientMade = refl
+closes-map_item f (events.ClientFailed x) = refl
+closes-map_item f events.Connected = refl
+closes-map_item f (events.ConnectStatus x) = refl
+closes-map_item f (events.Item x) = refl
+closes-map_item f (events.ItemStatus x) = refl
+closes-map_item f events.StreamEnd = refl
+closes-map_item f (events.Moment x) = refl
+closes-map_item f events.Close = refl

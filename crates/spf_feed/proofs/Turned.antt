@@ -3,12 +3,12 @@ use Rattle.std.proofs.Common.{◌≡◌, Bool, true, false, not, cond, List, [],
 use Rattle.std.specs.Prelude.{ℤ, is_some, ◌⊎◌}
 use Rattle.std.specs.Option.{option_to_list}
 use Rattle.std.specs.Cmp.{IsEquivalence}
-use Rattle.spf_view.specs.Views.{View, Waiting, Withdrawn, Permitted, Outcome, Accepted, Denied, Passed, has_begun, outcome, outcomes, outcome_with, view_of, same_view}
+use Rattle.spf_view.specs.Views.{View, Waiting, Withdrawn, Permitted, Outcome, Accepted, Denied, Passed, has_synced, outcome, outcomes, outcome_with, view_of, same_view}
 use Rattle.spf_view.specs.Steps.{Accept, step_in}
 use Rattle.spf_view.specs.Standing.{Kept, is_change}
 use Rattle.spf_view.specs.Sessions.{Grows, GrowsUpTo}
 use Rattle.spf_view.specs.Keeping.{kept_with_any, IsAt, SeenAs}
-use Rattle.spf_view.proofs.KeepingLemmas.{begun_at, outcome_at, waiting_at, view_at, update_seen}
+use Rattle.spf_view.proofs.KeepingLemmas.{synced_at, outcome_at, waiting_at, view_at, update_seen}
 use Rattle.spf_view.proofs.FollowLemmas.{grows_nil}
 use Rattle.spf_feed.specs.declared.follow_error.FollowError.{FollowError}
 use Rattle.spf_feed.specs.declared.follow_error.FollowError.TheVariants as answers
@@ -19,27 +19,27 @@ use Rattle.spf_feed.specs.declared.step.Denial.{Denial}
 use Rattle.spf_feed.specs.declared.turn.Terminal.{Terminal}
 use Rattle.spf_feed.specs.declared.turn.Turn.{Turn}
 use Rattle.spf_feed.specs.declared.turn.Turn.TheVariants as turns
-use Rattle.spf_feed.specs.Events.{heard}
+use Rattle.spf_feed.specs.Events.{map_item}
 use Rattle.spf_feed.specs.Items.{Event, Rules, subject, subject_by, context_in}
 use Rattle.spf_feed.specs.Run.{stream, refusal_by, records_by, records_in, update_records}
 use Rattle.spf_feed.specs.Steps.{Material, PlainStep, same_material}
 use Rattle.spf_feed.specs.Turns.{IsTurn}
 use Rattle.spf_feed.specs.Following.{answer_to, change_of, update_of, is_changed, TurnTaken}
-use Rattle.spf_feed.proofs.TurnLemmas.{outcome-heard, refusal-heard, records-heard}
+use Rattle.spf_feed.proofs.TurnLemmas.{outcome-map_item, refusal-map_item, records-map_item}
 use Rattle.spf_feed.proofs.HandLemmas.{none_since}
 
 -- the turn is that of the event behind the history
 pub turn_at : (rules : Rules) (past : List Event) (now : Option ℤ) (kept : Option (Kept Material Denial)) (e : Event) (turn : Turn) → IsAt (subject rules) past now kept
-    → IsTurn (refusal_by rules.deadline (is_some kept) (heard context_in e)) (outcome_with (subject_by (λ o. o) rules) (is_some kept) now (heard context_in e)) (records_by (λ o. o) (is_some kept) rules.limits (heard context_in e)) turn
-    → IsTurn ((stream rules).refusal past e) (outcome (subject rules) e past) (records_by context_in (has_begun (subject rules) past) rules.limits e) turn
+    → IsTurn (refusal_by rules.deadline (is_some kept) (map_item context_in e)) (outcome_with (subject_by (λ o. o) rules) (is_some kept) now (map_item context_in e)) (records_by (λ o. o) (is_some kept) rules.limits (map_item context_in e)) turn
+    → IsTurn ((stream rules).refusal past e) (outcome (subject rules) e past) (records_by context_in (has_synced (subject rules) past) rules.limits e) turn
 turn_at rules past now kept e turn at h =
-    let begun = begun_at (subject rules) past now kept at in
-    let refusal : (stream rules).refusal past e ≡ refusal_by rules.deadline (is_some kept) (heard context_in e) = ap (λ b. refusal_by rules.deadline b e) begun ∙ refusal-heard context_in rules.deadline (is_some kept) e in
-    let becomes : outcome (subject rules) e past ≡ outcome_with (subject_by (λ o. o) rules) (is_some kept) now (heard context_in e) = outcome_at (subject rules) past now kept e at ∙ outcome-heard context_in rules (is_some kept) now e in
-    let recorded : records_by context_in (has_begun (subject rules) past) rules.limits e ≡ records_by (λ o. o) (is_some kept) rules.limits (heard context_in e) = ap (λ b. records_by context_in b rules.limits e) begun ∙ records-heard context_in (is_some kept) rules.limits e in
-    subst (λ r. IsTurn r (outcome (subject rules) e past) (records_by context_in (has_begun (subject rules) past) rules.limits e) turn) (sym refusal)
-    (subst (λ o. IsTurn (refusal_by rules.deadline (is_some kept) (heard context_in e)) o (records_by context_in (has_begun (subject rules) past) rules.limits e) turn) (sym becomes)
-    (subst (λ t. IsTurn (refusal_by rules.deadline (is_some kept) (heard context_in e)) (outcome_with (subject_by (λ o. o) rules) (is_some kept) now (heard context_in e)) t turn) (sym recorded) h))
+    let synced = synced_at (subject rules) past now kept at in
+    let refusal : (stream rules).refusal past e ≡ refusal_by rules.deadline (is_some kept) (map_item context_in e) = ap (λ b. refusal_by rules.deadline b e) synced ∙ refusal-map_item context_in rules.deadline (is_some kept) e in
+    let becomes : outcome (subject rules) e past ≡ outcome_with (subject_by (λ o. o) rules) (is_some kept) now (map_item context_in e) = outcome_at (subject rules) past now kept e at ∙ outcome-map_item context_in rules (is_some kept) now e in
+    let recorded : records_by context_in (has_synced (subject rules) past) rules.limits e ≡ records_by (λ o. o) (is_some kept) rules.limits (map_item context_in e) = ap (λ b. records_by context_in b rules.limits e) synced ∙ records-map_item context_in (is_some kept) rules.limits e in
+    subst (λ r. IsTurn r (outcome (subject rules) e past) (records_by context_in (has_synced (subject rules) past) rules.limits e) turn) (sym refusal)
+    (subst (λ o. IsTurn (refusal_by rules.deadline (is_some kept) (map_item context_in e)) o (records_by context_in (has_synced (subject rules) past) rules.limits e) turn) (sym becomes)
+    (subst (λ t. IsTurn (refusal_by rules.deadline (is_some kept) (map_item context_in e)) (outcome_with (subject_by (λ o. o) rules) (is_some kept) now (map_item context_in e)) t turn) (sym recorded) h))
 
 -- ---- the records of an accepted item
 
@@ -77,26 +77,26 @@ changes_any kept (Some step) = is_changed (change_of kept step)
 pub record IsThrough (rules : Rules) (past : List Event) (e : Event) (kept kept' : Option (Kept Material Denial)) (steps steps' : Option (List PlainStep)) (recorded recorded' : Option (List MetricsRecord)) (b : Bool) : Type 0 where
   pub none : (stream rules).refusal past e ≡ None
   pub steps_are : Grows steps steps' (option_to_list (step_in rules.limits (outcome (subject rules) e past)))
-  pub records_are : Grows recorded recorded' (records_in context_in (has_begun (subject rules) past) rules.limits (view_of (outcomes (subject rules) past)) e (outcome (subject rules) e past))
+  pub records_are : Grows recorded recorded' (records_in context_in (has_synced (subject rules) past) rules.limits (view_of (outcomes (subject rules) past)) e (outcome (subject rules) e past))
   pub kept_is : kept' ≡ kept_with_any same_material kept (step_in rules.limits (outcome (subject rules) e past))
   pub changed : b ≡ changes_any kept (step_in rules.limits (outcome (subject rules) e past))
 
 -- what is handed on is what the outcome gives
 through : (rules : Rules) (past : List Event) (e : Event) (kept kept' : Option (Kept Material Denial)) (steps steps' : Option (List PlainStep)) (recorded recorded' : Option (List MetricsRecord)) (b : Bool) (becomes : Outcome Material Denial)
     → outcome (subject rules) e past ≡ becomes → (stream rules).refusal past e ≡ None → Grows steps steps' (option_to_list (step_in rules.limits becomes))
-    → Grows recorded recorded' (records_in context_in (has_begun (subject rules) past) rules.limits (view_of (outcomes (subject rules) past)) e becomes)
+    → Grows recorded recorded' (records_in context_in (has_synced (subject rules) past) rules.limits (view_of (outcomes (subject rules) past)) e becomes)
     → kept' ≡ kept_with_any same_material kept (step_in rules.limits becomes) → b ≡ changes_any kept (step_in rules.limits becomes) → IsThrough rules past e kept kept' steps steps' recorded recorded' b
 through rules past e kept kept' steps steps' recorded recorded' b becomes same none a c k d = record {
   none = none;
   steps_are = subst (λ x. Grows steps steps' (option_to_list (step_in rules.limits x))) (sym same) a;
-  records_are = subst (λ x. Grows recorded recorded' (records_in context_in (has_begun (subject rules) past) rules.limits (view_of (outcomes (subject rules) past)) e x)) (sym same) c;
+  records_are = subst (λ x. Grows recorded recorded' (records_in context_in (has_synced (subject rules) past) rules.limits (view_of (outcomes (subject rules) past)) e x)) (sym same) c;
   kept_is = subst (λ x. kept' ≡ kept_with_any same_material kept (step_in rules.limits x)) (sym same) k;
   changed = subst (λ x. b ≡ changes_any kept (step_in rules.limits x)) (sym same) d;
 }
 
 pub went : (o : IsEquivalence same_material) (rules : Rules) (past : List Event) (now : Option ℤ) (e : Event) (kept kept' : Option (Kept Material Denial)) (steps steps' : Option (List PlainStep)) (recorded recorded' : Option (List MetricsRecord)) (b : Bool)
     (turn : Turn) → IsAt (subject rules) past now kept
-    → IsTurn ((stream rules).refusal past e) (outcome (subject rules) e past) (records_by context_in (has_begun (subject rules) past) rules.limits e) turn → TurnTaken rules.limits turn kept kept' steps steps' recorded recorded' (Ok b)
+    → IsTurn ((stream rules).refusal past e) (outcome (subject rules) e past) (records_by context_in (has_synced (subject rules) past) rules.limits e) turn → TurnTaken rules.limits turn kept kept' steps steps' recorded recorded' (Ok b)
     → IsThrough rules past e kept kept' steps steps' recorded recorded' b
 went o rules past now e kept kept' steps steps' recorded recorded' b (turns.Terminal end) at h taken = absurd cc
 went o rules past now e kept kept' steps steps' recorded recorded' b (turns.Accepted context choice) at h taken =
@@ -119,21 +119,21 @@ pub record IsStopped (rules : Rules) (past : List Event) (e : Event) (steps step
   pub none : (stream rules).refusal past e ≡ None
   pub answer : x ≡ answers.OutOfMemory
   pub steps_are : GrowsUpTo steps steps' (option_to_list (step_in rules.limits (outcome (subject rules) e past))) true
-  pub records_are : GrowsUpTo recorded recorded' (records_in context_in (has_begun (subject rules) past) rules.limits (view_of (outcomes (subject rules) past)) e (outcome (subject rules) e past)) true
+  pub records_are : GrowsUpTo recorded recorded' (records_in context_in (has_synced (subject rules) past) rules.limits (view_of (outcomes (subject rules) past)) e (outcome (subject rules) e past)) true
 
 stopped : (rules : Rules) (past : List Event) (e : Event) (steps steps' : Option (List PlainStep)) (recorded recorded' : Option (List MetricsRecord)) (x : FollowError) (becomes : Outcome Material Denial)
     → outcome (subject rules) e past ≡ becomes → (stream rules).refusal past e ≡ None → x ≡ answers.OutOfMemory → GrowsUpTo steps steps' (option_to_list (step_in rules.limits becomes)) true
-    → GrowsUpTo recorded recorded' (records_in context_in (has_begun (subject rules) past) rules.limits (view_of (outcomes (subject rules) past)) e becomes) true → IsStopped rules past e steps steps' recorded recorded' x
+    → GrowsUpTo recorded recorded' (records_in context_in (has_synced (subject rules) past) rules.limits (view_of (outcomes (subject rules) past)) e becomes) true → IsStopped rules past e steps steps' recorded recorded' x
 stopped rules past e steps steps' recorded recorded' x becomes same none is a c = record {
   none = none;
   answer = is;
   steps_are = subst (λ o. GrowsUpTo steps steps' (option_to_list (step_in rules.limits o)) true) (sym same) a;
-  records_are = subst (λ o. GrowsUpTo recorded recorded' (records_in context_in (has_begun (subject rules) past) rules.limits (view_of (outcomes (subject rules) past)) e o) true) (sym same) c;
+  records_are = subst (λ o. GrowsUpTo recorded recorded' (records_in context_in (has_synced (subject rules) past) rules.limits (view_of (outcomes (subject rules) past)) e o) true) (sym same) c;
 }
 
 pub ended_by : (o : IsEquivalence same_material) (rules : Rules) (past : List Event) (now : Option ℤ) (e : Event) (kept kept' : Option (Kept Material Denial)) (steps steps' : Option (List PlainStep)) (recorded recorded' : Option (List MetricsRecord)) (x : FollowError)
     (turn : Turn) → IsAt (subject rules) past now kept
-    → IsTurn ((stream rules).refusal past e) (outcome (subject rules) e past) (records_by context_in (has_begun (subject rules) past) rules.limits e) turn → TurnTaken rules.limits turn kept kept' steps steps' recorded recorded' (Err x)
+    → IsTurn ((stream rules).refusal past e) (outcome (subject rules) e past) (records_by context_in (has_synced (subject rules) past) rules.limits e) turn → TurnTaken rules.limits turn kept kept' steps steps' recorded recorded' (Err x)
     → IsRefused rules past e steps steps' recorded recorded' x ⊎ IsStopped rules past e steps steps' recorded recorded' x
 ended_by o rules past now e kept kept' steps steps' recorded recorded' x (turns.Terminal end) at h taken =
     inl (record { end = end; refused = h; answer = cc; steps_same = taken.1; records_same = taken.2 })

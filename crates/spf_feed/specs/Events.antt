@@ -52,16 +52,16 @@ event_at item_at kind payload =
     else None))))))))
 
 -- the same event, of whose item a function is taken
-abbrev pub heard : {I J : Type 0} → (I → J) → SessionEvent I → SessionEvent J
-heard f events.ClientMade = events.ClientMade
-heard f (events.ClientFailed e) = events.ClientFailed e
-heard f events.Connected = events.Connected
-heard f (events.ConnectStatus s) = events.ConnectStatus s
-heard f (events.Item i) = events.Item (f i)
-heard f (events.ItemStatus s) = events.ItemStatus s
-heard f events.StreamEnd = events.StreamEnd
-heard f (events.Moment m) = events.Moment m
-heard f events.Close = events.Close
+abbrev pub map_item : {I J : Type 0} → (I → J) → SessionEvent I → SessionEvent J
+map_item f events.ClientMade = events.ClientMade
+map_item f (events.ClientFailed e) = events.ClientFailed e
+map_item f events.Connected = events.Connected
+map_item f (events.ConnectStatus s) = events.ConnectStatus s
+map_item f (events.Item i) = events.Item (f i)
+map_item f (events.ItemStatus s) = events.ItemStatus s
+map_item f events.StreamEnd = events.StreamEnd
+map_item f (events.Moment m) = events.Moment m
+map_item f events.Close = events.Close
 
 abbrev pub closes : {I : Type 0} → SessionEvent I → Bool
 closes events.Close = true

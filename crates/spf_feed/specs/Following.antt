@@ -20,11 +20,11 @@ use Rattle.spf_feed.specs.declared.turn.Terminal.{Terminal}
 use Rattle.spf_feed.specs.declared.turn.Terminal.TheVariants as ends
 use Rattle.spf_feed.specs.declared.turn.Turn.{Turn}
 use Rattle.spf_feed.specs.declared.turn.Turn.TheVariants as turns
-use Rattle.spf_feed.specs.Events.{heard}
+use Rattle.spf_feed.specs.Events.{map_item}
 use Rattle.spf_feed.specs.Items.{Event, Received, Rules, context_in}
-use Rattle.spf_feed.specs.Numbered.{LineView, Shows}
+use Rattle.spf_feed.specs.Numbered.{LineView, ShowsKept}
 use Rattle.spf_feed.specs.Shown.{shown_text}
-use Rattle.spf_feed.specs.Parts.{Took}
+use Rattle.spf_feed.specs.Parts.{Takes}
 use Rattle.spf_feed.specs.Run.{stream}
 use Rattle.spf_feed.specs.Steps.{Material, PlainStep, Accept, Deny, same_material}
 use Rattle.spf_feed.specs.Turns.{listed}
@@ -58,14 +58,14 @@ pub record IsEventRead (rules : Rules) (past : List Event) (allowed : Bool) (old
   pub front : List ℕ
   pub frame : IsFrame (stream rules) past front event
   pub taken : Consumes old new front
-  pub is : received ≡ heard context_in event
+  pub is : received ≡ map_item context_in event
 
 -- why no event was read
 abbrev pub IsEventUnread : Rules → List Event → Bool → Option (List ℕ) → Option (List ℕ) → FrameError → Type 0
 IsEventUnread rules past allowed old new errors.TooLong = (allowed ≡ false) × ((x : ℕ) × Consumes old new (x ∷ []))
-IsEventUnread rules past allowed old new errors.BadFrame = IsTrue allowed × Took old new (λ given. (given ≢ []) × IfSome old (NoFrameAt (stream rules) past))
-IsEventUnread rules past allowed old new errors.ReadFault = Took old new (λ given. NoFrameAt (stream rules) past given × (allowed ≡ false → given ≡ []))
-IsEventUnread rules past allowed old new errors.OutOfMemory = IsTrue allowed × Took old new (λ _. Unit {0})
+IsEventUnread rules past allowed old new errors.BadFrame = IsTrue allowed × Takes old new (λ given. (given ≢ []) × IfSome old (NoFrameAt (stream rules) past))
+IsEventUnread rules past allowed old new errors.ReadFault = Takes old new (λ given. NoFrameAt (stream rules) past given × (allowed ≡ false → given ≡ []))
+IsEventUnread rules past allowed old new errors.OutOfMemory = IsTrue allowed × Takes old new (λ _. Unit {0})
 
 abbrev pub EventRead : Rules → List Event → Bool → Option (List ℕ) → Option (List ℕ) → Result (Option Received) FrameError → Type 0
 EventRead rules past allowed old new (Ok None) = Consumes old new [] × IsAtEnd old
@@ -129,9 +129,9 @@ TurnTaken limits (turns.Passed told) kept kept' steps steps' recorded recorded' 
 -- the line before anything is accepted, or of what is kept
 abbrev pub IsLineOf : LineView → Option (Kept Material Denial) → Option ℤ → Type 0
 IsLineOf line None now = line.text ≡ shown_text Waiting 0 None
-IsLineOf line (Some kept) now = Shows kept now line
+IsLineOf line (Some kept) now = ShowsKept kept now line
 
 -- a line is written anew where what is kept changed, or where the choice appears or expires
 abbrev pub IsShownAfter : LineView → LineView → Option (Kept Material Denial) → Bool → Option ℤ → Type 0
 IsShownAfter old new None changed now = new ≡ old
-IsShownAfter old new (Some kept) changed now = (before : Option ℤ) → (changed ≡ false → Shows kept before old) → Shows kept now new
+IsShownAfter old new (Some kept) changed now = (before : Option ℤ) → (changed ≡ false → ShowsKept kept before old) → ShowsKept kept now new

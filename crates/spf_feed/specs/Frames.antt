@@ -2,13 +2,13 @@
 use Rattle.std.specs.Prelude.{◌≡◌, ◌≢◌, ℕ, Bool, false, ◌==◌, ◌||◌, IsTrue, List, [], ◌∷◌, ◌++◌, Option, None, Some, IfSome, Result, Ok, Err}
 use Rattle.std.specs.Io.KnownBytes.{Consumes, IsAtEnd}
 unfoldable pub use Rattle.spf_view.specs.Frames.{sized}
-pub use Rattle.spf_view.specs.Frames.{IsShort, raw_text}
+pub use Rattle.spf_view.specs.Frames.{FitsFrame, raw_text}
 use Rattle.spf_feed.specs.declared.frame.Phase.{Phase}
 use Rattle.spf_feed.specs.declared.frame.Phase.TheVariants as phases
 use Rattle.spf_feed.specs.declared.frame.RawFrame.{RawFrame}
 use Rattle.spf_feed.specs.declared.frame.FrameError.{FrameError}
 use Rattle.spf_feed.specs.declared.frame.FrameError.TheVariants as errors
-use Rattle.spf_feed.specs.Parts.{Took}
+use Rattle.spf_feed.specs.Parts.{Takes}
 
 -- the kinds that may stand
 abbrev pub allows : Phase → ℕ → Bool
@@ -18,21 +18,21 @@ allows phases.Next kind = kind == 5 || kind == 6 || kind == 7 || kind == 8 || ki
 
 -- no frame of a kind that may stand begins these bytes
 abbrev pub NoFrame : Phase → List ℕ → Type 0
-NoFrame phase bytes = (kind : ℕ) (payload rest : List ℕ) → IsTrue (allows phase kind) → IsShort payload → bytes ≡ raw_text kind payload ++ rest → ⊥
+NoFrame phase bytes = (kind : ℕ) (payload rest : List ℕ) → IsTrue (allows phase kind) → FitsFrame payload → bytes ≡ raw_text kind payload ++ rest → ⊥
 
 -- the frame that was read
 pub record IsRead (phase : Phase) (allowed : Bool) (old new : Option (List ℕ)) (raw : RawFrame) : Type 0 where
   pub leave : IsTrue allowed
   pub kind : IsTrue (allows phase raw.kind)
-  pub short : IsShort raw.payload
+  pub short : FitsFrame raw.payload
   pub taken : Consumes old new (raw_text raw.kind raw.payload)
 
 -- why no frame was read
 abbrev pub IsUnread : Phase → Bool → Option (List ℕ) → Option (List ℕ) → FrameError → Type 0
 IsUnread phase allowed old new errors.TooLong = (allowed ≡ false) × ((x : ℕ) × Consumes old new (x ∷ []))
-IsUnread phase allowed old new errors.BadFrame = IsTrue allowed × Took old new (λ given. (given ≢ []) × IfSome old (NoFrame phase))
-IsUnread phase allowed old new errors.ReadFault = Took old new (λ given. NoFrame phase given × (allowed ≡ false → given ≡ []))
-IsUnread phase allowed old new errors.OutOfMemory = IsTrue allowed × Took old new (λ _. Unit {0})
+IsUnread phase allowed old new errors.BadFrame = IsTrue allowed × Takes old new (λ given. (given ≢ []) × IfSome old (NoFrame phase))
+IsUnread phase allowed old new errors.ReadFault = Takes old new (λ given. NoFrame phase given × (allowed ≡ false → given ≡ []))
+IsUnread phase allowed old new errors.OutOfMemory = IsTrue allowed × Takes old new (λ _. Unit {0})
 
 abbrev pub FrameRead : Phase → Bool → Option (List ℕ) → Option (List ℕ) → Result (Option RawFrame) FrameError → Type 0
 FrameRead phase allowed old new (Ok None) = Consumes old new [] × IsAtEnd old

@@ -65,9 +65,9 @@ abbrev pub picked : Rules → Context → Material
 picked rules context = record { context = context; choice = rules.pick context.svids }
 
 -- the first accepted context needs a choice that is not expired at the last moment, or nothing more
-abbrev pub may_begin : Ready → Material → Option ℤ → Bool
-may_begin readiness.Usable material now = is_some (usable (chosen_of material) now)
-may_begin readiness.Any material now = true
+abbrev pub may_sync : Ready → Material → Option ℤ → Bool
+may_sync readiness.Usable material now = is_some (usable (chosen_of material) now)
+may_sync readiness.Any material now = true
 
 -- the denial that an answer of the Workload API tells
 abbrev pub denial_in : WorkloadApiError → Option Denial
@@ -76,9 +76,9 @@ denial_in (api.PermissionDenied message) = Some (denial.PermissionDenied message
 denial_in _ = None
 
 -- the material of an item, where `read` gives its context
-abbrev pub material_of : {I : Type 0} → (I → Option Context) → Rules → SessionEvent I → Option Material
-material_of read rules (events.Item i) = option_map (picked rules) (read i)
-material_of read rules _ = None
+abbrev pub item_material : {I : Type 0} → (I → Option Context) → Rules → SessionEvent I → Option Material
+item_material read rules (events.Item i) = option_map (picked rules) (read i)
+item_material read rules _ = None
 
 -- a status of the connection or of the stream that denies; a client failure never does
 abbrev pub denial_of : {I : Type 0} → SessionEvent I → Option Denial
@@ -93,10 +93,10 @@ moment_of _ = None
 -- what the events of a session say, where `read` gives the context of an item
 abbrev pub subject_by : {I : Type 0} → (I → Option Context) → Rules → Subject (SessionEvent I) Material ResourceLimits Denial
 subject_by read rules = record {
-  parsed = material_of read rules;
+  parsed = item_material read rules;
   limits = rules.limits;
   is_within = fits;
-  may_begin = may_begin rules.ready;
+  may_sync = may_sync rules.ready;
   denial = denial_of;
   moment = moment_of;
   is_same = same_material;

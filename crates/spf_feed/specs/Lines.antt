@@ -17,9 +17,9 @@ abbrev pub hex_list : {X : Type 0} → (X → List ℕ) → List X → List ℕ
 hex_list shown [] = []
 hex_list shown (x ∷ xs) = encode_lower (shown x) ++ flat_map (λ y. after_comma (shown y)) xs
 
--- the octets of the value at a place
+-- the octets of the value at an index
 abbrev pub shown_at : {X : Type 0} → (X → List ℕ) → List X → ℕ → List ℕ
-shown_at shown xs place = option_map_or shown (slice_get xs place) []
+shown_at shown xs index = option_map_or shown (slice_get xs index) []
 
 -- the ID, the expiry and the chain of a choice that is shown
 abbrev pub choice_text : Option Svid → List ℕ

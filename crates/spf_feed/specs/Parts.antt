@@ -16,15 +16,15 @@ abbrev pub NoPart : {X : Type 0} → (X → List ℕ) → (X → Type 0) → Lis
 NoPart {X} text Fits bytes = (x : X) (rest : List ℕ) → Fits x → bytes ≡ text x ++ rest → ⊥
 
 -- some bytes were taken
-abbrev pub Took : Option (List ℕ) → Option (List ℕ) → (List ℕ → Type 0) → Type 0
-Took old new P = (given : List ℕ) × Consumes old new given × P given
+abbrev pub Takes : Option (List ℕ) → Option (List ℕ) → (List ℕ → Type 0) → Type 0
+Takes old new P = (given : List ℕ) × Consumes old new given × P given
 
 -- a part was read, or none begins what is left
 abbrev pub PartFails : {X : Type 0} → (X → List ℕ) → (X → Type 0) → Option (List ℕ) → Option (List ℕ) → FrameError → Type 0
 PartFails text Fits old new errors.TooLong = ⊥
-PartFails text Fits old new errors.BadFrame = Took old new (λ _. IfSome old (NoPart text Fits))
-PartFails text Fits old new errors.ReadFault = Took old new (NoPart text Fits)
-PartFails text Fits old new errors.OutOfMemory = Took old new (λ _. Unit {0})
+PartFails text Fits old new errors.BadFrame = Takes old new (λ _. IfSome old (NoPart text Fits))
+PartFails text Fits old new errors.ReadFault = Takes old new (NoPart text Fits)
+PartFails text Fits old new errors.OutOfMemory = Takes old new (λ _. Unit {0})
 
 abbrev pub PartRead : {X : Type 0} → (X → List ℕ) → (X → Type 0) → Option (List ℕ) → Option (List ℕ) → Result X FrameError → Type 0
 PartRead text Fits old new r = MatchResult r (λ x. Fits x × Consumes old new (text x)) (PartFails text Fits old new)

@@ -10,18 +10,18 @@ use Rattle.std.specs.declared.sync.Arc.{Arc}
 use Rattle.std.specs.declared.alloc.Global.{Global}
 use Rattle.spf_x509.specs.Svid.{Svid}
 
-abbrev pub first_place : List Svid → Option ℕ
-first_place [] = None
-first_place (svid ∷ svids) = Some 0
+abbrev pub first_index : List Svid → Option ℕ
+first_index [] = None
+first_index (svid ∷ svids) = Some 0
 
 -- an answer that is in range
 abbrev pub in_range : List Svid → Option ℕ → Option ℕ
 in_range svids None = None
-in_range svids (Some place) = if nat_lt place (length svids) then Some place else None
+in_range svids (Some index) = if nat_lt index (length svids) then Some index else None
 
--- the index of the choice: what the picker answers, or the first place where none is set
+-- the index of the choice: what the picker answers, or the first index where none is set
 abbrev pub pick_of : Option (List Svid → Option ℕ) → List Svid → Option ℕ
-pick_of None svids = first_place svids
+pick_of None svids = first_index svids
 pick_of (Some pick) svids = in_range svids (pick svids)
 
 -- the SVID at the index of a choice

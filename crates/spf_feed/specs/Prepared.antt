@@ -9,16 +9,16 @@ use Rattle.spf_feed.specs.declared.sorted.Sorted.{Sorted}
 use Rattle.spf_feed.specs.Sorted.{AreSorted}
 use Rattle.spf_feed.specs.Steps.{PlainStep, Accept, Deny, same_material}
 
--- an Accept has the sorted places of its context, and a Deny has none
-abbrev pub HasPlaces : PlainStep → Option Sorted → Type 0
-HasPlaces (Accept material limits) None = ⊥
-HasPlaces (Accept material limits) (Some places) = AreSorted material.context places
-HasPlaces (Deny reason) None = Unit {0}
-HasPlaces (Deny reason) (Some places) = ⊥
+-- an Accept has the sorted indices of its context, and a Deny has none
+abbrev pub HasIndices : PlainStep → Option Sorted → Type 0
+HasIndices (Accept material limits) None = ⊥
+HasIndices (Accept material limits) (Some indices) = AreSorted material.context indices
+HasIndices (Deny reason) None = Unit {0}
+HasIndices (Deny reason) (Some indices) = ⊥
 
--- the same of places that are shared
-abbrev pub IsPlaced : PlainStep → Option (Arc Sorted Global) → Type 0
-IsPlaced step places = HasPlaces step (option_map arc_value places)
+-- the same of indices that are shared
+abbrev pub IsIndexed : PlainStep → Option (Arc Sorted Global) → Type 0
+IsIndexed step indices = HasIndices step (option_map arc_value indices)
 
 -- both accept, and what they accept is the same
 abbrev pub is_same_step : PlainStep → PlainStep → Bool

@@ -12,16 +12,16 @@ use Rattle.spf_feed.specs.Run.{asked_by, refusal_by, records_by}
 use Rattle.spf_feed.specs.Steps.{Material}
 
 abbrev pub received_ask : Phase → Bool → Received → Phase
-received_ask phase begun e = asked_by (λ o. o) phase begun e
+received_ask phase synced e = asked_by (λ o. o) phase synced e
 
 abbrev pub received_refusal : Option ℤ → Bool → Received → Option Terminal
-received_refusal deadline begun e = refusal_by deadline begun e
+received_refusal deadline synced e = refusal_by deadline synced e
 
 abbrev pub received_outcome : Rules → Bool → Option ℤ → Received → Outcome Material Denial
-received_outcome rules begun now e = outcome_with (subject_by (λ o. o) rules) begun now e
+received_outcome rules synced now e = outcome_with (subject_by (λ o. o) rules) synced now e
 
 abbrev pub received_records : Bool → ResourceLimits → Received → List MetricsRecord
-received_records begun limits e = records_by (λ o. o) begun limits e
+received_records synced limits e = records_by (λ o. o) synced limits e
 
 abbrev pub received_moment : Received → Option ℤ
 received_moment e = moment_of e

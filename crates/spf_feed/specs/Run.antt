@@ -10,7 +10,7 @@ use Rattle.spf_api.specs.Refused.{Refused}
 use Rattle.spf_api.specs.Errors.{status_reading}
 use Rattle.spf_api.specs.Status.{code_number}
 use Rattle.spf_api.specs.Reading.{context_at}
-use Rattle.spf_view.specs.Views.{Outcome, Accepted, Denied, Passed, View, Waiting, Permitted, same_view, has_begun, last_moment, outcome, outcomes, view_of, revision_of}
+use Rattle.spf_view.specs.Views.{Outcome, Accepted, Denied, Passed, View, Waiting, Permitted, same_view, has_synced, last_moment, outcome, outcomes, view_of, revision_of}
 use Rattle.spf_view.specs.Steps.{step_in}
 use Rattle.spf_view.specs.Sessions.{Stream, Outputs, Told, End, Whole, OutOfMemory, ReadFault, WriteFault, TooLong, BadFrame, Refused as SessionRefused, NeverSynced}
 use Rattle.spf_feed.specs.declared.event.SessionEvent.{SessionEvent}
@@ -39,16 +39,16 @@ use Rattle.spf_feed.specs.Shown.{shown_text}
 
 -- What stands next behind an event: an item that parses, after an accepted one, keeps the stream; a moment changes nothing.
 abbrev pub asked_by : {I : Type 0} → (I → Option Context) → Phase → Bool → SessionEvent I → Phase
-asked_by read before begun events.ClientMade = phases.Connect
-asked_by read before begun events.Connected = phases.Next
-asked_by read before begun (events.Item i) = if begun && is_some (read i) then phases.Next else phases.Client
-asked_by read before begun (events.Moment m) = before
-asked_by read before begun _ = phases.Client
+asked_by read before synced events.ClientMade = phases.Connect
+asked_by read before synced events.Connected = phases.Next
+asked_by read before synced (events.Item i) = if synced && is_some (read i) then phases.Next else phases.Client
+asked_by read before synced (events.Moment m) = before
+asked_by read before synced _ = phases.Client
 
 -- what stands next, by the last event that is not a moment
 abbrev pub ask_of : {I : Type 0} → (I → Option Context) → Rules → List (SessionEvent I) → Phase
 ask_of read rules [] = phases.Client
-ask_of read rules (e ∷ past) = asked_by read (ask_of read rules past) (has_begun (subject_by read rules) past) e
+ask_of read rules (e ∷ past) = asked_by read (ask_of read rules past) (has_synced (subject_by read rules) past) e
 
 -- INVALID_ARGUMENT rejects the request
 abbrev pub rejected : Refused → Option Terminal
@@ -78,15 +78,15 @@ terminal_of deadline _ = None
 
 -- an event is terminal only before anything is accepted
 abbrev pub refusal_by : {I : Type 0} → Option ℤ → Bool → SessionEvent I → Option Terminal
-refusal_by deadline begun e = if begun then None else terminal_of deadline e
+refusal_by deadline synced e = if synced then None else terminal_of deadline e
 
 abbrev pub stream_by : {I : Type 0} → (I → Option Context) → (List ℕ → Option I) → Rules → Stream (SessionEvent I) Terminal
 stream_by read item_at rules = record {
   event_at = event_at item_at;
   answers = λ past kind. allows (ask_of read rules past) kind;
-  refusal = λ past e. refusal_by rules.deadline (has_begun (subject_by read rules) past) e;
+  refusal = λ past e. refusal_by rules.deadline (has_synced (subject_by read rules) past) e;
   closes = closes;
-  begun = has_begun (subject_by read rules);
+  synced = has_synced (subject_by read rules);
 }
 
 -- the stream of an X.509 session
@@ -97,7 +97,7 @@ stream rules = stream_by context_in context_at rules
 
 -- an attempt ended before or after something was accepted, where there is one with an error
 abbrev pub ended : Bool → Option MetricsErrorKind → List MetricsRecord
-ended begun error = option_to_list (option_map records.Error error) ++ ((if begun then records.Reconnect else records.Error kinds.InitialSyncFailed) ∷ [])
+ended synced error = option_to_list (option_map records.Error error) ++ ((if synced then records.Reconnect else records.Error kinds.InitialSyncFailed) ∷ [])
 
 abbrev pub limit_error : LimitKind → MetricsErrorKind
 limit_error MaxSvids = kinds.LimitMaxSvids
@@ -107,16 +107,16 @@ limit_error MaxCrlBytes = kinds.LimitMaxCrlBytes
 
 -- an item passes a limit
 abbrev pub over_limit : Bool → LimitKind → List MetricsRecord
-over_limit begun kind = records.Error (limit_error kind) ∷ records.Error (if begun then kinds.UpdateRejected else kinds.InitialSyncFailed) ∷ []
+over_limit synced kind = records.Error (limit_error kind) ∷ records.Error (if synced then kinds.UpdateRejected else kinds.InitialSyncFailed) ∷ []
 
 -- an item that parses and is not accepted: it passes a limit, or has no usable choice
 abbrev pub kept_out : Bool → Result (Unit {0}) LimitBroken → List MetricsRecord
-kept_out begun (Err broken) = over_limit begun broken.kind
-kept_out begun (Ok done) = ended begun (Some kinds.NoSuitableSvid)
+kept_out synced (Err broken) = over_limit synced broken.kind
+kept_out synced (Ok done) = ended synced (Some kinds.NoSuitableSvid)
 
 abbrev pub item_records : Bool → ResourceLimits → Option Context → List MetricsRecord
-item_records begun limits None = ended begun (Some kinds.StreamError)
-item_records begun limits (Some context) = kept_out begun (within limits context)
+item_records synced limits None = ended synced (Some kinds.StreamError)
+item_records synced limits (Some context) = kept_out synced (within limits context)
 
 -- that no identity is issued is no error of the connection
 abbrev pub connect_error : WorkloadApiError → Option MetricsErrorKind
@@ -125,12 +125,12 @@ connect_error _ = Some kinds.StreamConnect
 
 -- the records of an event that is not accepted
 abbrev pub records_by : {I : Type 0} → (I → Option Context) → Bool → ResourceLimits → SessionEvent I → List MetricsRecord
-records_by read begun limits (events.ClientFailed e) = ended begun (Some kinds.ClientCreation)
-records_by read begun limits (events.ConnectStatus s) = ended begun (connect_error (status_reading s))
-records_by read begun limits (events.Item i) = item_records begun limits (read i)
-records_by read begun limits (events.ItemStatus s) = ended begun (Some kinds.StreamError)
-records_by read begun limits events.StreamEnd = ended begun (Some kinds.StreamEnded)
-records_by read begun limits _ = []
+records_by read synced limits (events.ClientFailed e) = ended synced (Some kinds.ClientCreation)
+records_by read synced limits (events.ConnectStatus s) = ended synced (connect_error (status_reading s))
+records_by read synced limits (events.Item i) = item_records synced limits (read i)
+records_by read synced limits (events.ItemStatus s) = ended synced (Some kinds.StreamError)
+records_by read synced limits events.StreamEnd = ended synced (Some kinds.StreamEnded)
+records_by read synced limits _ = []
 
 -- an accepted item is an update where something else was visible before it; the first one is none
 abbrev pub update_records : View Material Denial → Material → List MetricsRecord
@@ -138,9 +138,9 @@ update_records Waiting material = []
 update_records view material = if same_view same_material view (Permitted material) then [] else (records.Update ∷ [])
 
 abbrev pub records_in : {I : Type 0} → (I → Option Context) → Bool → ResourceLimits → View Material Denial → SessionEvent I → Outcome Material Denial → List MetricsRecord
-records_in read begun limits view e (Accepted material) = update_records view material
-records_in read begun limits view e (Denied reason) = records_by read begun limits e
-records_in read begun limits view e Passed = records_by read begun limits e
+records_in read synced limits view e (Accepted material) = update_records view material
+records_in read synced limits view e (Denied reason) = records_by read synced limits e
+records_in read synced limits view e Passed = records_by read synced limits e
 
 -- ---- lines
 
@@ -150,7 +150,7 @@ outputs rules = record {
   line = λ past e.
       decimal (length past + 1) ++ shown_text (view_of (outcomes (subject rules) (e ∷ past))) (revision_of same_material (outcomes (subject rules) (e ∷ past))) (last_moment (subject rules) (e ∷ past));
   steps = λ past e. option_to_list (step_in rules.limits (outcome (subject rules) e past));
-  records = λ past e. records_in context_in (has_begun (subject rules) past) rules.limits (view_of (outcomes (subject rules) past)) e (outcome (subject rules) e past);
+  records = λ past e. records_in context_in (has_synced (subject rules) past) rules.limits (view_of (outcomes (subject rules) past)) e (outcome (subject rules) e past);
 }
 
 -- the lists that the sink, the publisher and the recorder hold, where they tell

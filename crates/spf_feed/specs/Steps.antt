@@ -34,7 +34,7 @@ reason_in (Deny reason) = Some reason
 
 -- the context keeps the limits, and its choice is none or in range
 abbrev pub fits : ResourceLimits → Material → Bool
-fits limits material = is_ok (within limits material.context) && option_map_or (λ place. nat_lt place (length material.context.svids)) material.choice true
+fits limits material = is_ok (within limits material.context) && option_map_or (λ index. nat_lt index (length material.context.svids)) material.choice true
 
 -- the list is told and empty in no case
 abbrev pub HasStep : Option (List PlainStep) → Type 0

@@ -19,10 +19,10 @@ use Rattle.spf_feed.specs.Steps.{Material, fits}
 
 -- an accepted context fits, and a denial comes only where an item was accepted before it
 abbrev pub MayTake : ResourceLimits → Bool → Turn → Type 0
-MayTake limits begun (turns.Terminal end) = Unit {0}
-MayTake limits begun (turns.Accepted context choice) = IsTrue (fits limits (record { context = context; choice = choice }))
-MayTake limits begun (turns.Denied reason records) = IsTrue begun
-MayTake limits begun (turns.Passed records) = Unit {0}
+MayTake limits synced (turns.Terminal end) = Unit {0}
+MayTake limits synced (turns.Accepted context choice) = IsTrue (fits limits (record { context = context; choice = choice }))
+MayTake limits synced (turns.Denied reason records) = IsTrue synced
+MayTake limits synced (turns.Passed records) = Unit {0}
 
 -- the records in order
 abbrev pub listed : Records → List MetricsRecord

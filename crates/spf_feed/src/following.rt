@@ -54,14 +54,14 @@ fn next_event<S: Source>(
 }
 
 /// What the source is asked for after an event.
-fn phase_after(phase: Phase, begun: bool, event: &Received) -> Phase
-    ensures { result ≡ received_ask phase begun event.now }
+fn phase_after(phase: Phase, synced: bool, event: &Received) -> Phase
+    ensures { result ≡ received_ask phase synced event.now }
 {
     match event {
         Received::ClientMade => Phase::Connect,
         Received::Connected => Phase::Next,
         Received::Moment(_) => phase,
-        Received::Item(Some(_)) if begun => Phase::Next,
+        Received::Item(Some(_)) if synced => Phase::Next,
         _ => Phase::Client,
     }
 }
@@ -142,7 +142,7 @@ fn publish<P: Publisher>(
 ) -> Result<Change, OutOfMemory>
     requires next { MayFollow (P.steps publisher.old) (plain step) }
     requires first { snapshot.old ≡ None → IsTrue (is_accept (plain step)) }
-    ensures begun { OnOk result (HasStep (P.steps publisher.new)) }
+    ensures synced { OnOk result (HasStep (P.steps publisher.new)) }
     ensures steps { HandsOn (P.steps publisher.old) (P.steps publisher.new) result (plain step ∷ []) }
     ensures change { IfOk result (λ c. c ≡ change_of snapshot.old (plain step)) }
     ensures kept { OnOk result (snapshot.new ≡ kept_with same_material snapshot.old (plain step)) }
@@ -183,7 +183,7 @@ fn accept<P: Publisher, M: MetricsRecorder>(
 ) -> Result<bool, OutOfMemory>
     requires next { MayFollow (P.steps publisher.old) (plain step) }
     requires first { snapshot.old ≡ None → IsTrue (is_accept (plain step)) }
-    ensures begun { OnOk result (HasStep (P.steps publisher.new)) }
+    ensures synced { OnOk result (HasStep (P.steps publisher.new)) }
     ensures taken { IsStepTaken (plain step) (update_of (change_of snapshot.old (plain step))) snapshot.old snapshot.new (P.steps publisher.old) (P.steps publisher.new) (M.records recorder.old) (M.records recorder.new) result }
 {
     let change = publish(alloc, publisher, snapshot, step)?;
@@ -202,7 +202,7 @@ fn deny<P: Publisher, M: MetricsRecorder>(
 ) -> Result<bool, OutOfMemory>
     requires next { MayFollow (P.steps publisher.old) (plain step) }
     requires first { snapshot.old ≡ None → IsTrue (is_accept (plain step)) }
-    ensures begun { OnOk result (HasStep (P.steps publisher.new)) }
+    ensures synced { OnOk result (HasStep (P.steps publisher.new)) }
     ensures taken { IsStepTaken (plain step) (listed records) snapshot.old snapshot.new (P.steps publisher.old) (P.steps publisher.new) (M.records recorder.old) (M.records recorder.new) result }
 {
     let change = publish(alloc, publisher, snapshot, step)?;
@@ -220,8 +220,8 @@ fn take<P: Publisher, M: MetricsRecorder>(
     turn: Turn,
 ) -> Result<bool, FollowError>
     requires turn { MayTake limits (is_some snapshot.old) turn }
-    requires begun { IsTrue (is_some snapshot.old) → HasStep (P.steps publisher.old) }
-    ensures begun { OnOk result (IsTrue (is_some snapshot.new) → HasStep (P.steps publisher.new)) }
+    requires synced { IsTrue (is_some snapshot.old) → HasStep (P.steps publisher.old) }
+    ensures synced { OnOk result (IsTrue (is_some snapshot.new) → HasStep (P.steps publisher.new)) }
     ensures calm { IfErr result (λ e. is_fault e ≡ false) }
     ensures turn { TurnTaken limits turn snapshot.old snapshot.new (P.steps publisher.old) (P.steps publisher.new) (M.records recorder.old) (M.records recorder.new) result }
 {
@@ -314,10 +314,10 @@ pub fn follow_x509<S: Source, K: Sink, P: Publisher, M: MetricsRecorder, C: Svid
         };
         count += 1;
         let is_close = is_close(&event);
-        let begun = snapshot.is_some();
-        phase = phase_after(phase, begun, &event);
+        let synced = snapshot.is_some();
+        phase = phase_after(phase, synced, &event);
         let moment = moment_after(now, &event);
-        let turn = turn_of(event, begun, now, limits, deadline, ready, picker);
+        let turn = turn_of(event, synced, now, limits, deadline, ready, picker);
         now = moment;
         let is_changed = take(alloc, publisher, recorder, &mut snapshot, limits, turn)?;
         show(&mut line, &snapshot, is_changed, now)?;

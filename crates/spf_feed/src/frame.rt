@@ -3,7 +3,7 @@
 ghost use Rattle.std.specs.Prelude.{◌≡◌, ◌≤◌, ◌^◌, length as list_len};
 ghost use Rattle.std.specs.Int.{w32, to_be_bytes, from_be_bytes};
 ghost use Rattle.spf_feed.specs.Parts.{PartRead, PartPut, HasFault};
-ghost use Rattle.spf_feed.specs.Frames.{allows, sized, IsShort, KindRead, FrameRead, with_payload};
+ghost use Rattle.spf_feed.specs.Frames.{allows, sized, FitsFrame, KindRead, FrameRead, with_payload};
 
 use crate::source::fill;
 use spf_io::{Bytes, OutOfMemory, Source};
@@ -139,7 +139,7 @@ fn read_octets<S: Source>(
 
 /// Four octets of length, and so many octets, in place of what the buffer held.
 fn read_sized<S: Source>(source: &mut S, payload: &mut Vec<u8>) -> Result<(), FrameError>
-    ensures bytes { PartPut sized IsShort (S.left source.old) (S.left source.new) result payload.new.items }
+    ensures bytes { PartPut sized FitsFrame (S.left source.old) (S.left source.new) result payload.new.items }
     ensures cause { HasFault (S.faults source.old) (S.faults source.new) result }
 {
     let length = read_length(source)?;

@@ -13,10 +13,10 @@ ghost use Rattle.spf_view.specs.Standing.{shown_by};
 ghost use Rattle.spf_x509.specs.Indices.{IsSortedIndices};
 ghost use Rattle.spf_feed.specs.Lines.{after_comma, hex_list, shown_at, choice_text, withdrawn_text};
 ghost use Rattle.spf_feed.specs.Shown.{entry_text, revocations_text, context_text, visible_text, view_line, shown_text};
-ghost use Rattle.spf_feed.specs.Sorted.{ArePlaced, AreSorted};
+ghost use Rattle.spf_feed.specs.Sorted.{AreIndexed, AreSorted};
 ghost use Rattle.spf_feed.specs.Standing.{view_in, IsKept};
 ghost use Rattle.spf_feed.specs.Steps.{is_accept};
-ghost use Rattle.spf_feed.specs.Numbered.{Shows};
+ghost use Rattle.spf_feed.specs.Numbered.{ShowsKept};
 
 use crate::prepared::Prepared;
 use crate::snapshot::{Snapshot, Standing};
@@ -97,50 +97,50 @@ fn push_list<T: Octets>(line: &mut Vec<u8>, items: &[T]) -> Result<(), OutOfMemo
     Ok(())
 }
 
-fn push_at<T: Octets>(line: &mut Vec<u8>, items: &[T], place: usize) -> Result<(), OutOfMemory>
-    ensures text { OnOk result (line.new.items ≡ line.old.items ++ encode_lower (shown_at T.shown items.now place)) }
+fn push_at<T: Octets>(line: &mut Vec<u8>, items: &[T], index: usize) -> Result<(), OutOfMemory>
+    ensures text { OnOk result (line.new.items ≡ line.old.items ++ encode_lower (shown_at T.shown items.now index)) }
     ensures grows { vec_len line.old ≤ vec_len line.new }
 {
-    match items.get(place) {
+    match items.get(index) {
         Some(item) => push_hex(line, item.octets()),
         None => Ok(()),
     }
 }
 
-/// Those at the places, each with a comma before it.
-fn push_other_places<T: Octets>(
+/// Those at the indices, each with a comma before it.
+fn push_other_indices<T: Octets>(
     line: &mut Vec<u8>,
     items: &[T],
-    places: &[usize],
+    indices: &[usize],
 ) -> Result<(), OutOfMemory>
-    ensures text { OnOk result (line.new.items ≡ line.old.items ++ flat_map (λ p. after_comma (shown_at T.shown items.now p)) places.now) }
+    ensures text { OnOk result (line.new.items ≡ line.old.items ++ flat_map (λ p. after_comma (shown_at T.shown items.now p)) indices.now) }
     ensures grows { vec_len line.old ≤ vec_len line.new }
 {
-    for place in places {
+    for index in indices {
         line.push(b',')?;
-        push_at(line, items, *place)?;
+        push_at(line, items, *index)?;
     }
     Ok(())
 }
 
-/// Those at the places in order, with commas between them.
-fn push_places<T: Octets>(
+/// Those at the indices in order, with commas between them.
+fn push_indices<T: Octets>(
     line: &mut Vec<u8>,
     items: &[T],
-    places: &[usize],
+    indices: &[usize],
 ) -> Result<(), OutOfMemory>
-    ensures text { OnOk result (line.new.items ≡ line.old.items ++ hex_list (shown_at T.shown items.now) places.now) }
+    ensures text { OnOk result (line.new.items ≡ line.old.items ++ hex_list (shown_at T.shown items.now) indices.now) }
     ensures grows { vec_len line.old ≤ vec_len line.new }
 {
-    let Some((first, others)) = places.split_first() else {
+    let Some((first, others)) = indices.split_first() else {
         return Ok(());
     };
     push_at(line, items, *first)?;
-    push_other_places(line, items, others)?;
+    push_other_indices(line, items, others)?;
     Ok(())
 }
 
-/// A trust domain, and its authorities at the places.
+/// A trust domain, and its authorities at the indices.
 fn push_bundle(
     line: &mut Vec<u8>,
     domain: &TrustDomain,
@@ -153,7 +153,7 @@ fn push_bundle(
     line.push(b' ')?;
     line.extend_from_slice(domain.as_str().as_bytes())?;
     line.push(b'=')?;
-    push_places(line, authorities, order)?;
+    push_indices(line, authorities, order)?;
     Ok(())
 }
 
@@ -163,7 +163,7 @@ fn push_bundles(
     set: &X509BundleSet,
     orders: &[List<usize>],
 ) -> Result<(), OutOfMemory>
-    requires { ArePlaced set.now orders.now }
+    requires { AreIndexed set.now orders.now }
     ensures text { OnOk result (line.new.items ≡ line.old.items ++ flat_map entry_text set.now) }
     ensures grows { vec_len line.old ≤ vec_len line.new }
 {
@@ -188,7 +188,7 @@ fn push_crls(line: &mut Vec<u8>, crls: &[Bytes], order: &[usize]) -> Result<(), 
         return Ok(());
     }
     line.extend_from_slice(b" #")?;
-    push_places(line, crls, order)?;
+    push_indices(line, crls, order)?;
     Ok(())
 }
 
@@ -210,21 +210,21 @@ fn push_choice(line: &mut Vec<u8>, svid: Option<&Arc<X509Svid>>) -> Result<(), O
     Ok(())
 }
 
-/// A context with its places, and the choice that is shown.
+/// A context with its indices, and the choice that is shown.
 fn push_context(
     line: &mut Vec<u8>,
     context: &X509Context,
-    places: &Sorted,
+    indices: &Sorted,
     choice: Option<&Arc<X509Svid>>,
 ) -> Result<(), OutOfMemory>
-    requires { AreSorted context.now places.now }
+    requires { AreSorted context.now indices.now }
     ensures text { OnOk result (line.new.items ≡ line.old.items ++ context_text context.now (option_map (λ a. arc_value a.now) choice.entry)) }
     ensures grows { vec_len line.old ≤ vec_len line.new }
 {
     line.extend_from_slice(b" permitted")?;
     push_choice(line, choice)?;
-    push_bundles(line, context.bundle_set(), places.authorities.as_slice())?;
-    push_crls(line, context.crls(), places.crls.as_slice())?;
+    push_bundles(line, context.bundle_set(), indices.authorities.as_slice())?;
+    push_crls(line, context.crls(), indices.crls.as_slice())?;
     Ok(())
 }
 
@@ -235,7 +235,7 @@ fn push_permitted(line: &mut Vec<u8>, held: &Prepared, now: Option<i64>) -> Resu
 {
     let choice = usable(held.chosen(), now);
     match (held.context(), held.sorted()) {
-        (Some(context), Some(places)) => push_context(line, context, places, choice),
+        (Some(context), Some(indices)) => push_context(line, context, indices, choice),
         _ => unreachable!(),
     }
 }
@@ -362,7 +362,7 @@ impl NumberedLine {
         is_changed: bool,
         now: Option<i64>,
     ) -> Result<(), OutOfMemory>
-        ensures shows { OnOk result ((before : Option ℤ) → (is_changed ≡ false → Shows snapshot.now before self.old) → Shows snapshot.now now self.new) }
+        ensures shows { OnOk result ((before : Option ℤ) → (is_changed ≡ false → ShowsKept snapshot.now before self.old) → ShowsKept snapshot.now now self.new) }
     {
         let shows_choice = snapshot.shows_choice(now);
         if is_changed || shows_choice != self.shows_choice {

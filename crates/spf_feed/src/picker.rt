@@ -6,7 +6,7 @@ ghost use Rattle.std.specs.Option.{option_map, ForSome};
 ghost use Rattle.std.specs.declared.sync.Arc.{Arc};
 ghost use Rattle.std.specs.declared.alloc.Global.{Global};
 ghost use Rattle.spf_x509.specs.Svid.{Svid};
-ghost use Rattle.spf_feed.specs.Pick.{pick_of, first_place, has_hint as is_hinted, first_with_hint as first_hinted, AnswersBy};
+ghost use Rattle.spf_feed.specs.Pick.{pick_of, first_index, has_hint as is_hinted, first_with_hint as first_hinted, AnswersBy};
 
 use spf_io::Text;
 use spf_x509::{X509Context, X509Svid};
@@ -104,9 +104,9 @@ impl SvidPicker for HintPicker {
 pub struct NoPicker;
 
 impl SvidPicker for NoPicker {
-    ghost use Rattle.spf_feed.specs.Pick.{first_place};
+    ghost use Rattle.spf_feed.specs.Pick.{first_index};
 
-    ghost picks = { λ _ svids. first_place svids };
+    ghost picks = { λ _ svids. first_index svids };
 
     fn pick_svid(&self, svids: &[Arc<X509Svid>]) -> Option<usize> {
         first(svids)
@@ -114,7 +114,7 @@ impl SvidPicker for NoPicker {
 }
 
 fn first(svids: &[Arc<X509Svid>]) -> Option<usize>
-    ensures { result ≡ first_place (map arc_value svids.now) }
+    ensures { result ≡ first_index (map arc_value svids.now) }
 {
     if svids.is_empty() { None } else { Some(0) }
 }
@@ -127,7 +127,7 @@ fn picked<P: SvidPicker>(svids: &[Arc<X509Svid>], picker: Option<&P>) -> Option<
     match picker {
         None => first(svids),
         Some(picker) => match picker.pick_svid(svids) {
-            Some(place) if place < svids.len() => Some(place),
+            Some(index) if index < svids.len() => Some(index),
             _ => None,
         },
     }

@@ -1,4 +1,4 @@
-//! A step with the places of its context in order.
+//! A step with the indices of its context in order.
 
 ghost use Rattle.std.specs.Prelude.{◌≡◌, IfOk};
 ghost use Rattle.std.specs.Option.{option_map, option_and_then, option_copied};
@@ -7,11 +7,11 @@ ghost use Rattle.std.specs.Ordering.{nat_cmp};
 ghost use Rattle.std.specs.Cmp.Lexicographic.{slice_cmp};
 ghost use Rattle.spf_x509.specs.Bundle.{find_entry};
 ghost use Rattle.spf_x509.specs.Order.{svid_cmp};
-ghost use Rattle.spf_feed.specs.Prepared.{is_same_step, HasPlaces};
-ghost use Rattle.spf_feed.specs.Sorted.{AuthorityPlaces, PlacesOf};
+ghost use Rattle.spf_feed.specs.Prepared.{is_same_step, HasIndices};
+ghost use Rattle.spf_feed.specs.Sorted.{AuthorityIndices, IndicesOf};
 ghost use Rattle.spf_feed.specs.Steps.{plain, is_accept, material_in, chosen_of};
 
-use crate::sorted::{Sorted, chosen, is_same, places_in, sorted_of};
+use crate::sorted::{Sorted, chosen, is_same, indices_in, sorted_of};
 use crate::step::Step;
 use spf_id::TrustDomain;
 use spf_io::OutOfMemory;
@@ -24,7 +24,7 @@ use std::sync::Arc;
 #[derive(Debug, Drop)]
 pub struct Prepared {
     step: Step,
-    places: Option<Arc<Sorted>>,
+    indices: Option<Arc<Sorted>>,
 }
 
 impl Model for Prepared {
@@ -33,11 +33,11 @@ impl Model for Prepared {
     ghost Value = { PlainStep };
 
     ghost use Rattle.spf_feed.specs.Steps.{plain};
-    ghost use Rattle.spf_feed.specs.Prepared.{IsPlaced};
+    ghost use Rattle.spf_feed.specs.Prepared.{IsIndexed};
 
     ghost view = { λ p. plain p.step };
 
-    ghost invariant = { λ p. IsPlaced (plain p.step) p.places };
+    ghost invariant = { λ p. IsIndexed (plain p.step) p.indices };
 }
 
 impl Prepared {
@@ -45,11 +45,11 @@ impl Prepared {
     pub fn new(alloc: Global, step: Step) -> Result<Prepared, OutOfMemory>
         ensures { IfOk result (λ p. p ≡ plain step) }
     {
-        let places = match &step {
+        let indices = match &step {
             Step::Accept { context, .. } => { Some(Arc::new(alloc, sorted_of(alloc, context)?)?) }
             Step::Deny { .. } => None,
         };
-        Ok(Prepared { step, places })
+        Ok(Prepared { step, indices })
     }
 
     pub fn step(&self) -> &Step
@@ -64,34 +64,34 @@ impl Prepared {
         self.step
     }
 
-    /// The places of the SVIDs, sorted. None for a Deny.
+    /// The indices of the SVIDs, sorted. None for a Deny.
     pub fn svid_positions(&self) -> &[usize]
-        ensures { PlacesOf svid_cmp (option_map (λ m. m.context.svids) (material_in self.now)) result.now }
+        ensures { IndicesOf svid_cmp (option_map (λ m. m.context.svids) (material_in self.now)) result.now }
     {
-        match &self.places {
-            Some(places) => places.svids.as_slice(),
+        match &self.indices {
+            Some(indices) => indices.svids.as_slice(),
             None => &[],
         }
     }
 
-    /// The places of the authorities of a trust domain, sorted.
+    /// The indices of the authorities of a trust domain, sorted.
     pub fn authority_positions(&self, td: &TrustDomain) -> Option<&[usize]>
-        ensures { AuthorityPlaces (option_and_then (λ m. find_entry td.now m.context.bundles) (material_in self.now)) (option_map (λ p. p.now) result) }
+        ensures { AuthorityIndices (option_and_then (λ m. find_entry td.now m.context.bundles) (material_in self.now)) (option_map (λ p. p.now) result) }
     {
-        match (&self.step, &self.places) {
-            (Step::Accept { context, .. }, Some(places)) => {
-                places_in(context.bundle_set(), places.authorities.as_slice(), td)
+        match (&self.step, &self.indices) {
+            (Step::Accept { context, .. }, Some(indices)) => {
+                indices_in(context.bundle_set(), indices.authorities.as_slice(), td)
             }
             _ => None,
         }
     }
 
-    /// The places of the revocation lists, sorted. None for a Deny.
+    /// The indices of the revocation lists, sorted. None for a Deny.
     pub fn crl_positions(&self) -> &[usize]
-        ensures { PlacesOf (slice_cmp nat_cmp) (option_map (λ m. m.context.crls) (material_in self.now)) result.now }
+        ensures { IndicesOf (slice_cmp nat_cmp) (option_map (λ m. m.context.crls) (material_in self.now)) result.now }
     {
-        match &self.places {
-            Some(places) => places.crls.as_slice(),
+        match &self.indices {
+            Some(indices) => indices.crls.as_slice(),
             None => &[],
         }
     }
@@ -100,13 +100,13 @@ impl Prepared {
     pub fn try_clone(&self) -> Result<Prepared, OutOfMemory>
         ensures { IfOk result (λ p. p ≡ self.now) }
     {
-        let places = match &self.places {
-            Some(places) => Some(Arc::try_clone(places)?),
+        let indices = match &self.indices {
+            Some(indices) => Some(Arc::try_clone(indices)?),
             None => None,
         };
         Ok(Prepared {
             step: self.step.try_clone()?,
-            places,
+            indices,
         })
     }
 
@@ -114,21 +114,21 @@ impl Prepared {
     pub(crate) fn is_same(&self, other: &Prepared) -> bool
         ensures { result ≡ is_same_step self.now other.now }
     {
-        match (&self.step, &self.places, &other.step, &other.places) {
+        match (&self.step, &self.indices, &other.step, &other.indices) {
             (
                 Step::Accept {
                     context: a,
                     choice: a_choice,
                     ..
                 },
-                Some(a_places),
+                Some(a_indices),
                 Step::Accept {
                     context: b,
                     choice: b_choice,
                     ..
                 },
-                Some(b_places),
-            ) => is_same(a, *a_choice, a_places, b, *b_choice, b_places),
+                Some(b_indices),
+            ) => is_same(a, *a_choice, a_indices, b, *b_choice, b_indices),
             _ => false,
         }
     }
@@ -140,10 +140,10 @@ impl Prepared {
     }
 
     pub(crate) fn sorted(&self) -> Option<&Sorted>
-        ensures { HasPlaces self.now (option_copied result) }
+        ensures { HasIndices self.now (option_copied result) }
     {
-        match &self.places {
-            Some(places) => Some(places),
+        match &self.indices {
+            Some(indices) => Some(indices),
             None => None,
         }
     }

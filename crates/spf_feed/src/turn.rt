@@ -8,7 +8,7 @@ ghost use Rattle.spf_feed.specs.declared.limits.ResourceLimits.{ResourceLimits};
 ghost use Rattle.spf_feed.specs.declared.event.SessionEvent.TheVariants as events;
 ghost use Rattle.spf_feed.specs.declared.record.MetricsErrorKind.TheVariants as kinds;
 ghost use Rattle.spf_feed.specs.declared.turn.Terminal.TheVariants as terminal;
-ghost use Rattle.spf_feed.specs.Items.{rules_with, denial_in, may_begin as may_begin_by};
+ghost use Rattle.spf_feed.specs.Items.{rules_with, denial_in, may_sync as may_sync_by};
 ghost use Rattle.spf_feed.specs.Limits.{within};
 ghost use Rattle.spf_feed.specs.Run.{ended, over_limit, kept_out, limit_error as limit_error_of, connect_error as connect_error_of, rejected_or_unsupported, client_rejected, timed_out};
 ghost use Rattle.spf_feed.specs.Received.{received_refusal, received_outcome, received_records};
@@ -44,10 +44,10 @@ impl Records {
     }
 
     /// The attempt ended, with this error.
-    fn ended(begun: bool, error: Option<MetricsErrorKind>) -> Records
-        ensures { listed result ≡ ended begun error }
+    fn ended(synced: bool, error: Option<MetricsErrorKind>) -> Records
+        ensures { listed result ≡ ended synced error }
     {
-        let end = if begun {
+        let end = if synced {
             MetricsRecord::Reconnect
         } else {
             MetricsRecord::Error(MetricsErrorKind::InitialSyncFailed)
@@ -59,10 +59,10 @@ impl Records {
     }
 
     /// An update was rejected, by this limit.
-    fn over(begun: bool, kind: LimitKind) -> Records
-        ensures { listed result ≡ over_limit begun kind }
+    fn over(synced: bool, kind: LimitKind) -> Records
+        ensures { listed result ≡ over_limit synced kind }
     {
-        let end = if begun {
+        let end = if synced {
             MetricsErrorKind::UpdateRejected
         } else {
             MetricsErrorKind::InitialSyncFailed
@@ -158,11 +158,11 @@ fn synced_turn(answer: WorkloadApiError, error: Option<MetricsErrorKind>) -> Tur
     }
 }
 
-fn status_turn(begun: bool, answer: WorkloadApiError, error: Option<MetricsErrorKind>) -> Turn
-    ensures may { (limits : ResourceLimits) → MayTake limits begun result }
-    ensures turn { IsTurn (if begun then None else refusal_in answer) (denied_or_passed begun (denial_in answer)) (ended begun error) result }
+fn status_turn(synced: bool, answer: WorkloadApiError, error: Option<MetricsErrorKind>) -> Turn
+    ensures may { (limits : ResourceLimits) → MayTake limits synced result }
+    ensures turn { IsTurn (if synced then None else refusal_in answer) (denied_or_passed synced (denial_in answer)) (ended synced error) result }
 {
-    if begun {
+    if synced {
         synced_turn(answer, error)
     } else {
         initial_turn(answer, error)
@@ -179,21 +179,21 @@ fn connect_error(answer: &WorkloadApiError) -> Option<MetricsErrorKind>
     }
 }
 
-fn connect_turn(begun: bool, status: GrpcStatusError) -> Turn
-    ensures may { (limits : ResourceLimits) → MayTake limits begun result }
-    ensures turn { IsTurn (if begun then None else rejected_or_unsupported status) (denied_or_passed begun (denial_in (status_reading status))) (ended begun (connect_error_of (status_reading status))) result }
+fn connect_turn(synced: bool, status: GrpcStatusError) -> Turn
+    ensures may { (limits : ResourceLimits) → MayTake limits synced result }
+    ensures turn { IsTurn (if synced then None else rejected_or_unsupported status) (denied_or_passed synced (denial_in (status_reading status))) (ended synced (connect_error_of (status_reading status))) result }
 {
     let answer = WorkloadApiError::from_status(status);
     let error = connect_error(&answer);
-    status_turn(begun, answer, error)
+    status_turn(synced, answer, error)
 }
 
-fn item_status_turn(begun: bool, status: GrpcStatusError) -> Turn
-    ensures may { (limits : ResourceLimits) → MayTake limits begun result }
-    ensures turn { IsTurn (if begun then None else rejected_or_unsupported status) (denied_or_passed begun (denial_in (status_reading status))) (ended begun (Some kinds.StreamError)) result }
+fn item_status_turn(synced: bool, status: GrpcStatusError) -> Turn
+    ensures may { (limits : ResourceLimits) → MayTake limits synced result }
+    ensures turn { IsTurn (if synced then None else rejected_or_unsupported status) (denied_or_passed synced (denial_in (status_reading status))) (ended synced (Some kinds.StreamError)) result }
 {
     let answer = WorkloadApiError::from_status(status);
-    status_turn(begun, answer, Some(MetricsErrorKind::StreamError))
+    status_turn(synced, answer, Some(MetricsErrorKind::StreamError))
 }
 
 /// A status of the client before any accepted item.
@@ -208,11 +208,11 @@ fn initial_failure_turn(answer: WorkloadApiError) -> Turn
 }
 
 /// A client failure never is a denial.
-fn failure_turn(begun: bool, fault: ClientFault) -> Turn
-    ensures may { (limits : ResourceLimits) → MayTake limits begun result }
-    ensures turn { IsTurn (if begun then None else client_rejected fault) OutcomePassed (ended begun (Some kinds.ClientCreation)) result }
+fn failure_turn(synced: bool, fault: ClientFault) -> Turn
+    ensures may { (limits : ResourceLimits) → MayTake limits synced result }
+    ensures turn { IsTurn (if synced then None else client_rejected fault) OutcomePassed (ended synced (Some kinds.ClientCreation)) result }
 {
-    if begun {
+    if synced {
         return Turn::Passed(Records::ended(true, Some(MetricsErrorKind::ClientCreation)));
     }
     match fault {
@@ -225,23 +225,23 @@ fn failure_turn(begun: bool, fault: ClientFault) -> Turn
     }
 }
 
-fn moment_turn(begun: bool, deadline: Option<i64>, moment: i64) -> Turn
-    ensures may { (limits : ResourceLimits) → MayTake limits begun result }
-    ensures turn { IsTurn (if begun then None else timed_out deadline moment) OutcomePassed [] result }
+fn moment_turn(synced: bool, deadline: Option<i64>, moment: i64) -> Turn
+    ensures may { (limits : ResourceLimits) → MayTake limits synced result }
+    ensures turn { IsTurn (if synced then None else timed_out deadline moment) OutcomePassed [] result }
 {
     match deadline {
-        Some(deadline) if !begun && deadline <= moment => {
+        Some(deadline) if !synced && deadline <= moment => {
             Turn::Terminal(Terminal::InitialSyncTimeout)
         }
         _ => Turn::Passed(Records::none()),
     }
 }
 
-fn close_turn(begun: bool) -> Turn
-    ensures may { (limits : ResourceLimits) → MayTake limits begun result }
-    ensures turn { IsTurn (if begun then None else Some terminal.Closed) OutcomePassed [] result }
+fn close_turn(synced: bool) -> Turn
+    ensures may { (limits : ResourceLimits) → MayTake limits synced result }
+    ensures turn { IsTurn (if synced then None else Some terminal.Closed) OutcomePassed [] result }
 {
-    if begun {
+    if synced {
         Turn::Passed(Records::none())
     } else {
         Turn::Terminal(Terminal::Closed)
@@ -249,8 +249,8 @@ fn close_turn(begun: bool) -> Turn
 }
 
 /// Whether the first accepted item may be this one.
-fn may_begin(context: &X509Context, choice: Option<usize>, ready: Ready, now: Option<i64>) -> bool
-    ensures { result ≡ may_begin_by ready (record { context = context.now; choice = choice }) now }
+fn may_sync(context: &X509Context, choice: Option<usize>, ready: Ready, now: Option<i64>) -> bool
+    ensures { result ≡ may_sync_by ready (record { context = context.now; choice = choice }) now }
 {
     match ready {
         Ready::Usable => usable(chosen(context, choice), now).is_some(),
@@ -259,7 +259,7 @@ fn may_begin(context: &X509Context, choice: Option<usize>, ready: Ready, now: Op
 }
 
 fn item_turn<C: SvidPicker>(
-    begun: bool,
+    synced: bool,
     now: Option<i64>,
     limits: ResourceLimits,
     picker: Option<&C>,
@@ -267,14 +267,14 @@ fn item_turn<C: SvidPicker>(
     context: X509Context,
 ) -> Turn
     requires { ForSome picker (λ p. C.can_pick p.now) }
-    ensures may { MayTake limits begun result }
-    ensures turn { IsTurn None (received_outcome (rules_with limits None ready (option_map (λ p. C.picks p.now) picker.entry)) begun now (events.Item (Some context))) (kept_out begun (within limits context)) result }
+    ensures may { MayTake limits synced result }
+    ensures turn { IsTurn None (received_outcome (rules_with limits None ready (option_map (λ p. C.picks p.now) picker.entry)) synced now (events.Item (Some context))) (kept_out synced (within limits context)) result }
 {
     if let Err(broken) = validate_limits(&context, limits) {
-        return Turn::Passed(Records::over(begun, broken.kind));
+        return Turn::Passed(Records::over(synced, broken.kind));
     }
     let choice = select_svid(&context, picker);
-    if !begun && !may_begin(&context, choice, ready, now) {
+    if !synced && !may_sync(&context, choice, ready, now) {
         return Turn::Passed(Records::ended(false, Some(MetricsErrorKind::NoSuitableSvid)));
     }
     Turn::Accepted { context, choice }
@@ -283,7 +283,7 @@ fn item_turn<C: SvidPicker>(
 /// What an event does, where an item was accepted before it or not, and at the last moment before it.
 pub(crate) fn turn_of<C: SvidPicker>(
     event: Received,
-    begun: bool,
+    synced: bool,
     now: Option<i64>,
     limits: ResourceLimits,
     deadline: Option<i64>,
@@ -291,24 +291,24 @@ pub(crate) fn turn_of<C: SvidPicker>(
     picker: Option<&C>,
 ) -> Turn
     requires { ForSome picker (λ p. C.can_pick p.now) }
-    ensures may { MayTake limits begun result }
-    ensures turn { IsTurn (received_refusal deadline begun event) (received_outcome (rules_with limits deadline ready (option_map (λ p. C.picks p.now) picker.entry)) begun now event) (received_records begun limits event) result }
+    ensures may { MayTake limits synced result }
+    ensures turn { IsTurn (received_refusal deadline synced event) (received_outcome (rules_with limits deadline ready (option_map (λ p. C.picks p.now) picker.entry)) synced now event) (received_records synced limits event) result }
 {
     match event {
         Received::ClientMade | Received::Connected => Turn::Passed(Records::none()),
-        Received::ClientFailed(fault) => failure_turn(begun, fault),
-        Received::ConnectStatus(status) => connect_turn(begun, status),
-        Received::ItemStatus(status) => item_status_turn(begun, status),
+        Received::ClientFailed(fault) => failure_turn(synced, fault),
+        Received::ConnectStatus(status) => connect_turn(synced, status),
+        Received::ItemStatus(status) => item_status_turn(synced, status),
         Received::Item(None) => Turn::Passed(Records::ended(
-            begun,
+            synced,
             Some(MetricsErrorKind::StreamError),
         )),
-        Received::Item(Some(context)) => item_turn(begun, now, limits, picker, ready, context),
+        Received::Item(Some(context)) => item_turn(synced, now, limits, picker, ready, context),
         Received::StreamEnd => Turn::Passed(Records::ended(
-            begun,
+            synced,
             Some(MetricsErrorKind::StreamEnded),
         )),
-        Received::Moment(moment) => moment_turn(begun, deadline, moment),
-        Received::Close => close_turn(begun),
+        Received::Moment(moment) => moment_turn(synced, deadline, moment),
+        Received::Close => close_turn(synced),
     }
 }

@@ -3,7 +3,7 @@ use Rattle.std.proofs.Common.{◌≡◌, Bool, true, false, cond, ◌||◌, List
 use Rattle.std.specs.Prelude.{is_some}
 use Rattle.std.specs.Option.{option_or, option_map_or, option_to_list}
 use Rattle.std.specs.Cmp.{IsEquivalence}
-use Rattle.spf_view.specs.Views.{Subject, Accepted, Denied, View, Waiting, Withdrawn, Permitted, keep_if, brings, has_begun, outcome, outcomes, last_accepted, first_denial, seen, view_of, same_view, view_after, revision_after, outcome_after, denied_or_passed, last_moment}
+use Rattle.spf_view.specs.Views.{Subject, Accepted, Denied, View, Waiting, Withdrawn, Permitted, keep_if, brings, has_synced, outcome, outcomes, last_accepted, first_denial, view_from, view_of, same_view, view_after, revision_after, outcome_after, denied_or_passed, last_moment}
 use Rattle.spf_view.specs.Steps.{Accept, Deny, step_in, steps_of, replay_revision}
 use Rattle.spf_view.specs.Standing.{raised}
 use Rattle.spf_view.proofs.ViewLemmas.{link_view, link_revision, steps_more, outcomes_more}
@@ -12,24 +12,24 @@ use Rattle.spf_view.proofs.RevisionLemmas.{revision_more, denied_view, denied_ag
 -- ---- the same event again
 
 -- where something is the last accepted one, something was accepted
-begun_back : {E M L D : Type 0} (s : Subject E M L D) (past : List E) → is_some (last_accepted (outcomes s past)) ≡ true → has_begun s past ≡ true
-begun_back s [] h = cc
-begun_back {E} {M} {L} {D} s (e ∷ past) h = cases (λ i. begun_back s past i) (brings s (has_begun s past) (last_moment s past) e) (s.denial e) (has_begun s past) h
+synced_back : {E M L D : Type 0} (s : Subject E M L D) (past : List E) → is_some (last_accepted (outcomes s past)) ≡ true → has_synced s past ≡ true
+synced_back s [] h = cc
+synced_back {E} {M} {L} {D} s (e ∷ past) h = cases (λ i. synced_back s past i) (brings s (has_synced s past) (last_moment s past) e) (s.denial e) (has_synced s past) h
   where
-    cases : (is_some (last_accepted (outcomes s past)) ≡ true → has_begun s past ≡ true) → (o : Option M) (q : Option D) (b : Bool)
-        → is_some (last_accepted (option_map_or Accepted o (denied_or_passed b q) ∷ outcomes s past)) ≡ true → (is_some o || has_begun s past) ≡ true
+    cases : (is_some (last_accepted (outcomes s past)) ≡ true → has_synced s past ≡ true) → (o : Option M) (q : Option D) (b : Bool)
+        → is_some (last_accepted (option_map_or Accepted o (denied_or_passed b q) ∷ outcomes s past)) ≡ true → (is_some o || has_synced s past) ≡ true
     cases ih (Some m) q b i = refl
     cases ih None None b i = ih i
     cases ih None (Some d) true i = ih i
     cases ih None (Some d) false i = ih i
 
-seen_begun : {M D : Type 0} (a : Option M) (b : Option D) (d : D) → seen a b ≡ Withdrawn d → is_some a ≡ true
-seen_begun None b d e = cc
-seen_begun (Some m) b d e = refl
+view_from_synced : {M D : Type 0} (a : Option M) (b : Option D) (d : D) → view_from a b ≡ Withdrawn d → is_some a ≡ true
+view_from_synced None b d e = cc
+view_from_synced (Some m) b d e = refl
 
 -- what is accepted breaks no rule and passes no limit
 offered_from : {E M L D : Type 0} (s : Subject E M L D) (e : E) (past : List E) (m : M) → outcome s e past ≡ Accepted m → keep_if (s.is_within s.limits) (s.parsed e) ≡ Some m
-offered_from {E} {M} {L} {D} s e past m h = cases (keep_if (s.is_within s.limits) (s.parsed e)) (s.denial e) (has_begun s past) h
+offered_from {E} {M} {L} {D} s e past m h = cases (keep_if (s.is_within s.limits) (s.parsed e)) (s.denial e) (has_synced s past) h
   where
     none : (q : Option D) (b : Bool) → denied_or_passed {M = M} b q ≡ Accepted m → ⊥
     none None b i = cc
@@ -40,16 +40,16 @@ offered_from {E} {M} {L} {D} s e past m h = cases (keep_if (s.is_within s.limits
     test x q b true i = let j : x ≡ m = cc in ap Some j
     test x q b false i = absurd (none q b i)
 
-    cases : (o : Option M) (q : Option D) (b : Bool) → option_map_or Accepted (keep_if (λ n. b || s.may_begin n (last_moment s past)) o) (denied_or_passed b q) ≡ Accepted m → o ≡ Some m
+    cases : (o : Option M) (q : Option D) (b : Bool) → option_map_or Accepted (keep_if (λ n. b || s.may_sync n (last_moment s past)) o) (denied_or_passed b q) ≡ Accepted m → o ≡ Some m
     cases None q b i = absurd (none q b i)
-    cases (Some x) q b i = test x q b (b || s.may_begin x (last_moment s past)) i
+    cases (Some x) q b i = test x q b (b || s.may_sync x (last_moment s past)) i
 
 -- what was accepted is accepted again after a withdrawal
 pub accepted_again : {E M L D : Type 0} (s : Subject E M L D) (before events : List E) (e : E) (m : M) (d : D) → outcome_after s before e ≡ Accepted m → view_after s events ≡ Withdrawn d → outcome_after s events e ≡ Accepted m
 accepted_again {E} {M} {L} {D} s before events e m d h w =
     let o = offered_from s e (reverse before) m h in
-    let b = begun_back s (reverse events) (seen_begun (last_accepted (outcomes s (reverse events))) (first_denial (outcomes s (reverse events))) d w) in
-    ap (λ c. option_map_or Accepted (keep_if (λ n. c || s.may_begin n (last_moment s (reverse events))) (keep_if (s.is_within s.limits) (s.parsed e))) (denied_or_passed c (s.denial e))) b
+    let b = synced_back s (reverse events) (view_from_synced (last_accepted (outcomes s (reverse events))) (first_denial (outcomes s (reverse events))) d w) in
+    ap (λ c. option_map_or Accepted (keep_if (λ n. c || s.may_sync n (last_moment s (reverse events))) (keep_if (s.is_within s.limits) (s.parsed e))) (denied_or_passed c (s.denial e))) b
     ∙ ap (λ k. option_map_or Accepted (keep_if (λ n. true) k) (denied_or_passed true (s.denial e))) o
 
 -- what is accepted is within the limits
@@ -102,7 +102,7 @@ view_denied {E} {M} {L} {D} s events e m d w h =
     ap view_of (outcomes_more s events e) ∙ ap (λ o. view_of (o ∷ outcomes s (reverse events))) h
     ∙ cases (last_accepted (outcomes s (reverse events))) (first_denial (outcomes s (reverse events))) w
   where
-    cases : (a : Option M) (b : Option D) → seen a b ≡ Permitted m → seen a (option_or b (Some d)) ≡ Withdrawn d
+    cases : (a : Option M) (b : Option D) → view_from a b ≡ Permitted m → view_from a (option_or b (Some d)) ≡ Withdrawn d
     cases None b f = cc
     cases (Some a) None f = refl
     cases (Some a) (Some b) f = cc
@@ -122,7 +122,7 @@ view_denied_again {E} {M} {L} {D} s events e d d' w h =
     ap view_of (outcomes_more s events e) ∙ ap (λ o. view_of (o ∷ outcomes s (reverse events))) h
     ∙ cases (last_accepted (outcomes s (reverse events))) (first_denial (outcomes s (reverse events))) w
   where
-    cases : (a : Option M) (b : Option D) → seen a b ≡ Withdrawn d → seen a (option_or b (Some d')) ≡ Withdrawn d
+    cases : (a : Option M) (b : Option D) → view_from a b ≡ Withdrawn d → view_from a (option_or b (Some d')) ≡ Withdrawn d
     cases None b f = cc
     cases (Some a) None f = cc
     cases (Some a) (Some b) f = f

@@ -4,13 +4,13 @@ use Rattle.std.specs.Prelude.{ℤ, is_some}
 use Rattle.std.specs.Option.{option_or, option_map_or, option_to_list, ForSome}
 use Rattle.std.specs.List.{AllByRecursion}
 use Rattle.std.proofs.lemmas.List.{append-nil}
-use Rattle.spf_view.specs.Views.{Subject, Accepted, keep_if, last_moment, brings, has_begun, denied_or_passed, outcome, outcomes, outcome_with, outcome_after}
+use Rattle.spf_view.specs.Views.{Subject, Accepted, keep_if, last_moment, brings, has_synced, denied_or_passed, outcome, outcomes, outcome_with, outcome_after}
 use Rattle.spf_view.specs.Steps.{Step, Accept, Deny, step_in, step_with, steps_back, steps_of, IsFit, BeginsWithAccept, IsLegal}
 use Rattle.spf_view.specs.Standing.{Kept, StandsIf, KeptAfter}
 use Rattle.spf_view.proofs.ViewLemmas.{last_first, steps_back_more, steps_more}
 
-pub begun_more : {E M L D : Type 0} (s : Subject E M L D) (events : List E) (e : E) → has_begun s (reverse (events ++ e ∷ [])) ≡ (is_some (brings s (has_begun s (reverse events)) (last_moment s (reverse events)) e) || has_begun s (reverse events))
-begun_more s events e = ap (has_begun s) (last_first events e)
+pub synced_more : {E M L D : Type 0} (s : Subject E M L D) (events : List E) (e : E) → has_synced s (reverse (events ++ e ∷ [])) ≡ (is_some (brings s (has_synced s (reverse events)) (last_moment s (reverse events)) e) || has_synced s (reverse events))
+synced_more s events e = ap (has_synced s) (last_first events e)
 
 pub moment_more : {E M L D : Type 0} (s : Subject E M L D) (events : List E) (e : E) → last_moment s (reverse (events ++ e ∷ [])) ≡ option_or (s.moment e) (last_moment s (reverse events))
 moment_more s events e = ap (last_moment s) (last_first events e)
@@ -18,7 +18,7 @@ moment_more s events e = ap (last_moment s) (last_first events e)
 -- ---- where a session stands
 
 pub kept_before : {E M L D : Type 0} (s : Subject E M L D) → KeptAfter s [] None None
-kept_before s = record { begun = refl; moment = refl; stands = refl }
+kept_before s = record { synced = refl; moment = refl; stands = refl }
 
 -- whether something is brought, by the step that it makes
 brought : {M L D : Type 0} (o : Option M) (b : Bool) (q : Option D) (l : L) → (is_some o || b) ≡ (is_some (step_in l (option_map_or Accepted o (denied_or_passed b q))) || b)
@@ -34,10 +34,10 @@ pub kept_more : {E M L D : Type 0} (s : Subject E M L D) (events : List E) (e : 
     → KeptAfter s events now k → KeptAfter s (events ++ e ∷ []) (option_or (s.moment e) now) new
 kept_more {E} {M} {L} {D} s events e now k new f any h =
     let went = f (steps_of s events) h.stands in
-    let same : outcome_after s events e ≡ outcome_with s (is_some k) now e = λ i. outcome_with s (h.begun i) (h.moment i) e in
-    let begun : has_begun s (reverse (events ++ e ∷ [])) ≡ (is_some (brings s (is_some k) now e) || is_some k) = begun_more s events e ∙ (λ i. is_some (brings s (h.begun i) (h.moment i) e) || h.begun i) in
+    let same : outcome_after s events e ≡ outcome_with s (is_some k) now e = λ i. outcome_with s (h.synced i) (h.moment i) e in
+    let synced : has_synced s (reverse (events ++ e ∷ [])) ≡ (is_some (brings s (is_some k) now e) || is_some k) = synced_more s events e ∙ (λ i. is_some (brings s (h.synced i) (h.moment i) e) || h.synced i) in
     record {
-      begun = begun ∙ brought (brings s (is_some k) now e) (is_some k) (s.denial e) s.limits ∙ any;
+      synced = synced ∙ brought (brings s (is_some k) now e) (is_some k) (s.denial e) s.limits ∙ any;
       moment = moment_more s events e ∙ ap (option_or (s.moment e)) h.moment;
       stands = subst (λ (steps : List (Step M L D)). StandsIf s.is_same steps new) (sym (steps_more s events e ∙ ap (λ o. steps_of s events ++ option_to_list (step_in s.limits o)) same)) went;
     }
@@ -84,19 +84,19 @@ legal_step {M} {L} {D} fits l None true None steps f h = subst (λ (ss : List (S
 legal_step fits l None false (Some d) steps f h = append-nil steps ∙ h
 legal_step fits l None false None steps f h = append-nil steps ∙ h
 
-legal_past : {E M L D : Type 0} (s : Subject E M L D) (past : List E) → LegalFrom s.is_within (has_begun s past) (reverse (steps_back s.limits (outcomes s past)))
+legal_past : {E M L D : Type 0} (s : Subject E M L D) (past : List E) → LegalFrom s.is_within (has_synced s past) (reverse (steps_back s.limits (outcomes s past)))
 unfolding LegalFrom
 legal_past s [] = refl
 legal_past {E} {M} {L} {D} s (e ∷ past) =
     let now = last_moment s past in
-    let begun = has_begun s past in
-    let fit = λ (m : M) (i : brings s begun now e ≡ Some m). kept_fits (s.is_within s.limits) (λ n. begun || s.may_begin n now) (s.parsed e) m i in
-    subst (λ (ss : List (Step M L D)). LegalFrom s.is_within (has_begun s (e ∷ past)) ss) (sym (steps_back_more s.limits (outcome s e past) (outcomes s past)))
-    (legal_step s.is_within s.limits (brings s begun now e) begun (s.denial e) (reverse (steps_back s.limits (outcomes s past))) fit (legal_past s past))
+    let synced = has_synced s past in
+    let fit = λ (m : M) (i : brings s synced now e ≡ Some m). kept_fits (s.is_within s.limits) (λ n. synced || s.may_sync n now) (s.parsed e) m i in
+    subst (λ (ss : List (Step M L D)). LegalFrom s.is_within (has_synced s (e ∷ past)) ss) (sym (steps_back_more s.limits (outcome s e past) (outcomes s past)))
+    (legal_step s.is_within s.limits (brings s synced now e) synced (s.denial e) (reverse (steps_back s.limits (outcomes s past))) fit (legal_past s past))
 
 pub steps_legal : {E M L D : Type 0} (s : Subject E M L D) (events : List E) → (steps_of s events ≡ [] → ⊥) → IsLegal s.is_within (steps_of s events)
 unfolding LegalFrom
-steps_legal {E} {M} {L} {D} s events some = cases (has_begun s (reverse events)) (legal_past s (reverse events))
+steps_legal {E} {M} {L} {D} s events some = cases (has_synced s (reverse events)) (legal_past s (reverse events))
   where
     cases : (b : Bool) → LegalFrom s.is_within b (steps_of s events) → IsLegal s.is_within (steps_of s events)
     cases false h = absurd (some h)

@@ -4,7 +4,7 @@ use Rattle.std.specs.Prelude.{ℤ, is_some}
 use Rattle.std.specs.Option.{option_or, option_to_list, ForSome}
 use Rattle.std.specs.Cmp.{IsEquivalence}
 use Rattle.std.proofs.lemmas.List.{append-nil, reverse-reverse, reverse-append}
-use Rattle.spf_view.specs.Views.{Subject, View, Waiting, Withdrawn, Permitted, has_begun, last_moment, outcome, outcomes, outcome_with, view_of, revision_of, same_view}
+use Rattle.spf_view.specs.Views.{Subject, View, Waiting, Withdrawn, Permitted, has_synced, last_moment, outcome, outcomes, outcome_with, view_of, revision_of, same_view}
 use Rattle.spf_view.specs.Steps.{Step, Accept, Deny, step_with, steps_of, replay_view, BeginsWithAccept}
 use Rattle.spf_view.specs.Standing.{reason_of, held_in, StandsFor, Kept, StandsIf, KeptAfter, IsShowing, is_change, shown_by, raised}
 use Rattle.spf_view.specs.Keeping.{kept_with, kept_with_any, ShowsIf, IsAt, SeenAs}
@@ -18,14 +18,14 @@ use Rattle.spf_view.proofs.ViewLemmas.{link_view, link_revision}
 pub at_start : {E M L D : Type 0} (s : Subject E M L D) → IsAt s [] None None
 at_start s = record { stands = kept_before s; shows = tt }
 
-pub begun_at : {E M L D : Type 0} (s : Subject E M L D) (past : List E) (now : Option ℤ) (kept : Option (Kept M D)) → IsAt s past now kept → has_begun s past ≡ is_some kept
-begun_at s past now kept h = ap (has_begun s) (sym (reverse-reverse past)) ∙ h.stands.begun
+pub synced_at : {E M L D : Type 0} (s : Subject E M L D) (past : List E) (now : Option ℤ) (kept : Option (Kept M D)) → IsAt s past now kept → has_synced s past ≡ is_some kept
+synced_at s past now kept h = ap (has_synced s) (sym (reverse-reverse past)) ∙ h.stands.synced
 
 pub moment_at : {E M L D : Type 0} (s : Subject E M L D) (past : List E) (now : Option ℤ) (kept : Option (Kept M D)) → IsAt s past now kept → last_moment s past ≡ now
 moment_at s past now kept h = ap (last_moment s) (sym (reverse-reverse past)) ∙ h.stands.moment
 
 pub outcome_at : {E M L D : Type 0} (s : Subject E M L D) (past : List E) (now : Option ℤ) (kept : Option (Kept M D)) (e : E) → IsAt s past now kept → outcome s e past ≡ outcome_with s (is_some kept) now e
-outcome_at s past now kept e h = λ i. outcome_with s (begun_at s past now kept h i) (moment_at s past now kept h i) e
+outcome_at s past now kept e h = λ i. outcome_with s (synced_at s past now kept h i) (moment_at s past now kept h i) e
 
 -- ---- one event more
 

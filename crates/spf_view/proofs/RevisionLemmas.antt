@@ -1,7 +1,7 @@
 -- What one more step makes of the revision and of the view.
 use Rattle.std.proofs.Common.{◌≡◌, ℕ, ◌+◌, ◌-◌, ◌^◌, ◌<◌, min, Bool, true, false, cond, List, [], ◌∷◌, ◌++◌, map, reverse, Option, None, Some, refl, sym, ap, ◌∙◌, arith}
 use Rattle.std.specs.Option.{option_or}
-use Rattle.spf_view.specs.Views.{Denied, View, Waiting, Withdrawn, Permitted, last_accepted, first_denial, seen, view_of, views_of, same_view, changes, revision_of}
+use Rattle.spf_view.specs.Views.{Denied, View, Waiting, Withdrawn, Permitted, last_accepted, first_denial, view_from, view_of, views_of, same_view, changes, revision_of}
 use Rattle.spf_view.specs.Steps.{Step, Accept, Deny, done, replay_view, replay_revision}
 use Rattle.spf_view.specs.Standing.{reason_of, raised}
 use Rattle.spf_view.proofs.ViewLemmas.{last_first}
@@ -49,7 +49,7 @@ reason_view (Permitted m) d e = cc
 pub denied_view : {M L D : Type 0} (past : List (Step M L D)) (m : M) (d : D) → view_of (map done past) ≡ Permitted m → view_of (Denied d ∷ map done past) ≡ Withdrawn d
 denied_view {M} {L} {D} past m d e = cases (last_accepted (map done past)) (first_denial (map done past)) e
   where
-    cases : (a : Option M) (b : Option D) → seen a b ≡ Permitted m → seen a (option_or b (Some d)) ≡ Withdrawn d
+    cases : (a : Option M) (b : Option D) → view_from a b ≡ Permitted m → view_from a (option_or b (Some d)) ≡ Withdrawn d
     cases None b f = cc
     cases (Some a) None f = refl
     cases (Some a) (Some b) f = cc
@@ -58,7 +58,7 @@ denied_view {M} {L} {D} past m d e = cases (last_accepted (map done past)) (firs
 pub denied_again : {M L D : Type 0} (past : List (Step M L D)) (d d' : D) → view_of (map done past) ≡ Withdrawn d → view_of (Denied d' ∷ map done past) ≡ Withdrawn d
 denied_again {M} {L} {D} past d d' e = cases (last_accepted (map done past)) (first_denial (map done past)) e
   where
-    cases : (a : Option M) (b : Option D) → seen a b ≡ Withdrawn d → seen a (option_or b (Some d')) ≡ Withdrawn d
+    cases : (a : Option M) (b : Option D) → view_from a b ≡ Withdrawn d → view_from a (option_or b (Some d')) ≡ Withdrawn d
     cases None b f = cc
     cases (Some a) None f = cc
     cases (Some a) (Some b) f = f

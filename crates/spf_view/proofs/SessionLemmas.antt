@@ -103,22 +103,22 @@ longest_ended s past bytes front others rest other (x ∷ es) (f ∷ fs) e going
     let le = longest_ended s (x ∷ past) going.1 front session.1 rest other es fs e going.4 frame ending both.1 (subst (λ y. IsSession s (y ∷ past) session.1 fs) (sym both.0) session.4) in
     omega (arith, le)
 
-pub reading_stuck : {E A : Type 0} (s : Stream E A) (most : ℕ) (bytes : List ℕ) (es : List E) (rest : List ℕ) → IsOpen s [] bytes es → length es ≤ most → NoFrameAt s (onto [] es) rest
-    → IsReading s most (bytes ++ rest) es rest
-reading_stuck s most bytes es rest going le stuck = record {
+pub reading_stuck : {E A : Type 0} (s : Stream E A) (max_frames : ℕ) (bytes : List ℕ) (es : List E) (rest : List ℕ) → IsOpen s [] bytes es → length es ≤ max_frames → NoFrameAt s (onto [] es) rest
+    → IsReading s max_frames (bytes ++ rest) es rest
+reading_stuck s max_frames bytes es rest going le stuck = record {
   reads = record { text = bytes; bytes_are = refl; session = session_of s [] bytes es going; bound = le };
   longest = λ fs other r. longest_stuck s [] bytes r.text rest other es fs going stuck r.bytes_are r.session;
 }
 
-pub reading_full : {E A : Type 0} (s : Stream E A) (most : ℕ) (bytes : List ℕ) (es : List E) (rest : List ℕ) → IsOpen s [] bytes es → length es ≡ most → IsReading s most (bytes ++ rest) es rest
-reading_full s most bytes es rest going full = record {
+pub reading_full : {E A : Type 0} (s : Stream E A) (max_frames : ℕ) (bytes : List ℕ) (es : List E) (rest : List ℕ) → IsOpen s [] bytes es → length es ≡ max_frames → IsReading s max_frames (bytes ++ rest) es rest
+reading_full s max_frames bytes es rest going full = record {
   reads = record { text = bytes; bytes_are = refl; session = session_of s [] bytes es going; bound = omega arith };
-  longest = λ fs other r. let b : length fs ≤ most = r.bound in omega arith;
+  longest = λ fs other r. let b : length fs ≤ max_frames = r.bound in omega arith;
 }
 
-pub reading_ended : {E A : Type 0} (s : Stream E A) (most : ℕ) (bytes : List ℕ) (es : List E) (front : List ℕ) (e : E) (rest : List ℕ) → IsOpen s [] bytes es → IsFrame s (onto [] es) front e
-    → IsTrue (ends s (onto [] es) e) → length es < most → IsReading s most ((bytes ++ front) ++ rest) (es ++ e ∷ []) rest
-reading_ended s most bytes es front e rest going frame ending lt = record {
+pub reading_ended : {E A : Type 0} (s : Stream E A) (max_frames : ℕ) (bytes : List ℕ) (es : List E) (front : List ℕ) (e : E) (rest : List ℕ) → IsOpen s [] bytes es → IsFrame s (onto [] es) front e
+    → IsTrue (ends s (onto [] es) e) → length es < max_frames → IsReading s max_frames ((bytes ++ front) ++ rest) (es ++ e ∷ []) rest
+reading_ended s max_frames bytes es front e rest going frame ending lt = record {
   reads = record { text = bytes ++ front; bytes_are = refl; session = session_more s [] bytes es front e going frame; bound = omega (arith, length-append es (e ∷ [])) };
   longest = λ fs other r. longest_ended s [] bytes front r.text rest other es fs e going frame ending r.bytes_are r.session;
 }
@@ -170,31 +170,31 @@ or_true : (b : Bool) → (b || true) ≡ true
 or_true true = refl
 or_true false = refl
 
-pub end_at_end : {E A : Type 0} (s : Stream E A) (most : ℕ) (es : List E) (b : Bool) → refusal_of s [] es ≡ None → s.begun (onto [] es) ≡ b → end_of s most es [] ≡ cond b (Whole (length es)) NeverSynced
-end_at_end s most es b none good = let t : (closed_of s es || true) ≡ true = or_true (closed_of s es) in rw (none, t, good) refl
+pub end_at_end : {E A : Type 0} (s : Stream E A) (max_frames : ℕ) (es : List E) (b : Bool) → refusal_of s [] es ≡ None → s.synced (onto [] es) ≡ b → end_of s max_frames es [] ≡ cond b (Whole (length es)) NeverSynced
+end_at_end s max_frames es b none good = let t : (closed_of s es || true) ≡ true = or_true (closed_of s es) in rw (none, t, good) refl
 
-pub end_closed : {E A : Type 0} (s : Stream E A) (most : ℕ) (es : List E) (rest : List ℕ) (b : Bool) → refusal_of s [] es ≡ None → closed_of s es ≡ true → s.begun (onto [] es) ≡ b
-    → end_of s most es rest ≡ cond b (Whole (length es)) NeverSynced
-end_closed s most es rest b none closed good = rw (none, closed, good) refl
+pub end_closed : {E A : Type 0} (s : Stream E A) (max_frames : ℕ) (es : List E) (rest : List ℕ) (b : Bool) → refusal_of s [] es ≡ None → closed_of s es ≡ true → s.synced (onto [] es) ≡ b
+    → end_of s max_frames es rest ≡ cond b (Whole (length es)) NeverSynced
+end_closed s max_frames es rest b none closed good = rw (none, closed, good) refl
 
-pub end_long : {E A : Type 0} (s : Stream E A) (most : ℕ) (es : List E) (x : ℕ) (rest : List ℕ) → refusal_of s [] es ≡ None → closed_of s es ≡ false → length es ≡ most → end_of s most es (x ∷ rest) ≡ TooLong
-end_long s most es x rest none going full =
+pub end_long : {E A : Type 0} (s : Stream E A) (max_frames : ℕ) (es : List E) (x : ℕ) (rest : List ℕ) → refusal_of s [] es ≡ None → closed_of s es ≡ false → length es ≡ max_frames → end_of s max_frames es (x ∷ rest) ≡ TooLong
+end_long s max_frames es x rest none going full =
     let some : eqb (suc (length rest)) 0 ≡ false = grind (arith, nat_tests) in
-    let is : eqb (length es) most ≡ true = grind (arith, nat_tests) in
+    let is : eqb (length es) max_frames ≡ true = grind (arith, nat_tests) in
     rw (none, going, some, is) refl
 
-bad : {E A : Type 0} (s : Stream E A) (most : ℕ) (es : List E) (x : ℕ) (rest : List ℕ) → refusal_of s [] es ≡ None → closed_of s es ≡ false → length es < most → end_of s most es (x ∷ rest) ≡ BadFrame (length es + 1)
-bad s most es x rest none going lt =
+bad : {E A : Type 0} (s : Stream E A) (max_frames : ℕ) (es : List E) (x : ℕ) (rest : List ℕ) → refusal_of s [] es ≡ None → closed_of s es ≡ false → length es < max_frames → end_of s max_frames es (x ∷ rest) ≡ BadFrame (length es + 1)
+bad s max_frames es x rest none going lt =
     let some : eqb (suc (length rest)) 0 ≡ false = grind (arith, nat_tests) in
-    let isnt : eqb (length es) most ≡ false = grind (arith, nat_tests) in
+    let isnt : eqb (length es) max_frames ≡ false = grind (arith, nat_tests) in
     rw (none, going, some, isnt) refl
 
-pub end_bad : {E A : Type 0} (s : Stream E A) (most : ℕ) (es : List E) (rest : List ℕ) → refusal_of s [] es ≡ None → closed_of s es ≡ false → rest ≢ [] → length es < most → end_of s most es rest ≡ BadFrame (length es + 1)
-end_bad s most es [] none going some lt = absurd (some refl)
-end_bad s most es (x ∷ rest) none going some lt = bad s most es x rest none going lt
+pub end_bad : {E A : Type 0} (s : Stream E A) (max_frames : ℕ) (es : List E) (rest : List ℕ) → refusal_of s [] es ≡ None → closed_of s es ≡ false → rest ≢ [] → length es < max_frames → end_of s max_frames es rest ≡ BadFrame (length es + 1)
+end_bad s max_frames es [] none going some lt = absurd (some refl)
+end_bad s max_frames es (x ∷ rest) none going some lt = bad s max_frames es x rest none going lt
 
-pub end_refused : {E A : Type 0} (s : Stream E A) (most : ℕ) (es : List E) (rest : List ℕ) (x : A) → refusal_of s [] es ≡ Some x → end_of s most es rest ≡ Refused x
-end_refused s most es rest x h = rw h refl
+pub end_refused : {E A : Type 0} (s : Stream E A) (max_frames : ℕ) (es : List E) (rest : List ℕ) (x : A) → refusal_of s [] es ≡ Some x → end_of s max_frames es rest ≡ Refused x
+end_refused s max_frames es rest x h = rw h refl
 
 -- ---- one reading
 
@@ -209,6 +209,6 @@ session_same s past text text' (e ∷ es) (f ∷ fs) rest other a b len same =
     let others = session_same s (e ∷ past) a.1 b.1 es fs rest other a.4 (subst (λ x. IsSession s (x ∷ past) b.1 fs) (sym both.0) b.4) (omega (arith, len)) both.1 in
     (λ i. both.0 i ∷ others.0 i, others.1)
 
-pub reading_same : {E A : Type 0} (s : Stream E A) (most : ℕ) (bytes : List ℕ) (es fs : List E) (rest other : List ℕ) → IsReading s most bytes es rest → IsReading s most bytes fs other → (es ≡ fs) × (rest ≡ other)
-reading_same s most bytes es fs rest other a b =
+pub reading_same : {E A : Type 0} (s : Stream E A) (max_frames : ℕ) (bytes : List ℕ) (es fs : List E) (rest other : List ℕ) → IsReading s max_frames bytes es rest → IsReading s max_frames bytes fs other → (es ≡ fs) × (rest ≡ other)
+reading_same s max_frames bytes es fs rest other a b =
     session_same s [] a.reads.text b.reads.text es fs rest other a.reads.session b.reads.session (omega (arith, a.longest fs other b.reads, b.longest es rest a.reads)) (sym a.reads.bytes_are ∙ b.reads.bytes_are)

@@ -2,7 +2,7 @@
 use Rattle.std.proofs.Common.{◌≡◌, ◌-◌, ◌^◌, min, List, [], ◌∷◌, ◌++◌, map, reverse, Some, refl, sym, ap, ◌∙◌}
 use Rattle.std.specs.Option.{option_or, option_to_list}
 use Rattle.std.proofs.lemmas.List.{append-nil, reverse-append, reverse-reverse}
-use Rattle.spf_view.specs.Views.{Subject, Outcome, Accepted, Denied, Passed, Permitted, outcomes, last_accepted, first_denial, seen, view_of, views_of, same_view, changes, revision_of, view_after, revision_after, outcome_after}
+use Rattle.spf_view.specs.Views.{Subject, Outcome, Accepted, Denied, Passed, Permitted, outcomes, last_accepted, first_denial, view_from, view_of, views_of, same_view, changes, revision_of, view_after, revision_after, outcome_after}
 use Rattle.spf_view.specs.Steps.{Accept, Deny, step_in, steps_back, steps_of, done, replay_view, replay_revision}
 
 -- ---- events that pass change nothing
@@ -20,7 +20,7 @@ first_denial_steps l (Denied d ∷ os) = ap (λ o. option_or o (Some d)) (first_
 first_denial_steps l (Passed ∷ os) = first_denial_steps l os
 
 view_steps : {M L D : Type 0} (l : L) (os : List (Outcome M D)) → view_of (map done (steps_back l os)) ≡ view_of os
-view_steps l os = (λ i. seen (last_accepted_steps l os i) (first_denial_steps l os i))
+view_steps l os = (λ i. view_from (last_accepted_steps l os i) (first_denial_steps l os i))
 
 views_steps : {M L D : Type 0} (l : L) (os : List (Outcome M D)) → views_of (map done (steps_back l os)) ≡ views_of os
 views_steps l [] = refl

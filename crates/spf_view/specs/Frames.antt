@@ -6,8 +6,8 @@ use Rattle.std.specs.Int.{w32, to_be_bytes}
 unfoldable pub sized : List ℕ → List ℕ
 sized payload = to_be_bytes w32 (length payload) ++ payload
 
-abbrev pub IsShort : List ℕ → Type 0
-IsShort payload = length payload ≤ 2 ^ 24
+abbrev pub FitsFrame : List ℕ → Type 0
+FitsFrame payload = length payload ≤ 2 ^ 24
 
 abbrev pub raw_text : ℕ → List ℕ → List ℕ
 raw_text kind payload = kind ∷ sized payload

@@ -2,7 +2,7 @@
 -- A history, `past`, has the newest event first. A list of events to come has the oldest first.
 use Rattle.std.specs.Prelude.{◌≡◌, ℕ, ◌+◌, ◌≤◌, ◌⊎◌, Bool, true, false, ◌==◌, ◌||◌, if◌then◌else◌, IsTrue, List, [], ◌∷◌, ◌++◌, length, take, Option, None, Some, is_some, IfSome}
 use Rattle.std.specs.Io.KnownBytes.{Consumes}
-use Rattle.spf_view.specs.Frames.{IsShort, raw_text}
+use Rattle.spf_view.specs.Frames.{FitsFrame, raw_text}
 
 -- What a stream of events E is, whose sessions may be refused with A.
 pub record Stream (E A : Type 0) : Type 0 where
@@ -14,14 +14,14 @@ pub record Stream (E A : Type 0) : Type 0 where
   pub refusal : List E → E → Option A
   pub closes : E → Bool
   -- whether something is accepted in a history
-  pub begun : List E → Bool
+  pub synced : List E → Bool
 
 -- The bytes are a frame of the event, which answers what stands next.
 pub record IsFrame {E A : Type 0} (s : Stream E A) (past : List E) (bytes : List ℕ) (e : E) : Type 0 where
   pub kind : ℕ
   pub payload : List ℕ
   pub text : bytes ≡ raw_text kind payload
-  pub short : IsShort payload
+  pub short : FitsFrame payload
   pub answers : s.answers past kind ≡ true
   pub lays_out : s.event_at kind payload ≡ Some e
 
@@ -43,16 +43,16 @@ IsSession s past bytes [] = bytes ≡ []
 IsSession s past bytes (e ∷ es) = (front : List ℕ) × (rest : List ℕ) × IsEvent s past bytes front rest e × (IsTrue (ends s past e) → es ≡ []) × IsSession s (e ∷ past) rest es
 
 -- The bytes begin with a session of these events, of at most so many, and the rest follows.
-pub record Reads {E A : Type 0} (s : Stream E A) (most : ℕ) (bytes : List ℕ) (es : List E) (rest : List ℕ) : Type 0 where
+pub record Reads {E A : Type 0} (s : Stream E A) (max_frames : ℕ) (bytes : List ℕ) (es : List E) (rest : List ℕ) : Type 0 where
   pub text : List ℕ
   pub bytes_are : bytes ≡ text ++ rest
   pub session : IsSession s [] text es
-  pub bound : length es ≤ most
+  pub bound : length es ≤ max_frames
 
 -- The reading of the bytes: the longest list of events that they begin with, and the rest.
-pub record IsReading {E A : Type 0} (s : Stream E A) (most : ℕ) (bytes : List ℕ) (es : List E) (rest : List ℕ) : Type 0 where
-  pub reads : Reads s most bytes es rest
-  pub longest : (others : List E) (other : List ℕ) → Reads s most bytes others other → length others ≤ length es
+pub record IsReading {E A : Type 0} (s : Stream E A) (max_frames : ℕ) (bytes : List ℕ) (es : List E) (rest : List ℕ) : Type 0 where
+  pub reads : Reads s max_frames bytes es rest
+  pub longest : (others : List E) (other : List ℕ) → Reads s max_frames bytes others other → length others ≤ length es
 
 -- the history behind these events
 unfoldable pub onto : {E : Type 0} → List E → List E → List E
@@ -80,13 +80,13 @@ pub data End (A : Type 0) : Type 0 where
   NeverSynced : End A
 
 abbrev pub end_by : {A : Type 0} → Option A → Bool → Bool → Bool → ℕ → End A
-end_by (Some x) whole begun full n = Refused x
-end_by None whole begun full n = if whole then (if begun then Whole n else NeverSynced) else if full then TooLong else BadFrame (n + 1)
+end_by (Some x) whole synced full n = Refused x
+end_by None whole synced full n = if whole then (if synced then Whole n else NeverSynced) else if full then TooLong else BadFrame (n + 1)
 
 -- The end that a reading fixes: a refusal; otherwise a whole session by whether something is accepted; otherwise the
 -- bound, or the frame that is none.
 abbrev pub end_of : {E A : Type 0} → Stream E A → ℕ → List E → List ℕ → End A
-end_of s most es rest = end_by (refusal_of s [] es) (closed_of s es || length rest == 0) (s.begun (onto [] es)) (length es == most) (length es)
+end_of s max_frames es rest = end_by (refusal_of s [] es) (closed_of s es || length rest == 0) (s.synced (onto [] es)) (length es == max_frames) (length es)
 
 -- the ends that the bytes do not fix
 abbrev pub is_free : {A : Type 0} → End A → Bool
@@ -100,10 +100,10 @@ is_free (Refused x) = false
 is_free NeverSynced = false
 
 -- the bytes have a reading of these events, and the end is the one that it fixes
-pub record IsEndOf {E A : Type 0} (s : Stream E A) (most : ℕ) (bytes : List ℕ) (es : List E) (r : End A) : Type 0 where
+pub record IsEndOf {E A : Type 0} (s : Stream E A) (max_frames : ℕ) (bytes : List ℕ) (es : List E) (r : End A) : Type 0 where
   pub rest : List ℕ
-  pub reading : IsReading s most bytes es rest
-  pub is : r ≡ end_of s most es rest
+  pub reading : IsReading s max_frames bytes es rest
+  pub is : r ≡ end_of s max_frames es rest
 
 -- What each event that is not refused gives, one after another.
 unfoldable pub all_of : {E A X : Type 0} → Stream E A → (List E → E → List X) → List E → List E → List X
@@ -158,22 +158,22 @@ pub record GrowsUpTo {X : Type 0} (old new : Option (List X)) (more : List X) (c
 
 -- Following a stream, from what the source has left before to what it has after. There is one list of events to which
 -- all that is taken, put, handed on and answered belongs.
-pub record Followed {E A X Y : Type 0} (s : Stream E A) (o : Outputs E X Y) (most : ℕ) (left left' : Option (List ℕ)) (old new : Told X Y) (r : End A) : Type 0 where
+pub record Followed {E A X Y : Type 0} (s : Stream E A) (o : Outputs E X Y) (max_frames : ℕ) (left left' : Option (List ℕ)) (old new : Told X Y) (r : End A) : Type 0 where
   pub es : List E
   pub text : List ℕ
   pub extra : List ℕ
   -- the frames of the events are taken, and what follows them
   pub taken : Consumes left left' (text ++ extra)
   pub session : IsSession s [] text es
-  pub bound : length es ≤ most
+  pub bound : length es ≤ max_frames
   -- behind the most frames at most one byte is taken
-  pub one_more : length es ≡ most → length extra ≤ 1
+  pub one_more : length es ≡ max_frames → length extra ≤ 1
   -- behind an event that ends the session nothing is taken
   pub unread : IsTrue (is_some (refusal_of s [] es) || closed_of s es) → extra ≡ []
   -- after a fault of the source the events are those whose frames were handed out whole
-  pub handed_out : r ≡ ReadFault → IsReading s most (text ++ extra) es extra
+  pub handed_out : r ≡ ReadFault → IsReading s max_frames (text ++ extra) es extra
   pub lines : GrowsUpTo old.held new.held (all_of s o.line [] es) (cuts_lines r)
   pub steps : GrowsUpTo old.steps new.steps (all_of s o.steps [] es) (cuts_steps r)
   pub records : GrowsUpTo old.records new.records (all_of s o.records [] es) (cuts_steps r)
   -- the end is fixed by the bytes that the source had, where it tells, unless it is a fault or want of memory
-  pub answer : IfSome left (λ bytes. IsTrue (is_free r) ⊎ IsEndOf s most bytes es r)
+  pub answer : IfSome left (λ bytes. IsTrue (is_free r) ⊎ IsEndOf s max_frames bytes es r)

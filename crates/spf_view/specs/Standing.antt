@@ -1,6 +1,6 @@
 -- What a snapshot keeps, and the steps that it stands for.
 use Rattle.std.specs.Prelude.{◌≡◌, ℕ, ◌+◌, ◌-◌, ◌^◌, min, ℤ, Bool, true, false, not, if◌then◌else◌, List, [], reverse, Option, None, Some, is_some}
-use Rattle.spf_view.specs.Views.{Subject, View, Waiting, Withdrawn, Permitted, has_begun, last_moment}
+use Rattle.spf_view.specs.Views.{Subject, View, Waiting, Withdrawn, Permitted, has_synced, last_moment}
 use Rattle.spf_view.specs.Steps.{Step, Accept, Deny, steps_of, replay_view, replay_revision, replay_held}
 
 abbrev pub reason_of : {M D : Type 0} → View M D → Option D
@@ -62,6 +62,6 @@ kept_next E kept s = if is_change E kept.view s then (record { revision = raised
 
 -- Where a session stands after these events: what it keeps says whether one was accepted and stands for their steps.
 pub record KeptAfter {E M L D : Type 0} (s : Subject E M L D) (events : List E) (now : Option ℤ) (kept : Option (Kept M D)) : Type 0 where
-  pub begun : has_begun s (reverse events) ≡ is_some kept
+  pub synced : has_synced s (reverse events) ≡ is_some kept
   pub moment : last_moment s (reverse events) ≡ now
   pub stands : StandsIf s.is_same (steps_of s events) kept

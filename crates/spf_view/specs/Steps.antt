@@ -14,9 +14,9 @@ step_in l (Accepted m) = Some (Accept m l)
 step_in l (Denied d) = Some (Deny d)
 step_in l Passed = None
 
--- the step of an event, where `begun` says whether one before it is accepted and `now` is the last moment before it
+-- the step of an event, where `synced` says whether one before it is accepted and `now` is the last moment before it
 abbrev pub step_with : {E M L D : Type 0} → Subject E M L D → Bool → Option ℤ → E → Option (Step M L D)
-step_with s begun now e = step_in s.limits (outcome_with s begun now e)
+step_with s synced now e = step_in s.limits (outcome_with s synced now e)
 
 -- the steps of outcomes, newest first
 abbrev pub steps_back : {M L D : Type 0} → L → List (Outcome M D) → List (Step M L D)

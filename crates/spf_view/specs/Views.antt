@@ -14,7 +14,7 @@ pub record Subject (E M L D : Type 0) : Type 0 where
   pub limits : L
   pub is_within : L → M → Bool
   -- may be the first accepted one, where this is the last moment before it
-  pub may_begin : M → Option ℤ → Bool
+  pub may_sync : M → Option ℤ → Bool
   -- the reason of a status that denies
   pub denial : E → Option D
   pub moment : E → Option ℤ
@@ -41,26 +41,26 @@ abbrev pub last_moment : {E M L D : Type 0} → Subject E M L D → List E → O
 last_moment s [] = None
 last_moment s (e ∷ past) = option_or (s.moment e) (last_moment s past)
 
--- What an event brings, where it is accepted. `begun` says whether one before it is, `now` is the last moment before it.
+-- What an event brings, where it is accepted. `synced` says whether one before it is, `now` is the last moment before it.
 abbrev pub brings : {E M L D : Type 0} → Subject E M L D → Bool → Option ℤ → E → Option M
-brings s begun now e = keep_if (λ m. begun || s.may_begin m now) (keep_if (s.is_within s.limits) (s.parsed e))
+brings s synced now e = keep_if (λ m. synced || s.may_sync m now) (keep_if (s.is_within s.limits) (s.parsed e))
 
 -- one of these is accepted
-abbrev pub has_begun : {E M L D : Type 0} → Subject E M L D → List E → Bool
-has_begun s [] = false
-has_begun s (e ∷ past) = is_some (brings s (has_begun s past) (last_moment s past) e) || has_begun s past
+abbrev pub has_synced : {E M L D : Type 0} → Subject E M L D → List E → Bool
+has_synced s [] = false
+has_synced s (e ∷ past) = is_some (brings s (has_synced s past) (last_moment s past) e) || has_synced s past
 
 -- a status denies only after an accepted event
 abbrev pub denied_or_passed : {M D : Type 0} → Bool → Option D → Outcome M D
-denied_or_passed begun None = Passed
-denied_or_passed begun (Some d) = if begun then Denied d else Passed
+denied_or_passed synced None = Passed
+denied_or_passed synced (Some d) = if synced then Denied d else Passed
 
 abbrev pub outcome_with : {E M L D : Type 0} → Subject E M L D → Bool → Option ℤ → E → Outcome M D
-outcome_with s begun now e = option_map_or Accepted (brings s begun now e) (denied_or_passed begun (s.denial e))
+outcome_with s synced now e = option_map_or Accepted (brings s synced now e) (denied_or_passed synced (s.denial e))
 
 -- what becomes of an event after these
 abbrev pub outcome : {E M L D : Type 0} → Subject E M L D → E → List E → Outcome M D
-outcome s e past = outcome_with s (has_begun s past) (last_moment s past) e
+outcome s e past = outcome_with s (has_synced s past) (last_moment s past) e
 
 abbrev pub outcomes : {E M L D : Type 0} → Subject E M L D → List E → List (Outcome M D)
 outcomes s [] = []
@@ -82,14 +82,14 @@ first_denial (Accepted m ∷ past) = None
 first_denial (Denied d ∷ past) = option_or (first_denial past) (Some d)
 first_denial (Passed ∷ past) = first_denial past
 
-abbrev pub seen : {M D : Type 0} → Option M → Option D → View M D
-seen None reason = Waiting
-seen (Some m) (Some d) = Withdrawn d
-seen (Some m) None = Permitted m
+abbrev pub view_from : {M D : Type 0} → Option M → Option D → View M D
+view_from None reason = Waiting
+view_from (Some m) (Some d) = Withdrawn d
+view_from (Some m) None = Permitted m
 
 -- permitted exactly if no denial follows the last accepted material
 abbrev pub view_of : {M D : Type 0} → List (Outcome M D) → View M D
-view_of past = seen (last_accepted past) (first_denial past)
+view_of past = view_from (last_accepted past) (first_denial past)
 
 -- ---- revisions
 

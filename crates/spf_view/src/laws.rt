@@ -4,7 +4,7 @@ ghost use Rattle.std.specs.Prelude.{◌≡◌, ◌≢◌, ℕ, ◌+◌, ◌-◌,
 ghost use Rattle.std.specs.Cmp.{IsEquivalence};
 ghost use Rattle.std.specs.List.{flat_map, AllByRecursion};
 ghost use Rattle.std.specs.Option.{option_to_list};
-ghost use Rattle.spf_view.specs.Frames.{IsShort, raw_text};
+ghost use Rattle.spf_view.specs.Frames.{FitsFrame, raw_text};
 ghost use Rattle.spf_view.specs.Sessions.{Stream, IsReading, refusal_of, all_of};
 ghost use Rattle.spf_view.specs.Views.{Subject, outcome, Accepted, Denied, Passed, View, Waiting, Withdrawn, Permitted, same_view, view_after, view_at, revision_after, revision_at, outcome_after};
 ghost use Rattle.spf_view.specs.Steps.{Step, step_in, steps_of, IsLegal, replay_view, replay_revision, replay_held};
@@ -68,12 +68,12 @@ pub fn same_views<M, D>()
 
 /// No frame begins another, so frames behind one another are cut in one way only.
 pub fn frames_are_cut_in_one_way()
-    ensures { (xs ys : List (ℕ × List ℕ)) → AllByRecursion (λ f. IsShort f.1) xs → AllByRecursion (λ f. IsShort f.1) ys → flat_map (λ f. raw_text f.0 f.1) xs ≡ flat_map (λ f. raw_text f.0 f.1) ys → xs ≡ ys }
+    ensures { (xs ys : List (ℕ × List ℕ)) → AllByRecursion (λ f. FitsFrame f.1) xs → AllByRecursion (λ f. FitsFrame f.1) ys → flat_map (λ f. raw_text f.0 f.1) xs ≡ flat_map (λ f. raw_text f.0 f.1) ys → xs ≡ ys }
 {}
 
 /// There is one reading of each list of bytes.
 pub fn one_reading<E, A>()
-    ensures { (s : Stream E A) (most : ℕ) (bytes : List ℕ) (es fs : List E) (rest other : List ℕ) → IsReading s most bytes es rest → IsReading s most bytes fs other → (es ≡ fs) × (rest ≡ other) }
+    ensures { (s : Stream E A) (max_frames : ℕ) (bytes : List ℕ) (es fs : List E) (rest other : List ℕ) → IsReading s max_frames bytes es rest → IsReading s max_frames bytes fs other → (es ≡ fs) × (rest ≡ other) }
 {}
 
 /// The steps that a session gives, event by event, are those of the whole list of its events.

@@ -2,7 +2,7 @@
 use Rattle.std.proofs.Common.{◌≡◌, ℕ, true, ◌==◌, ◌||◌, List, [], length, Option, None, Some, Result, Ok, Err, inl, inr, sym, ap, ◌∙◌, subst}
 use Rattle.std.specs.Prelude.{◌⊎◌, IsTrue}
 use Rattle.spf_io.specs.Outside.{Rose}
-use Rattle.spf_view.specs.Views.{has_begun}
+use Rattle.spf_view.specs.Views.{has_synced}
 use Rattle.spf_view.specs.Sessions.{Whole, end_by, end_of, is_free, IsEndOf, closed_of, refusal_of, onto}
 use Rattle.spf_view.proofs.SessionLemmas.{reading_same}
 use Rattle.spf_feed.specs.Items.{Event, subject}
@@ -16,7 +16,7 @@ use Rattle.spiffe_watch.specs.Causes.{HasCauses}
 use Rattle.spiffe_watch.specs.Setting.{Setting}
 use Rattle.spiffe_watch.specs.Headline.{rules_for, Ran, Does, ended_by, status_of_end, IsWholeSession, Completes}
 
-whole_end : (setting : Setting) (es fs : List Event) (rest other : List ℕ) → es ≡ fs → rest ≡ other → refusal_of (stream (rules_for setting)) [] es ≡ None → has_begun (subject (rules_for setting)) (onto [] es) ≡ true
+whole_end : (setting : Setting) (es fs : List Event) (rest other : List ℕ) → es ≡ fs → rest ≡ other → refusal_of (stream (rules_for setting)) [] es ≡ None → has_synced (subject (rules_for setting)) (onto [] es) ≡ true
     → IsTrue (closed_of (stream (rules_for setting)) es || length rest == 0) → end_of (stream (rules_for setting)) setting.max_frames fs other ≡ Whole (length es)
 whole_end setting es fs rest other same left calm accepted whole =
     ap (λ l. end_of (stream (rules_for setting)) setting.max_frames l other) (sym same) ∙ ap (end_of (stream (rules_for setting)) setting.max_frames es) (sym left)

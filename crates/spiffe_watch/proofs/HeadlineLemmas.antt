@@ -16,17 +16,17 @@ use Rattle.spiffe_watch.specs.declared.words.Command.TheVariants as commands
 use Rattle.spiffe_watch.specs.Headline.{rules_for, FollowedBy, lines_of, Shows, Ran, Does, Headline, ended_by}
 
 -- a whole session is the end of a reading without a refusal, that is whole and has an accepted event
-pub record IsWhole {A : Type 0} (x : Option A) (whole begun : Bool) : Type 0 where
+pub record IsWhole {A : Type 0} (x : Option A) (whole synced : Bool) : Type 0 where
   pub calm : x ≡ None
   pub whole_is : whole ≡ true
-  pub begun_is : begun ≡ true
+  pub synced_is : synced ≡ true
 
-whole_by : {A : Type 0} (x : Option A) (whole begun full : Bool) (n m : ℕ) → Whole m ≡ end_by x whole begun full n → IsWhole x whole begun
-whole_by (Some x) whole begun full n m h = absurd cc
-whole_by None true true full n m h = record { calm = refl; whole_is = refl; begun_is = refl }
+whole_by : {A : Type 0} (x : Option A) (whole synced full : Bool) (n m : ℕ) → Whole m ≡ end_by x whole synced full n → IsWhole x whole synced
+whole_by (Some x) whole synced full n m h = absurd cc
+whole_by None true true full n m h = record { calm = refl; whole_is = refl; synced_is = refl }
 whole_by None true false full n m h = absurd cc
-whole_by None false begun true n m h = absurd cc
-whole_by None false begun false n m h = absurd cc
+whole_by None false synced true n m h = absurd cc
+whole_by None false synced false n m h = absurd cc
 
 unrefused : {A : Type 0} (o r : Option A) → (if is_some o then o else r) ≡ None → (is_some o ≡ false) × (r ≡ None)
 unrefused None r h = (refl, h)
@@ -48,12 +48,12 @@ abbrev count_of : {A : Type 0} → End A → ℕ
 count_of (Whole n) = n
 count_of end = 0
 
-counted_by : {A : Type 0} (x : Option A) (whole begun full : Bool) (n m : ℕ) → Whole m ≡ end_by x whole begun full n → m ≡ n
-counted_by (Some x) whole begun full n m h = absurd cc
+counted_by : {A : Type 0} (x : Option A) (whole synced full : Bool) (n m : ℕ) → Whole m ≡ end_by x whole synced full n → m ≡ n
+counted_by (Some x) whole synced full n m h = absurd cc
 counted_by None true true full n m h = ap count_of h
 counted_by None true false full n m h = absurd cc
-counted_by None false begun true n m h = absurd cc
-counted_by None false begun false n m h = absurd cc
+counted_by None false synced true n m h = absurd cc
+counted_by None false synced false n m h = absurd cc
 
 -- an answer that is Ok shows a whole session, and counts its events
 pub counted : (setting : Setting) (bytes : List ℕ) (left' held held' : Option (List ℕ)) (count : ℕ) → FollowedBy setting (Some bytes) left' held held' (Ok count)
@@ -64,7 +64,7 @@ counted setting bytes left' held held' count f = elim f.answer [ inl free ↦ ab
     by_end ended =
         let w = whole_by _ _ _ _ (length f.es) count ended.is in (
           record {
-            session = record { es = f.es; rest = ended.rest; reading = ended.reading; accepted = w.begun_is; calm = w.calm; whole = w.whole_is };
+            session = record { es = f.es; rest = ended.rest; reading = ended.reading; accepted = w.synced_is; calm = w.calm; whole = w.whole_is };
             lines = subst (Grows held held') (lines_all (rules_for setting) [] f.es w.calm) (grows_whole held held' (all_of (stream (rules_for setting)) (outputs (rules_for setting)).line [] f.es) f.lines);
           },
           counted_by _ _ _ _ (length f.es) count ended.is,

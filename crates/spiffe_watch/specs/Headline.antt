@@ -2,7 +2,7 @@
 use Rattle.std.specs.Prelude.{◌≡◌, ◌⊎◌, ℕ, true, ◌==◌, ◌||◌, IsTrue, List, [], ◌∷◌, ◌++◌, length, Option, None, Some, Result, Ok, Err, IfErr}
 use Rattle.std.specs.Option.{option_map}
 use Rattle.spf_io.specs.Outside.{Rose}
-use Rattle.spf_view.specs.Views.{has_begun}
+use Rattle.spf_view.specs.Views.{has_synced}
 use Rattle.spf_view.specs.Sessions.{IsReading, refusal_of, closed_of, onto, Grows, Followed}
 use Rattle.spf_feed.specs.declared.follow_error.FollowError.{FollowError}
 use Rattle.spf_feed.specs.Items.{Event, Rules, rules_with, subject}
@@ -55,7 +55,7 @@ pub record IsWholeSession (setting : Setting) (bytes : List ℕ) : Type 0 where
   pub rest : List ℕ
   pub reading : IsReading (stream (rules_for setting)) setting.max_frames bytes es rest
   -- some event is accepted, and none ends the session before
-  pub accepted : has_begun (subject (rules_for setting)) (onto [] es) ≡ true
+  pub accepted : has_synced (subject (rules_for setting)) (onto [] es) ≡ true
   pub calm : refusal_of (stream (rules_for setting)) [] es ≡ None
   -- the last event is a close, or nothing follows
   pub whole : IsTrue (closed_of (stream (rules_for setting)) es || length rest == 0)

@@ -112,7 +112,7 @@ static NAMES: [(&str, &str); 40] = [
     ("KEY2", "300d020100300506032b6570040102"),
 ];
 
-/// The text with what its names stand for in their place.
+/// The text with what its names stand for in their index.
 fn written_out(alloc: Global, text: &str) -> Result<String, Fail> {
     let mut text = String::from_str(alloc, text)?;
     for (name, meaning) in NAMES.iter() {

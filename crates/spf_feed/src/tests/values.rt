@@ -151,8 +151,8 @@ fn denied(alloc: Global) -> Result<Prepared, Fail> {
     Ok(Prepared::new(alloc, Step::Deny { reason })?)
 }
 
-/// The places of the SVIDs, of the authorities of two trust domains, and of the revocation lists.
-fn places(alloc: Global, step: &Prepared) -> Result<String, Fail> {
+/// The indices of the SVIDs, of the authorities of two trust domains, and of the revocation lists.
+fn indices(alloc: Global, step: &Prepared) -> Result<String, Fail> {
     let own = TrustDomain::new(alloc, "example.org")?;
     let other = TrustDomain::new(alloc, "other.org")?;
     let text = format!(in alloc;
@@ -179,13 +179,13 @@ fn copy_of(alloc: Global, name: &str) -> Result<Prepared, Fail> {
     Ok(step.try_clone()?)
 }
 
-/// Whether the places of a copy of the step are these.
-fn is_placed(alloc: Global, name: &str, text: &str) -> Result<bool, Fail> {
+/// Whether the indices of a copy of the step are these.
+fn is_indexed(alloc: Global, name: &str, text: &str) -> Result<bool, Fail> {
     let copy = copy_of(alloc, name)?;
-    is_written(alloc, places(alloc, &copy)?, text)
+    is_written(alloc, indices(alloc, &copy)?, text)
 }
 
-/// A step, and its places.
+/// A step, and its indices.
 static PLACES: [(&str, &str); 3] = [
     ("J1", "[1, 2, 0] Some([0, 1]) None []"),
     ("J2", "[2, 1, 0] Some([1, 0]) None []"),
@@ -196,7 +196,7 @@ static PLACES: [(&str, &str); 3] = [
 fn prepared(rt: HostRuntime) -> Result<(), Fail> {
     let alloc = rt.alloc();
     for (name, text) in PLACES.iter() {
-        assert!(rt; is_placed(alloc, name, text)?, "{name}");
+        assert!(rt; is_indexed(alloc, name, text)?, "{name}");
     }
     Ok(())
 }

@@ -13,7 +13,7 @@ returns-in-Ok-None-clause-cause g c = no_fault _ _ _ _ c.at_end.result c.at_end.
 pub events-init : goal.events-init
 events-init g c = record {
   bound = search rules;
-  begun = search rules;
+  synced = search rules;
   reads = search rules;
   writes = search rules;
   session = loop_begins _ _ _ _ _ c.in_ok-line.ensures.text;
@@ -72,7 +72,7 @@ returns-in_err-is_changed-clause-followed g c =
     let read = rw c.in-Ok-Some.field-0-is at told in
     let next = next_of _ _ _ _ _ _ _ _ _ _ _ _ _ at read in
     let p = err_from_is_err_and c.from_residual-in_err-is_changed.result c.from_residual-in_err-is_changed.ensures.1 in
-    rw (p.1, p.2) (exit_turn session _ _ _ _ _ _ _ _ _ _ _ _ _ _ _ _ _ _ at read next c.is_some-begun.ensures c.turn_of-turn.ensures.turn refl c.in_err-is_changed.ensures.turn)
+    rw (p.1, p.2) (exit_turn session _ _ _ _ _ _ _ _ _ _ _ _ _ _ _ _ _ _ at read next c.is_some-synced.ensures c.turn_of-turn.ensures.turn refl c.in_err-is_changed.ensures.turn)
 
 pub returns-in_err-show-clause-followed : goal.returns-in_err-show-clause-followed
 returns-in_err-show-clause-followed g c =
@@ -81,7 +81,7 @@ returns-in_err-show-clause-followed g c =
     let told = c.in-Ok-Some.ensures.bytes session at.past at.asks in
     let read = rw c.in-Ok-Some.field-0-is at told in
     let next = next_of _ _ _ _ _ _ _ _ _ _ _ _ _ at read in
-    let through = went_through session _ _ _ _ _ _ _ _ _ _ _ _ _ _ _ _ _ _ _ at read c.is_some-begun.ensures c.turn_of-turn.ensures.turn c.in_ok-is_changed.ensures.turn in
+    let through = went_through session _ _ _ _ _ _ _ _ _ _ _ _ _ _ _ _ _ _ _ at read c.is_some-synced.ensures c.turn_of-turn.ensures.turn c.in_ok-is_changed.ensures.turn in
     let p = err_from_is_err_and c.from_residual-in_err-show.result c.from_residual-in_err-show.ensures.1 in
     rw (p.1, p.2) (exit_no_line session _ _ _ _ _ _ _ _ _ _ _ _ _ _ _ at next refl through)
 
@@ -92,7 +92,7 @@ returns-in-Err-clause-followed g c =
     let told = c.in-Ok-Some.ensures.bytes session at.past at.asks in
     let read = rw c.in-Ok-Some.field-0-is at told in
     let next = next_of _ _ _ _ _ _ _ _ _ _ _ _ _ at read in
-    let through = went_through session _ _ _ _ _ _ _ _ _ _ _ _ _ _ _ _ _ _ _ at read c.is_some-begun.ensures c.turn_of-turn.ensures.turn c.in_ok-is_changed.ensures.turn in
+    let through = went_through session _ _ _ _ _ _ _ _ _ _ _ _ _ _ _ _ _ _ _ at read c.is_some-synced.ensures c.turn_of-turn.ensures.turn c.in_ok-is_changed.ensures.turn in
     let line = lined_on session _ _ _ _ _ _ _ _ _ _ _ _ _ _ _ _ _ _ _ at read through c.moment_after-moment.ensures c.in_ok-show.ensures in
     exit_unput session _ _ _ _ _ _ _ _ _ _ _ _ _ _ _ _ _ c.in-Err.ensures.bytes.0 at next through line c.in-Err.ensures.bytes.1
 
@@ -103,7 +103,7 @@ returns-then-is_close-clause-followed g c =
     let told = c.in-Ok-Some.ensures.bytes session at.past at.asks in
     let read = rw c.in-Ok-Some.field-0-is at told in
     let next = next_of _ _ _ _ _ _ _ _ _ _ _ _ _ at read in
-    let through = went_through session _ _ _ _ _ _ _ _ _ _ _ _ _ _ _ _ _ _ _ at read c.is_some-begun.ensures c.turn_of-turn.ensures.turn c.in_ok-is_changed.ensures.turn in
+    let through = went_through session _ _ _ _ _ _ _ _ _ _ _ _ _ _ _ _ _ _ _ at read c.is_some-synced.ensures c.turn_of-turn.ensures.turn c.in_ok-is_changed.ensures.turn in
     let line = lined_on session _ _ _ _ _ _ _ _ _ _ _ _ _ _ _ _ _ _ _ at read through c.moment_after-moment.ensures c.in_ok-show.ensures in
     exit_close session _ _ _ _ _ _ _ _ _ _ _ _ _ _ _ _ _ at read through line c.in-Ok.ensures.bytes (sym c.is_close-is_close.ensures ∙ c.if-is_close.true)
 
@@ -114,12 +114,12 @@ events-preserved g c =
     let told = c.in-Ok-Some.ensures.bytes session at.past at.asks in
     let read = rw c.in-Ok-Some.field-0-is at told in
     let next = next_of _ _ _ _ _ _ _ _ _ _ _ _ _ at read in
-    let through = went_through session _ _ _ _ _ _ _ _ _ _ _ _ _ _ _ _ _ _ _ at read c.is_some-begun.ensures c.turn_of-turn.ensures.turn c.in_ok-is_changed.ensures.turn in
+    let through = went_through session _ _ _ _ _ _ _ _ _ _ _ _ _ _ _ _ _ _ _ at read c.is_some-synced.ensures c.turn_of-turn.ensures.turn c.in_ok-is_changed.ensures.turn in
     let line = lined_on session _ _ _ _ _ _ _ _ _ _ _ _ _ _ _ _ _ _ _ at read through c.moment_after-moment.ensures c.in_ok-show.ensures in
     record {
       bound = search rules;
-      begun = c.in_ok-is_changed.ensures.begun;
+      synced = c.in_ok-is_changed.ensures.synced;
       reads = search rules;
       writes = search rules;
-      session = loop_on session _ _ _ _ _ _ _ _ _ _ _ _ _ _ _ _ _ _ _ _ at read through line c.in-Ok.ensures.bytes (sym c.is_close-is_close.ensures ∙ c.if-is_close.false) c.is_some-begun.ensures c.phase_after-phase.ensures c.in-Ok.ensures.text c.in-Ok.ensures.choice;
+      session = loop_on session _ _ _ _ _ _ _ _ _ _ _ _ _ _ _ _ _ _ _ _ at read through line c.in-Ok.ensures.bytes (sym c.is_close-is_close.ensures ∙ c.if-is_close.false) c.is_some-synced.ensures c.phase_after-phase.ensures c.in-Ok.ensures.text c.in-Ok.ensures.choice;
     }

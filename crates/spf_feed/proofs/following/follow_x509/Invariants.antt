@@ -10,7 +10,7 @@ use Rattle.spf_feed.proofs.following.follow_x509.Given as goal
 abbrev pub invariant-events : goal.invariant-events
 invariant-events g l = record {
   bound : l.count ≤ l.max_frames;
-  begun : IsTrue (is_some l.snapshot) → HasStep (g.P.Publisher.steps l.publisher);
+  synced : IsTrue (is_some l.snapshot) → HasStep (g.P.Publisher.steps l.publisher);
   reads : g.S.Source.faults l.initial.source ≤ g.S.Source.faults l.source;
   writes : g.K.Sink.faults l.initial.sink ≤ g.K.Sink.faults l.sink;
   session : LoopAt (rules_with l.fn.limits l.fn.deadline l.fn.ready (option_map (λ p. g.C.SvidPicker.picks p.now) l.fn.picker)) l.max_frames (g.S.Source.left l.initial.source) (g.S.Source.left l.source)

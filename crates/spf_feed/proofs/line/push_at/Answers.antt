@@ -6,5 +6,5 @@ use Rattle.spf_feed.proofs.line.push_at.Goals as goal
 pub returns-in-None-clause-text : goal.returns-in-None-clause-text
 returns-in-None-clause-text g c =
     let items = c.args.items.now in
-    let past : length items ≤ c.args.place = search rules in
-    nothing_shown g.T.Octets.shown items c.args.place c.args.line.now.items (slice_get_past items c.args.place past)
+    let past : length items ≤ c.args.index = search rules in
+    nothing_shown g.T.Octets.shown items c.args.index c.args.line.now.items (slice_get_past items c.args.index past)

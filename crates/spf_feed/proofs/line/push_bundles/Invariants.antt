@@ -1,13 +1,13 @@
 use Rattle.std.proofs.Common.{◌≡◌, ◌≤◌, ◌++◌, vec_len}
 use Rattle.std.specs.List.{flat_map}
 use Rattle.spf_feed.specs.Shown.{entry_text}
-use Rattle.spf_feed.specs.Sorted.{ArePlaced}
+use Rattle.spf_feed.specs.Sorted.{AreIndexed}
 use Rattle.spf_feed.proofs.line.push_bundles.Given as goal
 
 -- what is still to come behind the line is what was to come behind it at first
 abbrev pub invariant-loop-domain : goal.invariant-loop-domain
 invariant-loop-domain l = record {
   text : l.initial.line.items ++ flat_map entry_text l.set ≡ l.line.items ++ flat_map entry_text l.domain-iterator;
-  placed : ArePlaced l.domain-iterator l.left;
+  indexed : AreIndexed l.domain-iterator l.left;
   grows : vec_len l.initial.line ≤ vec_len l.line;
 }

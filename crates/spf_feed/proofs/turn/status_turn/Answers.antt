@@ -5,11 +5,11 @@ use Rattle.spf_feed.specs.Turns.{IsTurn, refusal_in}
 use Rattle.spf_feed.proofs.TurnLemmas.{passed_before}
 use Rattle.spf_feed.proofs.turn.status_turn.Goals as goal
 
-pub returns-then-begun : goal.returns-then-begun
-returns-then-begun c = rw c.if-begun.true c.synced_turn.ensures
+pub returns-then-synced : goal.returns-then-synced
+returns-then-synced c = rw c.if-synced.true c.synced_turn.ensures
 
-pub returns-else-begun : goal.returns-else-begun
-returns-else-begun c = rw c.if-begun.false (record {
+pub returns-else-synced : goal.returns-else-synced
+returns-else-synced c = rw c.if-synced.false (record {
   may = c.initial_turn.ensures.may;
   turn = subst (λ o. IsTurn (refusal_in c.args.answer) o (ended false c.args.error) c.initial_turn.result) (sym (passed_before (denial_in c.args.answer))) c.initial_turn.ensures.turn;
 })
