@@ -92,9 +92,9 @@ impl Sink for MemSink {
     }
 }
 
-/// A sink over a writer of std. It tells what the writer tells, which is nothing for a file or a terminal. A write that
-/// takes nothing of a piece counts as a fault.
-#[derive(Drop)]
+/// A sink over a writer of std, whose bytes are known where those of the writer are: not for a file or a terminal. A
+/// write that takes nothing of a piece is a failure.
+#[derive(Debug, Drop)]
 pub struct StdSink<W> {
     writer: W,
     failed: u64,
@@ -114,7 +114,11 @@ impl<W: Write> Sink for StdSink<W> {
 
     ghost faults = { λ s. s.failed };
 
-    fn put(&mut self, piece: &[u8]) -> Result<(), Failed> {
+    fn put(&mut self, piece: &[u8]) -> Result<(), Failed>
+        ensures bytes { PutAppends (⟦<StdSink<W> as Sink>⟧.held self.old) (⟦<StdSink<W> as Sink>⟧.held self.new) result piece.now }
+        ensures cause { HasCause (⟦<StdSink<W> as Sink>⟧.faults self.old) (⟦<StdSink<W> as Sink>⟧.faults self.new) result }
+        ensures counts { ⟦<StdSink<W> as Sink>⟧.faults self.new ≡ faults_after result (⟦<StdSink<W> as Sink>⟧.faults self.old) }
+    {
         let mut at = 0;
         while at < piece.len() {
             match self.writer.write(&piece[at..]) {

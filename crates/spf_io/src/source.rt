@@ -101,8 +101,8 @@ impl Source for MemSource {
     }
 }
 
-/// A source over a reader of std. It tells what the reader tells, which is nothing for a file or a terminal.
-#[derive(Drop)]
+/// A source over a reader of std, whose bytes are known where those of the reader are: not for a file or a terminal.
+#[derive(Debug, Drop)]
 pub struct StdSource<R> {
     reader: R,
     failed: u64,
@@ -122,7 +122,12 @@ impl<R: Read> Source for StdSource<R> {
 
     ghost faults = { λ s. s.failed };
 
-    fn read(&mut self, buf: &mut [u8]) -> Result<usize, Failed> {
+    fn read(&mut self, buf: &mut [u8]) -> Result<usize, Failed>
+        ensures bound { ReadsAtMost result buf.new }
+        ensures bytes { ReadConsumes (⟦<StdSource<R> as Source>⟧.left self.old) (⟦<StdSource<R> as Source>⟧.left self.new) result buf.new }
+        ensures cause { HasCause (⟦<StdSource<R> as Source>⟧.faults self.old) (⟦<StdSource<R> as Source>⟧.faults self.new) result }
+        ensures counts { ⟦<StdSource<R> as Source>⟧.faults self.new ≡ faults_after result (⟦<StdSource<R> as Source>⟧.faults self.old) }
+    {
         match self.reader.read(buf) {
             Ok(n) => Ok(n),
             Err(_) => {
