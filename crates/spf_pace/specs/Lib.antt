@@ -1,0 +1,4 @@
+pub mod Backoff
+pub mod Bounds
+pub mod Delays
+pub mod Tracked
