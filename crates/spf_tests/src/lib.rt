@@ -14,4 +14,6 @@ mod id;
 #[cfg(test)]
 mod io;
 #[cfg(test)]
+mod pace;
+#[cfg(test)]
 mod x509;

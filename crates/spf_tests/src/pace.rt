@@ -19,7 +19,11 @@ const BACKOFFS: [(u64, u64, u64, u64); 5] = [
 #[test]
 fn backoff(rt: HostRuntime) -> Result<(), Fail> {
     for (current, max, word, delay) in BACKOFFS {
-        let grown = next_backoff(Duration::from_millis(current), Duration::from_millis(max), word);
+        let grown = next_backoff(
+            Duration::from_millis(current),
+            Duration::from_millis(max),
+            word,
+        );
         assert_eq!(rt; grown.as_millis(), delay as u128, "{current} {max} {word}");
     }
     let (current, max) = (Duration::from_millis(100), Duration::from_secs(30));
