@@ -4,6 +4,7 @@ pub mod Shorter
 pub mod NameWalk
 pub mod Unique
 pub mod WrittenTimes
+pub mod CivilDays
 pub mod Values
 pub mod Pieces
 pub mod Certificates

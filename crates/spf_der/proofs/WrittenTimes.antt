@@ -51,7 +51,7 @@ unfolding day_number_of
 day_number y m d day civil is = rw (is_civil_day y m d civil, is) refl
 
 -- the count of a day from its number
-count_from : (y : ℤ) (m d day : ℕ) → days_from_civil y m d ≡ pos day → day + 4371953 ≡ day_count y m d
+pub count_from : (y : ℤ) (m d day : ℕ) → days_from_civil y m d ≡ pos day → day + 4371953 ≡ day_count y m d
 count_from y m d day is =
     let both = days_from_civil-day_count y m d in
     let P : ℤ → Type 0 = λ z. up z + 4371953 ≡ down z + day_count y m d in

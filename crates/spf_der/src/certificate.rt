@@ -1,9 +1,10 @@
 //! Certificates (RFC 5280 section 4.1), read where they lie.
-ghost use Rattle.std.specs.Prelude.{◌≡◌, ◌<◌, ◌≤◌, length, map, IfOk, IfSome};
+ghost use Rattle.std.specs.Prelude.{◌≡◌, ◌<◌, ◌≤◌, length, map, take, IfOk, IfSome};
 ghost use Rattle.std.specs.Option.{option_map};
 ghost use Rattle.spf_io.specs.Rule.{Gives};
 ghost use Rattle.spf_der.specs.Certificate.{after_issuer_at, after_public_key_at, after_unique_id_at, after_version_at, certificate_at, ends, extension_at, extension_text_at, is_version, tbs_of, validity_at};
 ghost use Rattle.spf_der.specs.Error.{is_memory};
+ghost use Rattle.spf_der.specs.Grammar.{CertText};
 ghost use Rattle.spf_der.specs.Part.{plain};
 ghost use Rattle.spf_der.specs.Read.{certificate_rule, extensions_rule, never, index_rule, unique_rule};
 ghost use Rattle.spf_der.specs.Value.{seen};
@@ -263,7 +264,7 @@ impl<'a> CertView<'a> {
     }
 }
 
-/// The certificate that is a front of the bytes, and its length.
+/// The certificate at the start of `der`, and its length.
 #[tactic(auto, unfolding(crate::specs::Read::certificate_rule))]
 pub fn read_certificate_view<'a>(
     alloc: Global,
@@ -271,6 +272,7 @@ pub fn read_certificate_view<'a>(
 ) -> Result<(CertView<'a>, usize), CertReadError>
     ensures gives { Gives is_memory (λ x. (x.0, x.1)) result (certificate_rule der.now) }
     ensures size { IfOk result (λ x. (0 < x.1) × (x.1 ≤ length der.now)) }
+    ensures text { IfOk result (λ x. CertText (take x.1 der.now) x.0) }
 {
     let Some((expiry, text, rest)) = certificate(der) else {
         return Err(CertReadError::invalid());
@@ -331,7 +333,7 @@ fn owned_all(alloc: Global, extensions: &[ExtensionView]) -> Result<Vec<Extensio
     Ok(copies)
 }
 
-/// The certificate that is a front of the bytes, and its length.
+/// The certificate at the start of `der`, and its length.
 pub fn read_certificate(alloc: Global, der: &[u8]) -> Result<(CertParts, usize), CertReadError>
     ensures gives { Gives is_memory (λ x. (x.0, x.1)) result (certificate_rule der.now) }
     ensures size { IfOk result (λ x. (0 < x.1) × (x.1 ≤ length der.now)) }

@@ -2,7 +2,7 @@
 ghost use Rattle.std.specs.Prelude.{◌≡◌, ◌+◌, ◌/◌, ◌%◌, ◌++◌, flat_map, unsigned_abs, IfOk, OnOk};
 ghost use Rattle.spf_der.specs.Value.{length_octets, value_text};
 ghost use Rattle.spf_der.specs.Written.{IsCertificateOf, algorithm_text, constraints_part, constraints_text, extension_text, extensions_part, extensions_text, key_text, names_part, names_text, no_bits, no_name, public_key_text, usage_octet, usage_part, usage_text, validity_text, version_text, certificate_text, tbs_text};
-ghost use Rattle.spf_der.specs.WrittenTime.{IsTimeText, IsWritable, generalized_text, utc_text};
+ghost use Rattle.spf_der.specs.WrittenTime.{IsTimeText, IsWritable, expiry_text, generalized_text, utc_text};
 
 use crate::extensions::{BASIC_CONSTRAINTS, KEY_USAGE, KeyUsageBits, SUBJECT_ALT_NAME};
 use crate::value::{
@@ -336,7 +336,8 @@ fn generalized_octets(alloc: Global, date: &Date, second: u64) -> Result<Vec<u8>
 
 /// The Time of a Unix second from 1970 to 9999: a UTCTime for years up to 2049, a GeneralizedTime after.
 fn time_value(alloc: Global, moment: i64) -> Result<Vec<u8>, OutOfMemory>
-    ensures { IsWritable moment → IfOk result (λ v. IsTimeText moment v.items) }
+    ensures text { IsWritable moment → IfOk result (λ v. v.items ≡ expiry_text moment) }
+    ensures means { IsWritable moment → IfOk result (λ v. IsTimeText moment v.items) }
 {
     let seconds = moment.unsigned_abs();
     let Ok(date) = Date::from_unix_epoch_day((seconds / 86400) as i64) else {
@@ -368,7 +369,8 @@ fn tbs_certificate(alloc: Global, spec: &CertSpec, time: &[u8]) -> Result<Vec<u8
 
 /// The certificate of the spec, whose expiry is in the years 1970 to 9999. Names, key and signature are empty.
 pub fn write_certificate(alloc: Global, spec: &CertSpec) -> Result<Vec<u8>, OutOfMemory>
-    ensures { IsWritable spec.now.expiry → IfOk result (λ v. IsCertificateOf spec.now v.items) }
+    ensures text { IsWritable spec.now.expiry → IfOk result (λ v. v.items ≡ certificate_text spec.now (expiry_text spec.now.expiry)) }
+    ensures means { IsWritable spec.now.expiry → IfOk result (λ v. IsCertificateOf spec.now v.items) }
 {
     let time = time_value(alloc, spec.expiry)?;
     signed(alloc, spec, time.as_slice())
