@@ -6,6 +6,8 @@ mod api;
 #[cfg(test)]
 mod der;
 #[cfg(test)]
+mod endpoint;
+#[cfg(test)]
 mod feed;
 #[cfg(test)]
 mod fixtures;

@@ -1,0 +1,33 @@
+//! The URI of a TCP endpoint.
+
+ghost use Rattle.std.specs.Prelude.{◌≡◌, IfOk, string_bytes};
+ghost use Rattle.spf_endpoint.specs.TcpUri.{V4, V6, tcp_uri as tcp_uri_of};
+
+use crate::endpoint::EndpointHost;
+use spf_io::{OutOfMemory, Text};
+use std::alloc::Global;
+use std::net::{Ipv4Addr, Ipv6Addr};
+
+fn ipv4_uri(alloc: Global, bits: u32, port: u16) -> Result<String, OutOfMemory>
+    ensures { IfOk result (λ s. string_bytes s ≡ tcp_uri_of (V4 bits) port) }
+{
+    let address = Ipv4Addr::from_bits(bits);
+    Ok(format!(in alloc; "http://{address}:{port}")?)
+}
+
+fn ipv6_uri(alloc: Global, bits: u128, port: u16) -> Result<String, OutOfMemory>
+    ensures { IfOk result (λ s. string_bytes s ≡ tcp_uri_of (V6 bits) port) }
+{
+    let address = Ipv6Addr::from_bits(bits);
+    Ok(format!(in alloc; "http://[{address}]:{port}")?)
+}
+
+/// `http://HOST:PORT`, with an IPv6 host in brackets in the form of RFC 5952.
+pub fn tcp_uri(alloc: Global, host: EndpointHost, port: u16) -> Result<Text, OutOfMemory>
+    ensures { IfOk result (λ t. t ≡ tcp_uri_of host port) }
+{
+    match host {
+        EndpointHost::V4(bits) => Ok(Text::new(ipv4_uri(alloc, bits, port)?)),
+        EndpointHost::V6(bits) => Ok(Text::new(ipv6_uri(alloc, bits, port)?)),
+    }
+}
