@@ -140,7 +140,7 @@ rule_fails_at : (bytes : List ℕ) (e : CertReadError) (found : Option (ℤ × L
 rule_fails_at bytes e None is = cc
 rule_fails_at bytes e (Some k) is = whole_fails {A = Parts × ℕ} e (extensions_rule k.1) (read_of bytes k) (listed_fails (length k.1) k.1) is
 
-rule_fails : (bytes : List ℕ) (e : CertReadError) → certificate_rule bytes ≡ Err e → e ≡ invalid
+pub rule_fails : (bytes : List ℕ) (e : CertReadError) → certificate_rule bytes ≡ Err e → e ≡ invalid
 unfolding certificate_rule
 rule_fails bytes e is = rule_fails_at bytes e (certificate_at bytes) is
 
@@ -192,7 +192,7 @@ one_certificate a b x y p q first second same =
     let cut = ended a b x y same (ap (λ (z : Parts × ℕ). z.1) both) in
     (cut.0, ap (λ (z : Parts × ℕ). z.0) both, cut.1)
 
-cert_some : (b : List ℕ) (parts : Parts) → CertText b parts → 0 < length b
+pub cert_some : (b : List ℕ) (parts : Parts) → CertText b parts → 0 < length b
 cert_some b parts text = omega (arith, ap (length {A = ℕ}) (begins b 48 _ [] text.signed.value), length-append b [])
 
 pub one_cut : (xs ys : List (List ℕ)) (b : List ℕ) → CertsOf b xs → CertsOf b ys → xs ≡ ys

@@ -3,6 +3,7 @@ use Rattle.std.specs.Prelude.{ℕ, List, [], ◌∷◌, length, Option, Some, No
 use Rattle.spf_io.specs.Rule.{◌>>=◌, broken_as}
 use Rattle.spf_id.specs.Id.{Id}
 use Rattle.spf_id.specs.Rule.{id_rule, has_spiffe_scheme}
+use Rattle.spf_der.specs.Grammar.{CertText}
 use Rattle.spf_der.specs.Part.{Parts}
 use Rattle.spf_der.specs.Read.{certificate_rule, unique_rule}
 use Rattle.spf_der.specs.Names.{san_uris_of}
@@ -13,7 +14,7 @@ use Rattle.spf_x509.specs.declared.error.CertificateError.{CertificateError}
 use Rattle.spf_x509.specs.declared.error.CertificateError.TheVariants.{MissingX509Extension, UnexpectedExtension, ParseX509Certificate, MissingSpiffeId, MultipleUriSanEntries, OversizedUriSan}
 use Rattle.spf_x509.specs.Errors.{of_read, of_id}
 
--- the certificate that the bytes are, with nothing behind it (RFC 5280 section 4.1)
+-- the certificate that the bytes are, with nothing after it (RFC 5280 section 4.1)
 unfoldable pub whole_rule : List ℕ → Result Parts CertificateError
 whole_rule der = do
   read ← broken_as of_read (certificate_rule der)
@@ -22,6 +23,10 @@ whole_rule der = do
 -- a certificate is kept as its bytes
 unfoldable pub certificate_of : List ℕ → Result (List ℕ) CertificateError
 certificate_of der = whole_rule der >>= λ _. Ok der
+
+-- bytes that are one certificate
+abbrev pub IsCertificate : List ℕ → Type 0
+IsCertificate der = (parts : Parts) × CertText der parts
 
 -- the contents octets of 2.5.29.15, 2.5.29.17 and 2.5.29.19 (RFC 5280 section 4.2.1)
 abbrev pub oid_of : X509ExtensionId → List ℕ

@@ -1,6 +1,7 @@
 -- Concatenated certificates, and the SVID of a chain (SPIFFE X.509-SVID sections 3 and 4).
-use Rattle.std.specs.Prelude.{ℕ, List, [], ◌∷◌, length, take, drop, map, Option, Result, Ok, Err}
+use Rattle.std.specs.Prelude.{◌≡◌, ℕ, List, [], ◌∷◌, length, take, drop, map, Option, Result, Ok, Err}
 use Rattle.spf_io.specs.Rule.{◌>>=◌, broken_as, each, many}
+use Rattle.spf_der.specs.Grammar.{joined}
 use Rattle.spf_der.specs.Part.{Parts}
 use Rattle.spf_der.specs.Read.{certificate_rule}
 use Rattle.spf_der.specs.declared.error.X509ParseKind.TheVariants.{InvalidCertificate}
@@ -8,7 +9,6 @@ use Rattle.spf_x509.specs.declared.error.CertificateError.{CertificateError}
 use Rattle.spf_x509.specs.declared.error.CertificateError.TheVariants.{TooManyCertificates, ParseX509Certificate}
 use Rattle.spf_x509.specs.declared.svid_error.X509SvidError.{X509SvidError}
 use Rattle.spf_x509.specs.declared.svid_error.X509SvidError.TheVariants.{EmptyChain}
-use Rattle.spf_x509.specs.declared.svid_rule.ChainPart.{ChainPart}
 use Rattle.spf_x509.specs.Errors.{of_read, svid_of_certificate, svid_of_key}
 use Rattle.spf_x509.specs.Svid.{Svid}
 use Rattle.spf_x509.specs.Key.{key_rule}
@@ -34,10 +34,6 @@ authority_at bytes = do
 unfoldable pub authorities_rule : List ℕ → Result (List (List ℕ)) CertificateError
 authorities_rule der = many authority_at (ParseX509Certificate InvalidCertificate) (length der) der
 
--- a certificate of a chain without where it lies
-abbrev pub plain_part : ChainPart → Parts × List ℕ
-plain_part p = (p.view, p.der.now)
-
 -- the bytes of certificates
 abbrev pub texts : List (Parts × List ℕ) → List (List ℕ)
 texts parts = map (λ (p : Parts × List ℕ). p.1) parts
@@ -60,3 +56,7 @@ unfoldable pub svid_of : List ℕ → List ℕ → Option (List ℕ) → Result 
 svid_of chain key hint = do
   parts ← broken_as svid_of_certificate (chain_rule chain)
   svid_of_parts key hint parts
+
+-- an SVID that its own chain, key and hint give
+abbrev pub IsSvid : Svid → Type 0
+IsSvid svid = svid_of (joined svid.chain) svid.key svid.hint ≡ Ok svid

@@ -1,6 +1,6 @@
 //! The authorities of one trust domain.
 
-ghost use Rattle.std.specs.Prelude.{◌≡◌, ◌<◌, ◌++◌, [], ◌∷◌, length, IfOk, OnErr, OnOk};
+ghost use Rattle.std.specs.Prelude.{◌≡◌, ◌↔◌, ◌<◌, ◌++◌, [], ◌∷◌, length, IfOk, IsTrue, Ok, OnErr, OnOk};
 ghost use Rattle.spf_io.specs.Rule.{Gives, each};
 ghost use Rattle.spf_x509.specs.Certificate.{certificate_of};
 ghost use Rattle.spf_x509.specs.Chain.{authorities_rule, authority_at};
@@ -8,8 +8,8 @@ ghost use Rattle.spf_x509.specs.Errors.{is_memory_bundle, is_memory_certificate}
 ghost use Rattle.spf_x509.specs.BundleRule.{added_to, bundle_of};
 
 use crate::certificate::{Certificate, copies};
+use crate::chain::{cut_certificate, is_concatenation};
 use crate::error::{CertificateError, X509BundleError};
-use crate::svid_rule::cut_certificate;
 use spf_id::TrustDomain;
 use spf_io::{Bytes, OutOfMemory};
 use std::alloc::Global;
@@ -93,6 +93,13 @@ impl X509Bundle {
         })
     }
 
+    /// Whether this is the bundle of exactly that trust domain and those bytes. It takes no memory.
+    pub fn is_parsed_from(&self, trust_domain: &TrustDomain, der: &[u8]) -> bool
+        ensures { IsTrue result ↔ (bundle_of trust_domain.now (authorities_rule der.now) ≡ Ok self.now) }
+    {
+        *trust_domain == self.trust_domain && is_concatenation(self.authorities.as_slice(), der)
+    }
+
     pub fn trust_domain(&self) -> &TrustDomain
         ensures { result.now ≡ self.now.domain }
     {
@@ -128,7 +135,7 @@ fn cut_authority(alloc: Global, der: &[u8]) -> Result<(Certificate, &[u8]), Cert
     ensures shorter { IfOk result (λ x. length x.1.now < length der.now) }
 {
     let (part, rest) = cut_certificate(alloc, der)?;
-    let certificate = Certificate::of_text(alloc, part.der)?;
+    let certificate = part.certificate(alloc)?;
     Ok((certificate, rest))
 }
 

@@ -40,15 +40,25 @@ impl X509BundleSet {
         }
     }
 
-    /// Puts the bundle in place of that of its trust domain.
+    /// Replaces the bundle of its trust domain.
     pub fn add_bundle(&mut self, bundle: X509Bundle) -> Result<(), OutOfMemory>
         ensures ok { OnOk result (self.new ≡ with_entry self.old bundle.domain bundle) }
         ensures found { OnOk result (find_entry bundle.domain self.new ≡ Some bundle) }
         ensures others { OnOk result (KeepsOthers bundle.domain self.old self.new) }
         ensures err { OnErr result (self.new ≡ self.old) }
     {
-        let trust_domain = bundle.trust_domain().try_clone(self.alloc)?;
         let bundle = Arc::new(self.alloc, bundle)?;
+        self.add_shared(bundle)
+    }
+
+    /// The same with a share of a bundle.
+    pub fn add_shared(&mut self, bundle: Arc<X509Bundle>) -> Result<(), OutOfMemory>
+        ensures ok { OnOk result (self.new ≡ with_entry self.old (arc_value bundle).domain (arc_value bundle)) }
+        ensures found { OnOk result (find_entry (arc_value bundle).domain self.new ≡ Some (arc_value bundle)) }
+        ensures others { OnOk result (KeepsOthers (arc_value bundle).domain self.old self.new) }
+        ensures err { OnErr result (self.new ≡ self.old) }
+    {
+        let trust_domain = bundle.trust_domain().try_clone(self.alloc)?;
         self.bundles.insert(trust_domain, bundle)?;
         Ok(())
     }
@@ -153,7 +163,7 @@ impl BundleSource for X509BundleSet {
 }
 
 /// The pairs of a bundle set that are still to come, which contracts see as their list.
-#[derive(Drop)]
+#[derive(Debug, Drop)]
 pub struct X509BundleIter<'a> {
     inner: btree_map::Iter<'a, TrustDomain, Arc<X509Bundle>>,
 }

@@ -1,8 +1,10 @@
 //! A certificate, kept as its DER, and the SPIFFE ID that it names.
 
 ghost use Rattle.std.specs.Prelude.{◌≡◌, IfOk, codes};
+ghost use Rattle.spf_der.specs.Grammar.{CertText};
+ghost use Rattle.spf_der.specs.Part.{Parts};
 ghost use Rattle.spf_io.specs.Rule.{Gives};
-ghost use Rattle.spf_x509.specs.Certificate.{certificate_of, extension_rule, san_rule, spiffe_id_rule, uri_rule, uris_rule, whole_rule};
+ghost use Rattle.spf_x509.specs.Certificate.{IsCertificate, certificate_of, extension_rule, san_rule, spiffe_id_rule, uri_rule, uris_rule, whole_rule};
 ghost use Rattle.spf_x509.specs.Errors.{is_memory_certificate};
 
 use crate::error::CertificateError;
@@ -32,6 +34,10 @@ impl Model for Certificate {
 
     ghost view = { λ c. c.der };
 
+    ghost use Rattle.spf_x509.specs.Certificate.{IsCertificate};
+
+    ghost invariant = { λ c. IsCertificate c.der };
+
     ghost inverse = { λ b. record { der = b } };
 }
 
@@ -60,6 +66,7 @@ impl Certificate {
 
     /// A copy of bytes that were read as a certificate.
     pub(crate) fn of_text(alloc: Global, der: &[u8]) -> Result<Certificate, OutOfMemory>
+        requires { IsCertificate der.now }
         ensures { IfOk result (λ c. c ≡ der.now) }
     {
         Ok(Certificate {
@@ -68,7 +75,8 @@ impl Certificate {
     }
 
     pub fn as_bytes(&self) -> &[u8]
-        ensures { result.now ≡ self.now }
+        ensures value { result.now ≡ self.now }
+        ensures text { IsCertificate result.now }
     {
         self.der.as_slice()
     }
@@ -84,7 +92,8 @@ impl Certificate {
 
     /// The one SPIFFE ID of its subject alternative name.
     pub fn spiffe_id(&self, alloc: Global) -> Result<SpiffeId, CertificateError>
-        ensures { Gives is_memory_certificate (λ id. id) result (spiffe_id_rule self.now) }
+        ensures gives { Gives is_memory_certificate (λ id. id) result (spiffe_id_rule self.now) }
+        ensures san { (parts : Parts) → CertText self.now parts → Gives is_memory_certificate (λ id. id) result (san_rule parts) }
     {
         spiffe_id_from_der(alloc, self.der.as_slice())
     }
@@ -110,10 +119,11 @@ pub fn spiffe_id_from_der(alloc: Global, der: &[u8]) -> Result<SpiffeId, Certifi
     subject_id(alloc, &certificate)
 }
 
-/// The view of the certificate that the bytes are, with nothing behind it.
+/// The view of the certificate that the bytes are, with nothing after it.
 #[tactic(auto, unfolding(crate::specs::Certificate::whole_rule))]
 fn read_whole<'a>(alloc: Global, der: &'a [u8]) -> Result<CertView<'a>, CertificateError>
-    ensures { Gives is_memory_certificate (λ c. c) result (whole_rule der.now) }
+    ensures gives { Gives is_memory_certificate (λ c. c) result (whole_rule der.now) }
+    ensures text { IfOk result (λ c. CertText der.now c) }
 {
     let (certificate, length) = read_certificate_view(alloc, der)?;
     if length != der.len() {

@@ -5,6 +5,7 @@
 mod bundle;
 mod bundle_set;
 mod certificate;
+mod chain;
 mod context;
 mod error;
 mod extension;

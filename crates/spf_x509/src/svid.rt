@@ -1,15 +1,16 @@
 //! An X.509 SVID: an identity, the chain that names it, and its key.
 
-ghost use Rattle.std.specs.Prelude.{◌≡◌, IfOk, None, Some, map, slice_get};
+ghost use Rattle.std.specs.Prelude.{◌≡◌, ◌↔◌, IfOk, IsTrue, None, Ok, Some, slice_get};
 ghost use Rattle.std.specs.Option.{option_map};
 ghost use Rattle.spf_io.specs.Rule.{Gives};
-ghost use Rattle.spf_x509.specs.Chain.{plain_part, svid_of, texts};
+ghost use Rattle.spf_x509.specs.Chain.{svid_of, texts};
 ghost use Rattle.spf_x509.specs.Errors.{is_memory_svid};
 
 use crate::certificate::{Certificate, copies};
+use crate::chain::{ChainPart, cut_chain, is_concatenation};
 use crate::private_key::PrivateKey;
 use crate::svid_error::X509SvidError;
-use crate::svid_rule::{ChainPart, cut_chain, leaf_rule, intermediate_rules};
+use crate::svid_rule::{intermediate_rules, leaf_rule};
 use spf_id::SpiffeId;
 use spf_io::{List, OutOfMemory, Text};
 use std::alloc::Global;
@@ -29,26 +30,38 @@ pub struct X509Svid {
 
 impl Model for X509Svid {
     ghost use Rattle.std.specs.Prelude.{◌≢◌, []};
+    ghost use Rattle.spf_x509.specs.Chain.{IsSvid};
     ghost use Rattle.spf_x509.specs.Svid.{Svid};
 
     ghost Value = { Svid };
 
     ghost view = { λ s. record { id = s.spiffe_id; hint = s.hint; chain = s.cert_chain; key = s.private_key; expiry = s.expiry } };
 
-    ghost invariant = { λ s. s.cert_chain ≢ [] };
+    ghost invariant = { λ s. (s.cert_chain ≢ []) × IsSvid (record { id = s.spiffe_id; hint = s.hint; chain = s.cert_chain; key = s.private_key; expiry = s.expiry }) };
 
     ghost inverse = { λ v. record { spiffe_id = v.id; hint = v.hint; cert_chain = v.chain; private_key = v.key; expiry = v.expiry } };
 }
 
 /// Copies of the certificates of a chain.
 fn certificates_of(alloc: Global, parts: &[ChainPart<'_>]) -> Result<Vec<Certificate>, OutOfMemory>
-    ensures { IfOk result (λ v. v.items ≡ texts (map plain_part parts.now)) }
+    ensures { IfOk result (λ v. v.items ≡ texts parts.now) }
 {
     let mut certificates = Vec::with_capacity(alloc, parts.len())?;
     for part in parts {
-        certificates.push(Certificate::of_text(alloc, part.der)?)?;
+        certificates.push(part.certificate(alloc)?)?;
     }
     Ok(certificates)
+}
+
+/// Whether two hints are the same text, or both are left out.
+fn is_same_hint(a: Option<&str>, b: Option<&str>) -> bool
+    ensures { IsTrue result ↔ (option_map (λ t. t.now) a.entry ≡ option_map (λ t. t.now) b.entry) }
+{
+    match (a, b) {
+        (None, None) => true,
+        (Some(a), Some(b)) => a == b,
+        _ => false,
+    }
 }
 
 impl X509Svid {
@@ -77,7 +90,7 @@ impl X509Svid {
         let Some((leaf, intermediates)) = parts.split_first() else {
             return Err(X509SvidError::EmptyChain);
         };
-        let (spiffe_id, expiry) = leaf_rule(alloc, &leaf.view)?;
+        let (spiffe_id, expiry) = leaf_rule(alloc, leaf.view())?;
         intermediate_rules(alloc, intermediates)?;
         let private_key = PrivateKey::try_from(alloc, key)?;
         let certificates = certificates_of(alloc, parts.as_slice())?;
@@ -105,6 +118,19 @@ impl X509Svid {
             private_key: self.private_key.try_clone(alloc)?,
             expiry: self.expiry,
         })
+    }
+
+    /// Whether this is the SVID of exactly that chain, key and hint. It takes no memory.
+    pub fn is_parsed_from(&self, chain: &[u8], key: &[u8], hint: Option<&str>) -> bool
+        ensures { IsTrue result ↔ (svid_of chain.now key.now (option_map (λ t. t.now) hint.entry) ≡ Ok self.now) }
+    {
+        if key != self.private_key.as_bytes() {
+            return false;
+        }
+        if !is_same_hint(hint, self.hint()) {
+            return false;
+        }
+        is_concatenation(self.cert_chain.as_slice(), chain)
     }
 
     pub fn spiffe_id(&self) -> &SpiffeId

@@ -1,65 +1,21 @@
-//! The rules of a chain: how it is cut, what its leaf says, and what each intermediate says.
+//! The rules of the certificates of a chain: of its leaf, and of each intermediate.
 
-ghost use Rattle.std.specs.Prelude.{◌≡◌, ◌<◌, codes, length, IfOk, map};
+ghost use Rattle.std.specs.Prelude.{◌≡◌, IfOk};
 ghost use Rattle.spf_io.specs.Rule.{Gives};
-ghost use Rattle.spf_x509.specs.Chain.{certificate_text_at, chain_rule, plain_part, intermediates_rule};
-ghost use Rattle.spf_x509.specs.Errors.{is_memory_certificate, is_memory_svid};
+ghost use Rattle.spf_x509.specs.Chain.{intermediates_rule};
+ghost use Rattle.spf_x509.specs.Errors.{is_memory_svid};
 ghost use Rattle.spf_x509.specs.Rule.{ca_rule, leaf_rule, leaf_usage, intermediate_rule, usage_rule};
 
 use crate::certificate::{extension_contents, subject_id};
-use crate::error::CertificateError;
+use crate::chain::ChainPart;
 use crate::extension::X509ExtensionId;
 use crate::svid_error::X509SvidError;
 use spf_der::{
-    BASIC_CONSTRAINTS, CertView, KEY_USAGE, KeyUsageBits, read_basic_constraints,
-    read_certificate_view, read_key_usage,
+    BASIC_CONSTRAINTS, CertView, KEY_USAGE, KeyUsageBits, read_basic_constraints, read_key_usage,
 };
 use spf_id::SpiffeId;
 use spf_io::{OutOfMemory, Text};
 use std::alloc::Global;
-
-/// How many certificates a chain may hold.
-pub(crate) const MAX_CERTIFICATES: usize = 16;
-
-/// A certificate of a chain: its view, and its bytes.
-#[derive(Debug, Drop)]
-pub(crate) struct ChainPart<'a> {
-    pub(crate) view: CertView<'a>,
-    pub(crate) der: &'a [u8],
-}
-
-/// The certificate at the front, and what follows it.
-#[tactic(auto, unfolding(crate::specs::Chain::certificate_text_at))]
-pub(crate) fn cut_certificate(
-    alloc: Global,
-    bytes: &[u8],
-) -> Result<(ChainPart<'_>, &[u8]), CertificateError>
-    ensures gives { Gives is_memory_certificate (λ x. (plain_part x.0, x.1.now)) result (certificate_text_at bytes.now) }
-    ensures shorter { IfOk result (λ x. length x.1.now < length bytes.now) }
-{
-    let (view, length) = read_certificate_view(alloc, bytes)?;
-    let (der, after) = bytes.split_at(length);
-    Ok((ChainPart { view, der }, after))
-}
-
-/// The certificates whose concatenation the bytes are.
-pub(crate) fn cut_chain(alloc: Global, chain: &[u8]) -> Result<Vec<ChainPart<'_>>, CertificateError>
-    ensures { Gives is_memory_certificate (λ v. map plain_part v.items) result (chain_rule chain.now) }
-{
-    let mut parts = Vec::new(alloc);
-    let mut rest = chain;
-    while !rest.is_empty() {
-        if parts.len() == MAX_CERTIFICATES {
-            return Err(CertificateError::TooManyCertificates {
-                max: MAX_CERTIFICATES,
-            });
-        }
-        let (part, after) = cut_certificate(alloc, rest)?;
-        parts.push(part)?;
-        rest = after;
-    }
-    Ok(parts)
-}
 
 fn unparseable(alloc: Global, extension: &str) -> Result<X509SvidError, OutOfMemory>
     ensures { IfOk result (λ e. e ≡ X509SvidError.UnparseableExtension extension.now) }
@@ -151,10 +107,10 @@ pub(crate) fn intermediate_rules(
     alloc: Global,
     certificates: &[ChainPart<'_>],
 ) -> Result<(), X509SvidError>
-    ensures { Gives is_memory_svid (λ u. u) result (intermediates_rule (map plain_part certificates.now)) }
+    ensures { Gives is_memory_svid (λ u. u) result (intermediates_rule certificates.now) }
 {
     for certificate in certificates {
-        intermediate_certificate(alloc, &certificate.view)?;
+        intermediate_certificate(alloc, certificate.view())?;
     }
     Ok(())
 }

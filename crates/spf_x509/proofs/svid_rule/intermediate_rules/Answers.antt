@@ -1,11 +1,11 @@
-use Rattle.std.proofs.Common.{Ok, ◌∷◌, [], ◌++◌}
+use Rattle.std.proofs.Common.{ℕ, List, Ok, ◌∷◌, [], ◌++◌}
 use Rattle.std.proofs.lemmas.List.{take_all}
 use Rattle.std.proofs.lemmas.Result.{err_from_is_err_and}
 use Rattle.spf_io.proofs.Each.{each_more, each_fails, unless}
-use Rattle.spf_x509.specs.declared.svid_rule.ChainPart.{ChainPart}
+use Rattle.spf_der.specs.Part.{Parts}
 use Rattle.spf_x509.specs.Errors.{is_memory_svid}
 use Rattle.spf_x509.specs.Rule.{intermediate_rule}
-use Rattle.spf_x509.proofs.Chain.{intermediates_at}
+use Rattle.spf_x509.proofs.Within.{intermediates_at}
 use Rattle.spf_x509.proofs.svid_rule.intermediate_rules.Goals as goal
 
 pub returns-in_err-intermediate_certificate : goal.returns-in_err-intermediate_certificate
@@ -16,14 +16,14 @@ returns-in_err-intermediate_certificate c =
     rw (p.1, p.2)
     (unless (is_memory_svid e)
     (λ broken. intermediates_at c.args.certificates.now _
-    (each_fails (λ (p : ChainPart). intermediate_rule p.view) c.args.certificates.now c.loop-certificate.certificate-index c.certificate-item.result i.0 e i.1 c.loop-certificate-test.true c.certificate-item.is broken))
-    c.in_err-intermediate_certificate.ensures)
+    (each_fails (λ (p : Parts × List ℕ). intermediate_rule p.0) c.args.certificates.now c.loop-certificate.certificate-index c.certificate-item.result i.0 e i.1 c.loop-certificate-test.true c.certificate-item.is broken))
+    (rw c.view.ensures at c.in_err-intermediate_certificate.ensures))
 
 pub loop-certificate-preserved : goal.loop-certificate-preserved
 loop-certificate-preserved c =
     let i = c.loop-certificate.invariant in (
       i.0 ++ tt ∷ [],
-      each_more (λ (p : ChainPart). intermediate_rule p.view) c.args.certificates.now c.loop-certificate.certificate-index c.certificate-item.result i.0 tt i.1 c.loop-certificate-test.true c.certificate-item.is c.in_ok-intermediate_certificate.ensures,
+      each_more (λ (p : Parts × List ℕ). intermediate_rule p.0) c.args.certificates.now c.loop-certificate.certificate-index c.certificate-item.result i.0 tt i.1 c.loop-certificate-test.true c.certificate-item.is (rw c.view.ensures at c.in_ok-intermediate_certificate.ensures),
     )
 
 pub returns : goal.returns

@@ -4,9 +4,8 @@ use Rattle.std.proofs.lemmas.List.{append-nil}
 use Rattle.spf_io.specs.Rule.{◌>>=◌, each, many}
 use Rattle.spf_der.specs.Part.{Parts}
 use Rattle.spf_x509.specs.declared.svid_error.X509SvidError.{X509SvidError}
-use Rattle.spf_x509.specs.declared.svid_rule.ChainPart.{ChainPart}
 use Rattle.spf_x509.specs.Rule.{intermediate_rule}
-use Rattle.spf_x509.specs.Chain.{plain_part, intermediates_rule}
+use Rattle.spf_x509.specs.Chain.{intermediates_rule}
 use Rattle.spf_io.proofs.Many.{with_front}
 
 regroup : {A E : Type 0} (front : List A) (x : A) (read : Result (List A) E)
@@ -77,13 +76,7 @@ pub within_done : {A E : Type 0} (one : List ℕ → Result (A × List ℕ) E) (
     → length rest ≡ 0 → GoesWithin one spent bound front rest total → total ≡ Ok front
 within_done one spent bound front rest total none g = step_done one spent front rest total g.left none g.is
 
--- a rule for what is behind a function
-pub each-map : {A B C E : Type 0} (f : B → Result C E) (g : A → B) (xs : List A) → each f (map g xs) ≡ each (λ x. f (g x)) xs
-each-map f g [] = refl
-each-map {A} {B} {C} {E} f g (x ∷ xs) = ap (λ (r : Result (List C) E). f (g x) >>= λ y. r >>= λ ys. Ok (y ∷ ys)) (each-map f g xs)
-
--- SignRule of the certificates of a chain, as a loop applies it
-pub intermediates_at : (parts : List ChainPart) (answers : Result (List (Unit {0})) X509SvidError) → each (λ (p : ChainPart). intermediate_rule p.view) parts ≡ answers
-    → intermediates_rule (map plain_part parts) ≡ (answers >>= λ _. Ok tt)
-intermediates_at parts answers is =
-    ap (λ (r : Result (List (Unit {0})) X509SvidError). r >>= λ _. Ok (tt {0})) (each-map (λ (p : Parts × List ℕ). intermediate_rule p.0) plain_part parts ∙ is)
+-- the rule of each intermediate, as a loop applies it
+pub intermediates_at : (parts : List (Parts × List ℕ)) (answers : Result (List (Unit {0})) X509SvidError) → each (λ (p : Parts × List ℕ). intermediate_rule p.0) parts ≡ answers
+    → intermediates_rule parts ≡ (answers >>= λ _. Ok tt)
+intermediates_at parts answers is = ap (λ (r : Result (List (Unit {0})) X509SvidError). r >>= λ _. Ok (tt {0})) is

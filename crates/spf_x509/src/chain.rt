@@ -1,0 +1,98 @@
+//! Concatenated certificates: how a chain is cut.
+
+ghost use Rattle.std.specs.Prelude.{◌≡◌, ◌↔◌, ◌<◌, length, IfOk, IsTrue};
+ghost use Rattle.spf_der.specs.Grammar.{CertsOf};
+ghost use Rattle.spf_io.specs.Rule.{Gives};
+ghost use Rattle.spf_x509.specs.Chain.{certificate_text_at, chain_rule};
+ghost use Rattle.spf_x509.specs.Errors.{is_memory_certificate};
+
+use crate::certificate::Certificate;
+use crate::error::CertificateError;
+use spf_der::{CertView, read_certificate_view};
+use spf_io::OutOfMemory;
+use std::alloc::Global;
+use std::marker::Model;
+
+/// How many certificates a chain may hold.
+pub(crate) const MAX_CERTIFICATES: usize = 16;
+
+/// A certificate of a chain, which contracts see as what is read of it and its bytes.
+#[derive(Debug, Drop)]
+pub(crate) struct ChainPart<'a> {
+    view: CertView<'a>,
+    der: &'a [u8],
+}
+
+impl<'a> Model for ChainPart<'a> {
+    ghost use Rattle.std.specs.Prelude.{List, ℕ};
+    ghost use Rattle.spf_der.specs.Grammar.{CertText};
+    ghost use Rattle.spf_der.specs.Part.{Parts};
+
+    ghost Value = { Parts × List ℕ };
+
+    ghost view = { λ p. (p.view, p.der.now) };
+
+    ghost invariant = { λ p. CertText p.der.now p.view };
+}
+
+impl<'a> ChainPart<'a> {
+    pub(crate) fn view(&self) -> &CertView<'a>
+        ensures { result.now ≡ self.now.0 }
+    {
+        &self.view
+    }
+
+    /// A copy of the certificate.
+    pub(crate) fn certificate(&self, alloc: Global) -> Result<Certificate, OutOfMemory>
+        ensures { IfOk result (λ c. c ≡ self.now.1) }
+    {
+        Certificate::of_text(alloc, self.der)
+    }
+}
+
+/// The certificate at the start of `bytes`, and what follows it.
+#[tactic(auto, unfolding(crate::specs::Chain::certificate_text_at))]
+pub(crate) fn cut_certificate(
+    alloc: Global,
+    bytes: &[u8],
+) -> Result<(ChainPart<'_>, &[u8]), CertificateError>
+    ensures gives { Gives is_memory_certificate (λ x. (x.0, x.1.now)) result (certificate_text_at bytes.now) }
+    ensures shorter { IfOk result (λ x. length x.1.now < length bytes.now) }
+{
+    let (view, length) = read_certificate_view(alloc, bytes)?;
+    let (der, after) = bytes.split_at(length);
+    Ok((ChainPart { view, der }, after))
+}
+
+/// The certificates whose concatenation `chain` is.
+pub(crate) fn cut_chain(alloc: Global, chain: &[u8]) -> Result<Vec<ChainPart<'_>>, CertificateError>
+    ensures { Gives is_memory_certificate (λ v. v.items) result (chain_rule chain.now) }
+{
+    let mut parts = Vec::new(alloc);
+    let mut rest = chain;
+    while !rest.is_empty() {
+        if parts.len() == MAX_CERTIFICATES {
+            return Err(CertificateError::TooManyCertificates {
+                max: MAX_CERTIFICATES,
+            });
+        }
+        let (part, after) = cut_certificate(alloc, rest)?;
+        parts.push(part)?;
+        rest = after;
+    }
+    Ok(parts)
+}
+
+/// Whether `der` is these certificates, one after another.
+pub(crate) fn is_concatenation(certificates: &[Certificate], der: &[u8]) -> bool
+    ensures { IsTrue result ↔ CertsOf der.now certificates.now }
+{
+    let mut rest = der;
+    for certificate in certificates {
+        match rest.strip_prefix(certificate.as_bytes()) {
+            None => return false,
+            Some(after) => rest = after,
+        }
+    }
+    rest.is_empty()
+}
