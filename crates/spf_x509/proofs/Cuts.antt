@@ -18,7 +18,7 @@ use Rattle.spf_x509.specs.declared.svid_error.X509SvidError.{X509SvidError}
 use Rattle.spf_x509.specs.Bundle.{Bundle}
 use Rattle.spf_x509.specs.BundleRule.{bundle_of}
 use Rattle.spf_x509.specs.Certificate.{IsCertificate, certificate_of, san_rule, spiffe_id_rule, whole_rule}
-use Rattle.spf_x509.specs.Chain.{IsSvid, authorities_rule, authority_at, certificate_text_at, chain_rule, intermediates_rule, svid_of, svid_of_parts, texts}
+use Rattle.spf_x509.specs.Chain.{IsSvid, ReadAs, authorities_rule, authority_at, certificate_text_at, chain_rule, intermediates_rule, svid_of, svid_of_parts, texts}
 use Rattle.spf_x509.specs.Errors.{bundle_of_certificate, of_read, svid_of_certificate, svid_of_key}
 use Rattle.spf_x509.specs.Key.{key_rule}
 use Rattle.spf_x509.specs.Rule.{leaf_rule}
@@ -55,7 +55,7 @@ unfolding spiffe_id_rule
 id_is der parts text = rw (whole_reads der parts text) refl
 
 -- the certificate at the start is read
-text_reads : (text rest : List ℕ) (parts : Parts) → CertText text parts → certificate_text_at (text ++ rest) ≡ Ok ((parts, text), rest)
+pub text_reads : (text rest : List ℕ) (parts : Parts) → CertText text parts → certificate_text_at (text ++ rest) ≡ Ok ((parts, text), rest)
 unfolding certificate_text_at
 text_reads text rest parts is =
     rw (certificate_reads text rest parts is) (λ i. Ok ((parts, take_at text rest (length text) refl i), drop_at text rest (length text) refl i))
@@ -65,7 +65,7 @@ unfolding authority_at
 authority_reads text rest parts is = rw (text_reads text rest parts is) refl
 
 -- and is one
-text_cut : (b : List ℕ) (p : Parts × List ℕ) (after : List ℕ) → IsBytes b → certificate_text_at b ≡ Ok (p, after) → CertText p.1 p.0 × (b ≡ p.1 ++ after)
+pub text_cut : (b : List ℕ) (p : Parts × List ℕ) (after : List ℕ) → IsBytes b → certificate_text_at b ≡ Ok (p, after) → CertText p.1 p.0 × (b ≡ p.1 ++ after)
 unfolding certificate_text_at
 text_cut b p after all is =
     let made : Parts × ℕ → (Parts × List ℕ) × List ℕ = λ read. ((read.0, take read.1 b), drop read.1 b) in
@@ -84,7 +84,7 @@ authority_cut b text after all is =
     let P : List ℕ × List ℕ → Type 0 = λ y. (parts : Parts) × CertText y.0 parts × (b ≡ y.0 ++ y.1) in
     subst P (ok_is {E = CertificateError} (made a.0) (text, after) (Ok (made a.0)) refl a.2) (a.0.0.0, cut.0, cut.1)
 
-bytes_after : (b x after : List ℕ) → IsBytes b → b ≡ x ++ after → IsBytes after
+pub bytes_after : (b x after : List ℕ) → IsBytes b → b ≡ x ++ after → IsBytes after
 bytes_after b x after all cut =
     subst IsBytes (drop_at x after (length x) refl) (All-drop (λ (o : ℕ). o < 256) (length x) (x ++ after) (subst IsBytes cut all))
 
@@ -112,7 +112,7 @@ step one spent n (c ∷ b) x after ys some found more = rw (found, more) refl
 nothing : {A E : Type 0} (one : List ℕ → Result (A × List ℕ) E) (spent : E) (n : ℕ) (b : List ℕ) → b ≡ [] → many one spent n b ≡ Ok []
 nothing one spent n b none = ap (many one spent n) none
 
-longer : (x others b : List ℕ) (parts : Parts) → b ≡ x ++ others → CertText x parts → 0 < length b
+pub longer : (x others b : List ℕ) (parts : Parts) → b ≡ x ++ others → CertText x parts → 0 < length b
 longer x others b parts cut text = omega (arith, ap (length {A = ℕ}) cut, length-append x others, cert_some x parts text)
 
 authorities_within : (spent : CertificateError) (n : ℕ) (xs : List (List ℕ)) (b : List ℕ) → CertsOf b xs → length xs ≤ n → many authority_at spent n b ≡ Ok xs
@@ -120,12 +120,6 @@ authorities_within spent n [] b is le = nothing authority_at spent n b is
 authorities_within spent zero (x ∷ xs) b certs le = absurd (omega arith)
 authorities_within spent (suc n) (x ∷ xs) b (parts, others, cut, text, rest) le =
     step authority_at spent n b x others xs (longer x others b parts cut text) (ap authority_at cut ∙ authority_reads x others parts text) (authorities_within spent n xs others rest (omega arith))
-
--- what is read of certificates
-pub record ReadAs (read : Result (List (Parts × List ℕ)) CertificateError) (xs : List (List ℕ)) : Type 0 where
-  pub parts : List (Parts × List ℕ)
-  pub is : read ≡ Ok parts
-  pub texts_are : texts parts ≡ xs
 
 chain_within : (spent : CertificateError) (n : ℕ) (xs : List (List ℕ)) (b : List ℕ) → CertsOf b xs → length xs ≤ n → ReadAs (many certificate_text_at spent n b) xs
 chain_within spent n [] b is le = record { parts = []; is = nothing certificate_text_at spent n b is; texts_are = refl }
@@ -188,6 +182,10 @@ chain_certs : (chain : List ℕ) (parts : List (Parts × List ℕ)) → IsBytes 
 unfolding chain_rule
 chain_certs chain parts all is = chain_cut _ 16 chain parts all is
 
+length-texts : (ps : List (Parts × List ℕ)) → length (texts ps) ≡ length ps
+length-texts [] = refl
+length-texts (p ∷ ps) = ap suc (length-texts ps)
+
 pub chain_exact : (chain : List ℕ) (xs : List (List ℕ)) → IsBytes chain → ReadAs (chain_rule chain) xs ↔ (CertsOf chain xs × (length xs ≤ 16))
 unfolding chain_rule
 chain_exact chain xs all = (
@@ -196,10 +194,6 @@ chain_exact chain xs all = (
       subst (λ (ys : List (List ℕ)). CertsOf chain ys × (length ys ≤ 16)) read.texts_are (within.0, omega (arith, within.1, length-texts read.parts)),
   λ certs. chain_within _ 16 xs chain certs.0 certs.1,
 )
-  where
-    length-texts : (ps : List (Parts × List ℕ)) → length (texts ps) ≡ length ps
-    length-texts [] = refl
-    length-texts (p ∷ ps) = ap suc (length-texts ps)
 
 key_kept : (der kept : List ℕ) → broken_as svid_of_key (key_rule der) ≡ Ok kept → kept ≡ der
 unfolding key_rule

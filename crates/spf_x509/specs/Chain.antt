@@ -1,7 +1,7 @@
 -- Concatenated certificates, and the SVID of a chain (SPIFFE X.509-SVID sections 3 and 4).
-use Rattle.std.specs.Prelude.{◌≡◌, ℕ, List, [], ◌∷◌, length, take, drop, map, Option, Result, Ok, Err}
+use Rattle.std.specs.Prelude.{◌≡◌, ℕ, List, [], ◌∷◌, ◌++◌, length, take, drop, map, Option, Result, Ok, Err}
 use Rattle.spf_io.specs.Rule.{◌>>=◌, broken_as, each, many}
-use Rattle.spf_der.specs.Grammar.{joined}
+use Rattle.spf_der.specs.Grammar.{CertsOf, joined}
 use Rattle.spf_der.specs.Part.{Parts}
 use Rattle.spf_der.specs.Read.{certificate_rule}
 use Rattle.spf_der.specs.declared.error.X509ParseKind.TheVariants.{InvalidCertificate}
@@ -60,3 +60,18 @@ svid_of chain key hint = do
 -- an SVID that its own chain, key and hint give
 abbrev pub IsSvid : Svid → Type 0
 IsSvid svid = svid_of (joined svid.chain) svid.key svid.hint ≡ Ok svid
+
+-- 16 certificates stand at the start of the chain, and an octet after them
+pub record IsTooLong (chain : List ℕ) : Type 0 where
+  pub certificates : List (List ℕ)
+  pub octet : ℕ
+  pub others : List ℕ
+  pub count : length certificates ≡ 16
+  pub are : CertsOf (joined certificates) certificates
+  pub cut : chain ≡ joined certificates ++ octet ∷ others
+
+-- certificates are read of a chain, with those bytes
+pub record ReadAs (read : Result (List (Parts × List ℕ)) CertificateError) (certificates : List (List ℕ)) : Type 0 where
+  pub parts : List (Parts × List ℕ)
+  pub is : read ≡ Ok parts
+  pub texts_are : texts parts ≡ certificates

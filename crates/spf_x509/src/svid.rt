@@ -3,7 +3,7 @@
 ghost use Rattle.std.specs.Prelude.{◌≡◌, ◌↔◌, IfOk, IsTrue, None, Ok, Some, slice_get};
 ghost use Rattle.std.specs.Option.{option_map};
 ghost use Rattle.spf_io.specs.Rule.{Gives};
-ghost use Rattle.spf_x509.specs.Chain.{svid_of, texts};
+ghost use Rattle.spf_x509.specs.Chain.{IsSvid, svid_of, texts};
 ghost use Rattle.spf_x509.specs.Errors.{is_memory_svid};
 
 use crate::certificate::{Certificate, copies};
@@ -141,7 +141,8 @@ impl X509Svid {
 
     /// The certificates, leaf first. There is at least one.
     pub fn cert_chain(&self) -> &[Certificate]
-        ensures { result.now ≡ self.now.chain }
+        ensures chain { result.now ≡ self.now.chain }
+        ensures parsed { IsSvid self.now }
     {
         self.cert_chain.as_slice()
     }
