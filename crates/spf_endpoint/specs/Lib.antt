@@ -1,2 +1,3 @@
 pub mod Endpoint
+pub mod Environment
 pub mod TcpUri

@@ -2,7 +2,9 @@
 #![tactic(auto)]
 
 mod endpoint;
+mod environment;
 mod uri;
 
 pub use endpoint::{Endpoint, EndpointHost, WORKLOAD_API_ENDPOINT_ENV};
+pub use environment::from_env;
 pub use uri::tcp_uri;

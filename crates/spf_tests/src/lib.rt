@@ -18,4 +18,6 @@ mod io;
 #[cfg(test)]
 mod pace;
 #[cfg(test)]
+mod system;
+#[cfg(test)]
 mod x509;
