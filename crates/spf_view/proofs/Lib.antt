@@ -6,6 +6,7 @@ pub mod StandsLemmas
 pub mod AfterLemmas
 pub mod EventLemmas
 pub mod FrameLemmas
+pub mod FrontLemmas
 pub mod SessionLemmas
 pub mod AllSteps
 pub mod FollowLemmas
