@@ -1,6 +1,6 @@
 -- The event of a frame, and that event as it is received.
-use Rattle.std.proofs.Common.{◌≡◌, ℕ, Bool, true, false, cond, List, ◌++◌, Option, Some, None, refl, sym, ap, ◌∙◌, subst}
-use Rattle.std.specs.Prelude.{◌==◌, length, IfSome}
+use Rattle.std.proofs.Common.{◌≡◌, ℕ, Bool, true, false, cond, List, [], ◌++◌, Option, Some, None, refl, sym, ap, ◌∙◌, subst}
+use Rattle.std.specs.Prelude.{◌==◌, length, IsTrue}
 use Rattle.std.specs.Option.{option_map}
 use Rattle.std.specs.Io.KnownBytes.{Consumes}
 use Rattle.spf_api.specs.Reading.{context_at}
@@ -10,12 +10,15 @@ use Rattle.spf_feed.specs.declared.event.SessionEvent.{SessionEvent}
 use Rattle.spf_feed.specs.declared.event.SessionEvent.TheVariants as events
 use Rattle.spf_feed.specs.declared.frame.Phase.{Phase}
 use Rattle.spf_feed.specs.Events.{failure_at, status_at, moment_at, when_empty, event_at, map_item}
+use Rattle.spf_feed.specs.declared.frame.FrameError.{FrameError}
 use Rattle.spf_feed.specs.declared.frame.FrameError.TheVariants as errors
 use Rattle.spf_feed.specs.Following.{IsEventRead, IsEventUnread}
-use Rattle.spf_feed.specs.Frames.{allows, FitsFrame, raw_text, NoFrame, IsRead}
+use Rattle.spf_feed.specs.Frames.{allows, FitsFrame, raw_text, frame_front, NoFrame, IsRead, IsUnread}
+use Rattle.spf_view.proofs.FrontLemmas.{frame_whole}
+use Rattle.std.proofs.lemmas.List.{append-nil}
 use Rattle.spf_feed.specs.Items.{Event, Received, Rules, context_in, item_at}
 use Rattle.spf_feed.specs.Run.{ask_of, stream}
-use Rattle.spf_feed.proofs.Parts.{none_from_front}
+use Rattle.spf_feed.proofs.Parts.{none_from_front, unread_as}
 
 -- ---- an event whose item is read further
 
@@ -53,11 +56,12 @@ event_at-map_item {I} {J} f item kind payload =
 -- no frame of a kind that may stand is no frame of an event that may
 pub none_at : (rules : Rules) (past : List Event) (phase : Phase) (bytes : List ℕ) → ask_of context_in rules past ≡ phase → NoFrame phase bytes → NoFrameAt (stream rules) past bytes
 none_at rules past phase bytes asks none e front rest frame same =
-    none frame.kind frame.payload rest (subst (λ p. allows p frame.kind ≡ true) asks frame.answers) frame.short (same ∙ ap (λ l. l ++ rest) frame.text)
+    none frame.kind frame.payload rest (subst (λ p. allows p frame.kind ≡ true) asks frame.allowed) frame.short (same ∙ ap (λ l. l ++ rest) frame.text)
 
-pub none_in : (rules : Rules) (past : List Event) (phase : Phase) (old : Option (List ℕ)) → ask_of context_in rules past ≡ phase → IfSome old (NoFrame phase) → IfSome old (NoFrameAt (stream rules) past)
-none_in rules past phase None asks none = tt
-none_in rules past phase (Some bytes) asks none = none_at rules past phase bytes asks none
+-- why no frame was read is why no event was
+pub event_unread : (rules : Rules) (past : List Event) (phase : Phase) (allowed : Bool) (old new : Option (List ℕ)) (e : FrameError) → ask_of context_in rules past ≡ phase → IsUnread phase allowed old new e → IsEventUnread rules past allowed old new e
+event_unread rules past phase allowed old new e asks h =
+    unread_as (allows phase) ((stream rules).allows past) (NoFrame phase) (NoFrameAt (stream rules) past) allowed old new e (sym (ap allows asks)) (λ ys none. none_at rules past phase ys asks none) h
 
 -- a frame whose payload lays out nothing is no frame of an event
 unlaid : (rules : Rules) (past : List Event) (kind : ℕ) (payload : List ℕ) → FitsFrame payload → event_at item_at kind payload ≡ None → (ys : List ℕ) → NoFrameAt (stream rules) past (raw_text kind payload ++ ys)
@@ -66,10 +70,6 @@ unlaid rules past kind payload short none ys e front rest frame same =
     let laid : event_at context_at kind payload ≡ Some e = ap (λ k. event_at context_at k payload) parts.0 ∙ ap (event_at context_at frame.kind) parts.1 ∙ frame.lays_out in
     let both : None ≡ option_map (map_item context_in) (Some e) = sym none ∙ event_at-map_item context_in context_at kind payload ∙ ap (option_map (map_item context_in)) laid in
     absurd cc
-
-pub unlaid_in : (rules : Rules) (past : List Event) (kind : ℕ) (payload : List ℕ) (old new : Option (List ℕ)) → FitsFrame payload → event_at item_at kind payload ≡ None → Consumes old new (raw_text kind payload)
-    → IfSome old (NoFrameAt (stream rules) past)
-unlaid_in rules past kind payload old new short none took = none_from_front (NoFrameAt (stream rules) past) old new (raw_text kind payload) took (unlaid rules past kind payload short none)
 
 -- the event of a frame, as it is received
 pub record Laid (kind : ℕ) (payload : List ℕ) (received : Received) : Type 0 where
@@ -94,12 +94,30 @@ read_event rules past phase allowed old new kind payload slice received asks rea
       leave = read.leave;
       event = l.event;
       front = raw_text kind payload;
-      frame = record { kind = kind; payload = payload; text = refl; short = read.short; answers = subst (λ p. allows p kind ≡ true) (sym asks) read.kind; lays_out = l.lays_out };
+      frame = record { kind = kind; payload = payload; text = refl; short = read.short; allowed = subst (λ p. allows p kind ≡ true) (sym asks) read.kind; lays_out = l.lays_out };
       taken = read.taken;
       is = l.is;
     }
 
-pub read_nothing : (rules : Rules) (past : List Event) (phase : Phase) (allowed : Bool) (old new : Option (List ℕ)) (kind : ℕ) (payload slice : List ℕ)
+-- the frame of a kind that may stand is read whole
+front_whole : (rules : Rules) (past : List Event) (phase : Phase) (kind : ℕ) (payload ys : List ℕ) → ask_of context_in rules past ≡ phase → IsTrue (allows phase kind) → FitsFrame payload
+    → frame_front ((stream rules).allows past) (raw_text kind payload ++ ys) ≡ raw_text kind payload
+front_whole rules past phase kind payload ys asks may fits = frame_whole ((stream rules).allows past) kind payload ys (subst (λ p. allows p kind ≡ true) (sym asks) may) fits
+
+front_alone : (rules : Rules) (past : List Event) (phase : Phase) (kind : ℕ) (payload : List ℕ) → ask_of context_in rules past ≡ phase → IsTrue (allows phase kind) → FitsFrame payload
+    → frame_front ((stream rules).allows past) (raw_text kind payload) ≡ raw_text kind payload
+front_alone rules past phase kind payload asks may fits =
+    ap (frame_front ((stream rules).allows past)) (sym (append-nil (raw_text kind payload))) ∙ front_whole rules past phase kind payload [] asks may fits
+
+pub read_nothing : (rules : Rules) (past : List Event) (phase : Phase) (allowed : Bool) (old new : Option (List ℕ)) (kind : ℕ) (payload slice : List ℕ) → ask_of context_in rules past ≡ phase
     → IsRead phase allowed old new (record { kind = kind; payload = payload }) → slice ≡ payload → None ≡ event_at item_at kind slice → IsEventUnread rules past allowed old new errors.BadFrame
-read_nothing rules past phase allowed old new kind payload slice read same is =
-    (read.leave, (raw_text kind payload, read.taken, (λ e. absurd cc, unlaid_in rules past kind payload old new read.short (sym (is ∙ ap (event_at item_at kind) same)) read.taken)))
+read_nothing rules past phase allowed old new kind payload slice asks read same is =
+    let none : event_at item_at kind payload ≡ None = sym (is ∙ ap (event_at item_at kind) same) in
+    (read.leave, (raw_text kind payload, read.taken, ((λ e. absurd cc), front_alone rules past phase kind payload asks read.kind read.short,
+    none_from_front (λ ys. NoFrameAt (stream rules) past ys × (frame_front ((stream rules).allows past) ys ≡ raw_text kind payload)) old new (raw_text kind payload) read.taken
+    (λ ys. (unlaid rules past kind payload read.short none ys, front_whole rules past phase kind payload ys asks read.kind read.short)))))
+
+-- memory ran out over the payload of a frame
+pub read_stopped : (rules : Rules) (past : List Event) (phase : Phase) (allowed : Bool) (old new : Option (List ℕ)) (kind : ℕ) (payload : List ℕ) → ask_of context_in rules past ≡ phase
+    → IsRead phase allowed old new (record { kind = kind; payload = payload }) → IsEventUnread rules past allowed old new errors.OutOfMemory
+read_stopped rules past phase allowed old new kind payload asks read = (read.leave, (raw_text kind payload, read.taken, front_alone rules past phase kind payload asks read.kind read.short))

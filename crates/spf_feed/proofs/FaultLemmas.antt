@@ -1,8 +1,9 @@
--- An answer that is no fault.
+-- An error that is no fault.
 use Rattle.std.proofs.Common.{◌≡◌, ℕ, ◌≤◌, true, false, Result, Ok, Err, refl, subst}
 use Rattle.std.specs.Prelude.{IfErr}
 use Rattle.spf_feed.specs.declared.follow_error.FollowError.{FollowError}
 use Rattle.spf_feed.specs.declared.follow_error.FollowError.TheVariants as answers
+use Rattle.spf_view.specs.Sessions.{Ports}
 use Rattle.spf_feed.specs.Following.{is_fault, HasFaults}
 
 -- an answer that is no fault is not this fault
@@ -12,9 +13,9 @@ not_this fault e r is_one is_none p q =
     let both : is_fault fault ≡ false = subst (λ (x : FollowError). is_fault x ≡ false) same is_none in
     cc
 
-pub no_fault : (a a' b b' : ℕ) (r : Result ℕ FollowError) → IfErr r (λ e. is_fault e ≡ false) → a ≤ a' → b ≤ b' → HasFaults a a' b b' r
-no_fault a a' b b' (Ok n) calm reads writes = record { reads_later = reads; writes_later = writes; read = λ p. absurd cc; write = λ p. absurd cc }
-no_fault a a' b b' (Err e) calm reads writes = record {
+pub no_fault : {X Y : Type 0} (old new : Ports X Y) (r : Result ℕ FollowError) → IfErr r (λ e. is_fault e ≡ false) → old.read_faults ≤ new.read_faults → old.write_faults ≤ new.write_faults → HasFaults old new r
+no_fault old new (Ok n) calm reads writes = record { reads_later = reads; writes_later = writes; read = λ p. absurd cc; write = λ p. absurd cc }
+no_fault old new (Err e) calm reads writes = record {
   reads_later = reads;
   writes_later = writes;
   read = λ p. absurd (not_this answers.ReadFault e (Err e) refl calm refl p);

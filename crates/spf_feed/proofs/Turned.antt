@@ -1,15 +1,12 @@
 -- A turn that was taken does what its event gives.
 use Rattle.std.proofs.Common.{◌≡◌, Bool, true, false, not, cond, List, [], ◌∷◌, Option, None, Some, Ok, Err, inl, inr, refl, sym, ap, ◌∙◌, subst}
 use Rattle.std.specs.Prelude.{ℤ, is_some, ◌⊎◌}
-use Rattle.std.specs.Option.{option_to_list}
 use Rattle.std.specs.Cmp.{IsEquivalence}
 use Rattle.spf_view.specs.Views.{View, Waiting, Withdrawn, Permitted, Outcome, Accepted, Denied, Passed, has_synced, outcome, outcomes, outcome_with, view_of, same_view}
-use Rattle.spf_view.specs.Steps.{Accept, step_in}
+use Rattle.spf_view.specs.Steps.{Accept, Deny, step_in}
 use Rattle.spf_view.specs.Standing.{Kept, is_change}
-use Rattle.spf_view.specs.Sessions.{Grows, GrowsUpTo}
-use Rattle.spf_view.specs.Keeping.{kept_with_any, IsAt, SeenAs}
+use Rattle.spf_view.specs.Keeping.{IsAt, SeenAs}
 use Rattle.spf_view.proofs.KeepingLemmas.{synced_at, outcome_at, waiting_at, view_at, update_seen}
-use Rattle.spf_view.proofs.FollowLemmas.{grows_nil}
 use Rattle.spf_feed.specs.declared.follow_error.FollowError.{FollowError}
 use Rattle.spf_feed.specs.declared.follow_error.FollowError.TheVariants as answers
 use Rattle.spf_feed.specs.declared.following.Change.TheVariants as change
@@ -21,14 +18,13 @@ use Rattle.spf_feed.specs.declared.turn.Turn.{Turn}
 use Rattle.spf_feed.specs.declared.turn.Turn.TheVariants as turns
 use Rattle.spf_feed.specs.Events.{map_item}
 use Rattle.spf_feed.specs.Items.{Event, Rules, subject, subject_by, context_in}
-use Rattle.spf_feed.specs.Run.{stream, refusal_by, records_by, records_in, update_records}
+use Rattle.spf_feed.specs.Run.{stream, outputs, refusal_by, records_by, records_in, update_records}
 use Rattle.spf_feed.specs.Steps.{Material, PlainStep, same_material}
 use Rattle.spf_feed.specs.Turns.{IsTurn}
-use Rattle.spf_feed.specs.Following.{answer_to, change_of, update_of, is_changed, TurnTaken}
+use Rattle.spf_feed.specs.Following.{answer_to, change_of, update_of, TurnState, WentThrough, StoppedShort, TurnTaken}
 use Rattle.spf_feed.proofs.TurnLemmas.{outcome-map_item, refusal-map_item, records-map_item}
-use Rattle.spf_feed.proofs.HandLemmas.{none_since}
 
--- the turn is that of the event behind the history
+-- the turn is that of the event after the history
 pub turn_at : (rules : Rules) (past : List Event) (now : Option ℤ) (kept : Option (Kept Material Denial)) (e : Event) (turn : Turn) → IsAt (subject rules) past now kept
     → IsTurn (refusal_by rules.deadline (is_some kept) (map_item context_in e)) (outcome_with (subject_by (λ o. o) rules) (is_some kept) now (map_item context_in e)) (records_by (λ o. o) (is_some kept) rules.limits (map_item context_in e)) turn
     → IsTurn ((stream rules).refusal past e) (outcome (subject rules) e past) (records_by context_in (has_synced (subject rules) past) rules.limits e) turn
@@ -68,79 +64,61 @@ update_at o rules past now (Some k) m at =
 
 -- ---- what was handed on
 
--- whether what is shown changes
-abbrev pub changes_any : Option (Kept Material Denial) → Option PlainStep → Bool
-changes_any kept None = false
-changes_any kept (Some step) = is_changed (change_of kept step)
+-- the step and the records of an event after a history
+abbrev pub step_after : Rules → List Event → Event → Option PlainStep
+step_after rules past e = step_in rules.limits (outcome (subject rules) e past)
+
+-- the records, where this is what becomes of the event
+records_by_outcome : Rules → List Event → Event → Outcome Material Denial → List MetricsRecord
+records_by_outcome rules past e becomes = records_in context_in (has_synced (subject rules) past) rules.limits (view_of (outcomes (subject rules) past)) e becomes
 
 -- a turn that went through
-pub record IsThrough (rules : Rules) (past : List Event) (e : Event) (kept kept' : Option (Kept Material Denial)) (steps steps' : Option (List PlainStep)) (recorded recorded' : Option (List MetricsRecord)) (b : Bool) : Type 0 where
+pub record IsThrough (rules : Rules) (past : List Event) (e : Event) (old new : TurnState) (b : Bool) : Type 0 where
   pub none : (stream rules).refusal past e ≡ None
-  pub steps_are : Grows steps steps' (option_to_list (step_in rules.limits (outcome (subject rules) e past)))
-  pub records_are : Grows recorded recorded' (records_in context_in (has_synced (subject rules) past) rules.limits (view_of (outcomes (subject rules) past)) e (outcome (subject rules) e past))
-  pub kept_is : kept' ≡ kept_with_any same_material kept (step_in rules.limits (outcome (subject rules) e past))
-  pub changed : b ≡ changes_any kept (step_in rules.limits (outcome (subject rules) e past))
+  pub went : WentThrough (step_after rules past e) ((outputs rules).records past e) old new b
 
 -- what is handed on is what the outcome gives
-through : (rules : Rules) (past : List Event) (e : Event) (kept kept' : Option (Kept Material Denial)) (steps steps' : Option (List PlainStep)) (recorded recorded' : Option (List MetricsRecord)) (b : Bool) (becomes : Outcome Material Denial)
-    → outcome (subject rules) e past ≡ becomes → (stream rules).refusal past e ≡ None → Grows steps steps' (option_to_list (step_in rules.limits becomes))
-    → Grows recorded recorded' (records_in context_in (has_synced (subject rules) past) rules.limits (view_of (outcomes (subject rules) past)) e becomes)
-    → kept' ≡ kept_with_any same_material kept (step_in rules.limits becomes) → b ≡ changes_any kept (step_in rules.limits becomes) → IsThrough rules past e kept kept' steps steps' recorded recorded' b
-through rules past e kept kept' steps steps' recorded recorded' b becomes same none a c k d = record {
-  none = none;
-  steps_are = subst (λ x. Grows steps steps' (option_to_list (step_in rules.limits x))) (sym same) a;
-  records_are = subst (λ x. Grows recorded recorded' (records_in context_in (has_synced (subject rules) past) rules.limits (view_of (outcomes (subject rules) past)) e x)) (sym same) c;
-  kept_is = subst (λ x. kept' ≡ kept_with_any same_material kept (step_in rules.limits x)) (sym same) k;
-  changed = subst (λ x. b ≡ changes_any kept (step_in rules.limits x)) (sym same) d;
-}
+through : (rules : Rules) (past : List Event) (e : Event) (old new : TurnState) (b : Bool) (becomes : Outcome Material Denial) → outcome (subject rules) e past ≡ becomes → (stream rules).refusal past e ≡ None
+    → WentThrough (step_in rules.limits becomes) (records_by_outcome rules past e becomes) old new b → IsThrough rules past e old new b
+unfolding records_by_outcome
+through rules past e old new b becomes same none h = record { none = none; went = subst (λ x. WentThrough (step_in rules.limits x) (records_by_outcome rules past e x) old new b) (sym same) h }
 
-pub went : (o : IsEquivalence same_material) (rules : Rules) (past : List Event) (now : Option ℤ) (e : Event) (kept kept' : Option (Kept Material Denial)) (steps steps' : Option (List PlainStep)) (recorded recorded' : Option (List MetricsRecord)) (b : Bool)
-    (turn : Turn) → IsAt (subject rules) past now kept
-    → IsTurn ((stream rules).refusal past e) (outcome (subject rules) e past) (records_by context_in (has_synced (subject rules) past) rules.limits e) turn → TurnTaken rules.limits turn kept kept' steps steps' recorded recorded' (Ok b)
-    → IsThrough rules past e kept kept' steps steps' recorded recorded' b
-went o rules past now e kept kept' steps steps' recorded recorded' b (turns.Terminal end) at h taken = absurd cc
-went o rules past now e kept kept' steps steps' recorded recorded' b (turns.Accepted context choice) at h taken =
+pub went : (o : IsEquivalence same_material) (rules : Rules) (past : List Event) (now : Option ℤ) (e : Event) (old new : TurnState) (b : Bool) (turn : Turn) → IsAt (subject rules) past now old.kept
+    → IsTurn ((stream rules).refusal past e) (outcome (subject rules) e past) (records_by context_in (has_synced (subject rules) past) rules.limits e) turn → TurnTaken rules.limits turn old new (Ok b)
+    → IsThrough rules past e old new b
+unfolding records_by_outcome
+went o rules past now e old new b (turns.Terminal end) at h taken = absurd cc
+went o rules past now e old new b (turns.Accepted context choice) at h taken =
     let m : Material = record { context = context; choice = choice } in
-    through rules past e kept kept' steps steps' recorded recorded' b (Accepted m) h.1 h.0 taken.1.handed (subst (Grows recorded recorded') (update_at o rules past now kept m at) taken.1.recorded_is) taken.1.kept_is taken.1.answer
-went o rules past now e kept kept' steps steps' recorded recorded' b (turns.Denied reason told) at h taken =
-    through rules past e kept kept' steps steps' recorded recorded' b (Denied reason) h.1 h.0 taken.1.handed (subst (Grows recorded recorded') h.2 taken.1.recorded_is) taken.1.kept_is taken.1.answer
-went o rules past now e kept kept' steps steps' recorded recorded' b (turns.Passed told) at h taken =
-    through rules past e kept kept' steps steps' recorded recorded' b Passed h.1 h.0 (subst (λ (s : Option (List PlainStep)). Grows steps s []) (sym taken.2) (grows_nil steps)) (subst (Grows recorded recorded') h.2 taken.1) taken.3 taken.4
+    through rules past e old new b (Accepted m) h.1 h.0 (subst (λ l. WentThrough (Some (Accept m rules.limits)) l old new b) (update_at o rules past now old.kept m at) taken.1)
+went o rules past now e old new b (turns.Denied reason told) at h taken = through rules past e old new b (Denied reason) h.1 h.0 (subst (λ l. WentThrough (Some (Deny reason)) l old new b) h.2 taken.1)
+went o rules past now e old new b (turns.Passed told) at h taken = through rules past e old new b Passed h.1 h.0 (subst (λ l. WentThrough None l old new b) h.2 taken.1)
 
--- a turn that ended all: a refusal, with nothing handed on, or want of memory
-pub record IsRefused (rules : Rules) (past : List Event) (e : Event) (steps steps' : Option (List PlainStep)) (recorded recorded' : Option (List MetricsRecord)) (x : FollowError) : Type 0 where
+-- a turn that ended all: a refusal, with nothing handed on, or memory ran out
+pub record IsRefused (rules : Rules) (past : List Event) (e : Event) (old new : TurnState) (x : FollowError) : Type 0 where
   pub end : Terminal
   pub refused : (stream rules).refusal past e ≡ Some end
   pub answer : x ≡ answer_to end
-  pub steps_same : steps' ≡ steps
-  pub records_same : recorded' ≡ recorded
+  pub steps_same : new.steps ≡ old.steps
+  pub records_same : new.records ≡ old.records
 
-pub record IsStopped (rules : Rules) (past : List Event) (e : Event) (steps steps' : Option (List PlainStep)) (recorded recorded' : Option (List MetricsRecord)) (x : FollowError) : Type 0 where
+pub record IsStopped (rules : Rules) (past : List Event) (e : Event) (old new : TurnState) (x : FollowError) : Type 0 where
   pub none : (stream rules).refusal past e ≡ None
   pub answer : x ≡ answers.OutOfMemory
-  pub steps_are : GrowsUpTo steps steps' (option_to_list (step_in rules.limits (outcome (subject rules) e past))) true
-  pub records_are : GrowsUpTo recorded recorded' (records_in context_in (has_synced (subject rules) past) rules.limits (view_of (outcomes (subject rules) past)) e (outcome (subject rules) e past)) true
+  pub short : StoppedShort (step_after rules past e) ((outputs rules).records past e) old new
 
-stopped : (rules : Rules) (past : List Event) (e : Event) (steps steps' : Option (List PlainStep)) (recorded recorded' : Option (List MetricsRecord)) (x : FollowError) (becomes : Outcome Material Denial)
-    → outcome (subject rules) e past ≡ becomes → (stream rules).refusal past e ≡ None → x ≡ answers.OutOfMemory → GrowsUpTo steps steps' (option_to_list (step_in rules.limits becomes)) true
-    → GrowsUpTo recorded recorded' (records_in context_in (has_synced (subject rules) past) rules.limits (view_of (outcomes (subject rules) past)) e becomes) true → IsStopped rules past e steps steps' recorded recorded' x
-stopped rules past e steps steps' recorded recorded' x becomes same none is a c = record {
-  none = none;
-  answer = is;
-  steps_are = subst (λ o. GrowsUpTo steps steps' (option_to_list (step_in rules.limits o)) true) (sym same) a;
-  records_are = subst (λ o. GrowsUpTo recorded recorded' (records_in context_in (has_synced (subject rules) past) rules.limits (view_of (outcomes (subject rules) past)) e o) true) (sym same) c;
-}
+stopped : (rules : Rules) (past : List Event) (e : Event) (old new : TurnState) (x : FollowError) (becomes : Outcome Material Denial) → outcome (subject rules) e past ≡ becomes → (stream rules).refusal past e ≡ None → x ≡ answers.OutOfMemory
+    → StoppedShort (step_in rules.limits becomes) (records_by_outcome rules past e becomes) old new → IsStopped rules past e old new x
+unfolding records_by_outcome
+stopped rules past e old new x becomes same none is h = record { none = none; answer = is; short = subst (λ y. StoppedShort (step_in rules.limits y) (records_by_outcome rules past e y) old new) (sym same) h }
 
-pub ended_by : (o : IsEquivalence same_material) (rules : Rules) (past : List Event) (now : Option ℤ) (e : Event) (kept kept' : Option (Kept Material Denial)) (steps steps' : Option (List PlainStep)) (recorded recorded' : Option (List MetricsRecord)) (x : FollowError)
-    (turn : Turn) → IsAt (subject rules) past now kept
-    → IsTurn ((stream rules).refusal past e) (outcome (subject rules) e past) (records_by context_in (has_synced (subject rules) past) rules.limits e) turn → TurnTaken rules.limits turn kept kept' steps steps' recorded recorded' (Err x)
-    → IsRefused rules past e steps steps' recorded recorded' x ⊎ IsStopped rules past e steps steps' recorded recorded' x
-ended_by o rules past now e kept kept' steps steps' recorded recorded' x (turns.Terminal end) at h taken =
-    inl (record { end = end; refused = h; answer = cc; steps_same = taken.1; records_same = taken.2 })
-ended_by o rules past now e kept kept' steps steps' recorded recorded' x (turns.Accepted context choice) at h taken =
+pub ended_by : (o : IsEquivalence same_material) (rules : Rules) (past : List Event) (now : Option ℤ) (e : Event) (old new : TurnState) (x : FollowError) (turn : Turn) → IsAt (subject rules) past now old.kept
+    → IsTurn ((stream rules).refusal past e) (outcome (subject rules) e past) (records_by context_in (has_synced (subject rules) past) rules.limits e) turn → TurnTaken rules.limits turn old new (Err x)
+    → IsRefused rules past e old new x ⊎ IsStopped rules past e old new x
+unfolding records_by_outcome
+ended_by o rules past now e old new x (turns.Terminal end) at h taken = inl (record { end = end; refused = h; answer = cc; steps_same = taken.1; records_same = taken.2 })
+ended_by o rules past now e old new x (turns.Accepted context choice) at h taken =
     let m : Material = record { context = context; choice = choice } in
-    inr (stopped rules past e steps steps' recorded recorded' x (Accepted m) h.1 h.0 taken.0 taken.1.handed (subst (λ l. GrowsUpTo recorded recorded' l true) (update_at o rules past now kept m at) taken.1.recorded_is))
-ended_by o rules past now e kept kept' steps steps' recorded recorded' x (turns.Denied reason told) at h taken =
-    inr (stopped rules past e steps steps' recorded recorded' x (Denied reason) h.1 h.0 taken.0 taken.1.handed (subst (λ l. GrowsUpTo recorded recorded' l true) h.2 taken.1.recorded_is))
-ended_by o rules past now e kept kept' steps steps' recorded recorded' x (turns.Passed told) at h taken =
-    inr (stopped rules past e steps steps' recorded recorded' x Passed h.1 h.0 taken.0 (none_since steps steps' [] taken.2) (subst (λ l. GrowsUpTo recorded recorded' l true) h.2 taken.1))
+    inr (stopped rules past e old new x (Accepted m) h.1 h.0 taken.0 (subst (λ l. StoppedShort (Some (Accept m rules.limits)) l old new) (update_at o rules past now old.kept m at) taken.1))
+ended_by o rules past now e old new x (turns.Denied reason told) at h taken = inr (stopped rules past e old new x (Denied reason) h.1 h.0 taken.0 (subst (λ l. StoppedShort (Some (Deny reason)) l old new) h.2 taken.1))
+ended_by o rules past now e old new x (turns.Passed told) at h taken = inr (stopped rules past e old new x Passed h.1 h.0 taken.0 (subst (λ l. StoppedShort None l old new) h.2 taken.1))

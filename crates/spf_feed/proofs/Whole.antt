@@ -1,5 +1,5 @@
 -- A frame is its kind, and what has a length.
-use Rattle.std.proofs.Common.{◌≡◌, ℕ, Bool, List, [], ◌∷◌, ◌++◌, Option, true, false}
+use Rattle.std.proofs.Common.{◌≡◌, ℕ, Bool, List, [], ◌∷◌, ◌++◌, Option, Err, true, false, cond, refl, ap, ◌∙◌}
 use Rattle.std.specs.Prelude.{IsTrue}
 use Rattle.std.specs.Io.KnownBytes.{Consumes}
 use Rattle.std.proofs.KnownBytes.{Consumes-trans}
@@ -7,21 +7,58 @@ use Rattle.spf_feed.specs.declared.frame.Phase.{Phase}
 use Rattle.spf_feed.specs.declared.frame.FrameError.{FrameError}
 use Rattle.spf_feed.specs.declared.frame.FrameError.TheVariants as errors
 use Rattle.spf_feed.specs.Parts.{NoPart, PartFails}
-use Rattle.spf_feed.specs.Frames.{sized, FitsFrame, NoFrame, IsUnread}
-use Rattle.spf_feed.proofs.Parts.{none_from_rest}
+use Rattle.spf_feed.specs.Frames.{sized, FitsFrame, sized_front, frame_front, allows, NoFrame, KindRead, IsUnread}
+use Rattle.spf_feed.proofs.Parts.{none_from_rest, none_from_front}
 
 no_frame : (phase : Phase) (kind : ℕ) (ys : List ℕ) → NoPart sized FitsFrame ys → NoFrame phase (kind ∷ ys)
 no_frame phase kind ys none k p rest ok short e =
     let tail : ys ≡ sized p ++ rest = cc in
     none p rest short tail
 
-pub frame_fails : (phase : Phase) (allowed : Bool) (kind : ℕ) (old mid new : Option (List ℕ)) (e : FrameError) → IsTrue allowed
-    → Consumes old mid (kind ∷ []) → PartFails sized FitsFrame mid new e → IsUnread phase allowed old new e
-frame_fails phase allowed kind old mid new errors.TooLong leave took h = absurd h
-frame_fails phase allowed kind old mid new errors.BadFrame leave took h =
-    (leave, (kind ∷ h.0, Consumes-trans old mid new (kind ∷ []) h.0 took h.1, (λ e. absurd cc, none_from_rest (NoFrame phase) (NoPart sized FitsFrame) old mid (kind ∷ []) took (no_frame phase kind) h.2)))
-frame_fails phase true kind old mid new errors.ReadFault leave took h =
-    (kind ∷ h.0, Consumes-trans old mid new (kind ∷ []) h.0 took h.1, (no_frame phase kind h.0 h.2, λ e. absurd cc))
-frame_fails phase false kind old mid new errors.ReadFault leave took h = absurd cc
-frame_fails phase allowed kind old mid new errors.OutOfMemory leave took h =
-    (leave, (kind ∷ h.0, Consumes-trans old mid new (kind ∷ []) h.0 took h.1, tt))
+frame_more : (phase : Phase) (kind : ℕ) (ys front : List ℕ) → IsTrue (allows phase kind) → sized_front ys ≡ front → frame_front (allows phase) (kind ∷ ys) ≡ kind ∷ front
+unfolding frame_front
+frame_more phase kind ys front may is = ap (λ b. kind ∷ cond b (sized_front ys) []) may ∙ ap (λ (l : List ℕ). kind ∷ l) is
+
+-- no kind was read
+pub no_kind : (phase : Phase) (allowed : Bool) (old new : Option (List ℕ)) (e : FrameError) → KindRead old new (Err e) → IsUnread phase allowed old new e
+unfolding frame_front
+no_kind phase allowed old new errors.TooLong h = absurd h
+no_kind phase allowed old new errors.BadFrame h = absurd h
+no_kind phase allowed old new errors.ReadFault h = ([], h, ((λ k p rest ok short e. absurd cc), refl, λ e. refl))
+no_kind phase allowed old new errors.OutOfMemory h = absurd h
+
+-- no frame is begun by a kind that is not allowed
+other_kind : (phase : Phase) (kind : ℕ) (ys : List ℕ) → allows phase kind ≡ false → NoFrame phase (kind ∷ ys) × (frame_front (allows phase) (kind ∷ ys) ≡ kind ∷ [])
+unfolding frame_front
+other_kind phase kind ys not_it = (
+  λ k p rest ok short e.
+      let same : kind ≡ k = cc in
+      let may : allows phase kind ≡ true = ap (allows phase) same ∙ ok in
+      absurd cc,
+  ap (λ b. kind ∷ cond b (sized_front ys) []) not_it,
+)
+
+pub bad_kind : (phase : Phase) (allowed : Bool) (kind : ℕ) (old new : Option (List ℕ)) → IsTrue allowed → allows phase kind ≡ false → Consumes old new (kind ∷ []) → IsUnread phase allowed old new errors.BadFrame
+bad_kind phase allowed kind old new leave not_it took =
+    (leave, (kind ∷ [], took, ((λ e. absurd cc), (other_kind phase kind [] not_it).1, none_from_front (λ ys. NoFrame phase ys × (frame_front (allows phase) ys ≡ kind ∷ [])) old new (kind ∷ []) took (λ ys. other_kind phase kind ys not_it))))
+
+pub frame_fails : (phase : Phase) (allowed : Bool) (kind : ℕ) (old mid new : Option (List ℕ)) (e : FrameError) → IsTrue allowed → IsTrue (allows phase kind)
+    → Consumes old mid (kind ∷ []) → PartFails sized FitsFrame sized_front mid new e → IsUnread phase allowed old new e
+frame_fails phase allowed kind old mid new errors.TooLong leave may took h = absurd h
+frame_fails phase allowed kind old mid new errors.BadFrame leave may took h = (
+  leave,
+  (
+    kind ∷ h.0,
+    Consumes-trans old mid new (kind ∷ []) h.0 took h.1,
+    (
+      λ e. absurd cc,
+      frame_more phase kind h.0 h.0 may h.2.0,
+      none_from_rest (λ ys. NoFrame phase ys × (frame_front (allows phase) ys ≡ kind ∷ h.0)) (λ ys. NoPart sized FitsFrame ys × (sized_front ys ≡ h.0)) old mid (kind ∷ []) took (λ ys n. (no_frame phase kind ys n.0, frame_more phase kind ys h.0 may n.1)) h.2.1,
+    ),
+  ),
+)
+frame_fails phase true kind old mid new errors.ReadFault leave may took h =
+    (kind ∷ h.0, Consumes-trans old mid new (kind ∷ []) h.0 took h.1, (no_frame phase kind h.0 h.2.1, frame_more phase kind h.0 h.0 may h.2.0, λ e. absurd cc))
+frame_fails phase false kind old mid new errors.ReadFault leave may took h = absurd cc
+frame_fails phase allowed kind old mid new errors.OutOfMemory leave may took h =
+    (leave, (kind ∷ h.0, Consumes-trans old mid new (kind ∷ []) h.0 took h.1, frame_more phase kind h.0 h.0 may h.2))

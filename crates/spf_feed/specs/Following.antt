@@ -1,11 +1,12 @@
 -- How a session ends.
-use Rattle.std.specs.Prelude.{◌≡◌, ◌≢◌, ℕ, ℤ, ◌≤◌, Bool, true, false, IsTrue, List, [], ◌∷◌, Option, None, Some, IfSome, Result, Ok, Err, IfOk, IfErr, OnOk, if◌then◌else◌}
+use Rattle.std.specs.Prelude.{◌≡◌, ℕ, ◌+◌, ℤ, ◌≤◌, ◌<◌, Bool, true, false, IsTrue, List, [], ◌∷◌, length, Option, None, Some, Result, Ok, Err, IfErr, if◌then◌else◌}
+use Rattle.std.specs.Option.{option_to_list}
 use Rattle.std.specs.Io.KnownBytes.{Consumes, IsAtEnd}
 use Rattle.spf_io.specs.Outside.{Rose}
 use Rattle.spf_view.specs.Views.{Waiting}
 use Rattle.spf_view.specs.Standing.{Kept, is_change}
-use Rattle.spf_view.specs.Keeping.{kept_with}
-use Rattle.spf_view.specs.Sessions.{IsFrame, NoFrameAt, Grows, GrowsUpTo}
+use Rattle.spf_view.specs.Keeping.{kept_with_any}
+use Rattle.spf_view.specs.Sessions.{IsFrame, NoFrameAt, Ports, Grows, GrowsUpTo}
 use Rattle.spf_feed.specs.declared.follow_error.FollowError.{FollowError}
 use Rattle.spf_feed.specs.declared.follow_error.FollowError.TheVariants as answers
 use Rattle.spf_feed.specs.declared.frame.FrameError.{FrameError}
@@ -24,30 +25,30 @@ use Rattle.spf_feed.specs.Events.{map_item}
 use Rattle.spf_feed.specs.Items.{Event, Received, Rules, context_in}
 use Rattle.spf_feed.specs.Numbered.{LineView, ShowsKept}
 use Rattle.spf_feed.specs.Shown.{shown_text}
-use Rattle.spf_feed.specs.Parts.{Takes}
+use Rattle.spf_feed.specs.Frames.{Unread}
 use Rattle.spf_feed.specs.Run.{stream}
 use Rattle.spf_feed.specs.Steps.{Material, PlainStep, Accept, Deny, same_material}
 use Rattle.spf_feed.specs.Turns.{listed}
 
--- the answer that an event ends a session with
+-- the error that an event ends a session with
 abbrev pub answer_to : Terminal → FollowError
 answer_to (ends.Source e) = answers.Source e
 answer_to (ends.UnsupportedRpc e) = answers.UnsupportedRpc e
 answer_to ends.InitialSyncTimeout = answers.InitialSyncTimeout
 answer_to ends.Closed = answers.Closed
 
--- whether an answer is a fault of the source or the sink
+-- whether an error is a fault of the source or the sink
 abbrev pub is_fault : FollowError → Bool
 is_fault answers.ReadFault = true
 is_fault answers.WriteFault = true
 is_fault _ = false
 
--- the counts never fall, and a fault comes only where its count rose
-pub record HasFaults (reads reads' writes writes' : ℕ) (r : Result ℕ FollowError) : Type 0 where
-  pub reads_later : reads ≤ reads'
-  pub writes_later : writes ≤ writes'
-  pub read : r ≡ Err answers.ReadFault → Rose reads reads'
-  pub write : r ≡ Err answers.WriteFault → Rose writes writes'
+-- the counts of faults never fall, and a fault comes only where its count rose
+pub record HasFaults {X Y : Type 0} (old new : Ports X Y) (r : Result ℕ FollowError) : Type 0 where
+  pub reads_later : old.read_faults ≤ new.read_faults
+  pub writes_later : old.write_faults ≤ new.write_faults
+  pub read : r ≡ Err answers.ReadFault → Rose old.read_faults new.read_faults
+  pub write : r ≡ Err answers.WriteFault → Rose old.write_faults new.write_faults
 
 -- ---- reading an event
 
@@ -60,12 +61,16 @@ pub record IsEventRead (rules : Rules) (past : List Event) (allowed : Bool) (old
   pub taken : Consumes old new front
   pub is : received ≡ map_item context_in event
 
--- why no event was read
+-- why no event was read, and what was taken
 abbrev pub IsEventUnread : Rules → List Event → Bool → Option (List ℕ) → Option (List ℕ) → FrameError → Type 0
-IsEventUnread rules past allowed old new errors.TooLong = (allowed ≡ false) × ((x : ℕ) × Consumes old new (x ∷ []))
-IsEventUnread rules past allowed old new errors.BadFrame = IsTrue allowed × Takes old new (λ given. (given ≢ []) × IfSome old (NoFrameAt (stream rules) past))
-IsEventUnread rules past allowed old new errors.ReadFault = Takes old new (λ given. NoFrameAt (stream rules) past given × (allowed ≡ false → given ≡ []))
-IsEventUnread rules past allowed old new errors.OutOfMemory = IsTrue allowed × Takes old new (λ _. Unit {0})
+IsEventUnread rules past = Unread ((stream rules).allows past) (NoFrameAt (stream rules) past)
+
+-- the error that a session ends with, where no event was read after `count` of them
+abbrev pub error_at : ℕ → FrameError → FollowError
+error_at count errors.TooLong = answers.SessionTooLong
+error_at count errors.BadFrame = answers.BadFrame (count + 1)
+error_at count errors.ReadFault = answers.ReadFault
+error_at count errors.OutOfMemory = answers.OutOfMemory
 
 abbrev pub EventRead : Rules → List Event → Bool → Option (List ℕ) → Option (List ℕ) → Result (Option Received) FrameError → Type 0
 EventRead rules past allowed old new (Ok None) = Consumes old new [] × IsAtEnd old
@@ -104,25 +109,49 @@ update_of change.Opened = []
 update_of change.Changed = records.Update ∷ []
 update_of change.Unchanged = []
 
--- what a step hands on, and what it leaves; the answer says whether something else is visible
-pub record IsStepTaken {E : Type 0} (step : PlainStep) (told : List MetricsRecord) (kept kept' : Option (Kept Material Denial)) (steps steps' : Option (List PlainStep)) (recorded recorded' : Option (List MetricsRecord)) (r : Result Bool E) : Type 0 where
-  pub handed : HandsOn steps steps' r (step ∷ [])
-  pub recorded_is : HandsOn recorded recorded' r told
-  pub kept_is : OnOk r (kept' ≡ kept_with same_material kept step)
-  pub answer : IfOk r (λ b. b ≡ is_changed (change_of kept step))
+-- whether something else is visible after a step, where there is one
+abbrev pub changes_any : Option (Kept Material Denial) → Option PlainStep → Bool
+changes_any kept None = false
+changes_any kept (Some step) = is_changed (change_of kept step)
 
--- an error is want of memory
+-- what a turn may change: what is kept, and what the publisher and the recorder hold, where they say so
+pub record TurnState : Type 0 where
+  pub kept : Option (Kept Material Denial)
+  pub steps : Option (List PlainStep)
+  pub records : Option (List MetricsRecord)
+
+-- A turn with this step, where it has one, and these records went through.
+pub record WentThrough (step : Option PlainStep) (records : List MetricsRecord) (old new : TurnState) (changed : Bool) : Type 0 where
+  pub steps_are : Grows old.steps new.steps (option_to_list step)
+  pub records_are : Grows old.records new.records records
+  pub kept_is : new.kept ≡ kept_with_any same_material old.kept step
+  -- whether something else is visible
+  pub changed_is : changed ≡ changes_any old.kept step
+
+-- Memory ran out over it: a record is handed on only after the step.
+pub record StoppedShort (step : Option PlainStep) (records : List MetricsRecord) (old new : TurnState) : Type 0 where
+  pub steps_are : GrowsUpTo old.steps new.steps (option_to_list step) true
+  pub records_are : GrowsUpTo old.records new.records records true
+  pub steps_first : 0 < records_are.count → steps_are.count ≡ length (option_to_list step)
+
+abbrev pub IsTaken : {E : Type 0} → Option PlainStep → List MetricsRecord → TurnState → TurnState → Result Bool E → Type 0
+IsTaken step records old new (Ok changed) = WentThrough step records old new changed
+IsTaken step records old new (Err e) = StoppedShort step records old new
+
+-- an error says that memory ran out
 abbrev pub IsMemory : {T : Type 0} → Result T FollowError → Type 0
 IsMemory r = IfErr r (λ e. e ≡ answers.OutOfMemory)
 
--- What a turn hands on, and what it leaves.
-abbrev pub TurnTaken : ResourceLimits → Turn → Option (Kept Material Denial) → Option (Kept Material Denial) → Option (List PlainStep) → Option (List PlainStep) → Option (List MetricsRecord) → Option (List MetricsRecord) → Result Bool FollowError → Type 0
-TurnTaken limits (turns.Terminal end) kept kept' steps steps' recorded recorded' r = (r ≡ Err (answer_to end)) × (steps' ≡ steps) × (recorded' ≡ recorded)
-TurnTaken limits (turns.Accepted context choice) kept kept' steps steps' recorded recorded' r =
-    IsMemory r × IsStepTaken (Accept (record { context = context; choice = choice }) limits) (update_of (change_of kept (Accept (record { context = context; choice = choice }) limits))) kept kept' steps steps' recorded recorded' r
-TurnTaken limits (turns.Denied reason told) kept kept' steps steps' recorded recorded' r = IsMemory r × IsStepTaken (Deny reason) (listed told) kept kept' steps steps' recorded recorded' r
-TurnTaken limits (turns.Passed told) kept kept' steps steps' recorded recorded' r =
-    IsMemory r × HandsOn recorded recorded' r (listed told) × (steps' ≡ steps) × (kept' ≡ kept) × IfOk r (λ b. b ≡ false)
+-- an accepted context with its choice and limits is taken, and an update is recorded where something else is visible
+abbrev pub IsAccepted : PlainStep → TurnState → TurnState → Result Bool FollowError → Type 0
+IsAccepted step old new r = IsMemory r × IsTaken (Some step) (update_of (change_of old.kept step)) old new r
+
+-- What a turn does: a terminal one ends the session, and hands on nothing.
+abbrev pub TurnTaken : ResourceLimits → Turn → TurnState → TurnState → Result Bool FollowError → Type 0
+TurnTaken limits (turns.Terminal end) old new r = (r ≡ Err (answer_to end)) × (new.steps ≡ old.steps) × (new.records ≡ old.records)
+TurnTaken limits (turns.Accepted context choice) old new r = IsAccepted (Accept (record { context = context; choice = choice }) limits) old new r
+TurnTaken limits (turns.Denied reason told) old new r = IsMemory r × IsTaken (Some (Deny reason)) (listed told) old new r
+TurnTaken limits (turns.Passed told) old new r = IsMemory r × IsTaken None (listed told) old new r
 
 -- ---- the line
 

@@ -1,7 +1,7 @@
--- Frames: a kind octet, four octets of length, and so many octets.
+-- Frames of a session, and the kinds that each phase allows.
 use Rattle.std.specs.Prelude.{◌≡◌, ◌≢◌, ℕ, Bool, false, ◌==◌, ◌||◌, IsTrue, List, [], ◌∷◌, ◌++◌, Option, None, Some, IfSome, Result, Ok, Err}
 use Rattle.std.specs.Io.KnownBytes.{Consumes, IsAtEnd}
-unfoldable pub use Rattle.spf_view.specs.Frames.{sized}
+unfoldable pub use Rattle.spf_view.specs.Frames.{sized, sized_front, frame_front}
 pub use Rattle.spf_view.specs.Frames.{FitsFrame, raw_text}
 use Rattle.spf_feed.specs.declared.frame.Phase.{Phase}
 use Rattle.spf_feed.specs.declared.frame.Phase.TheVariants as phases
@@ -27,12 +27,17 @@ pub record IsRead (phase : Phase) (allowed : Bool) (old new : Option (List ℕ))
   pub short : FitsFrame raw.payload
   pub taken : Consumes old new (raw_text raw.kind raw.payload)
 
--- why no frame was read
+-- Why no frame was read, and what was taken. After the last frame one octet. At a bad frame exactly as much as shows that it
+-- is one: the kind, where it is not allowed; kind and length, where the length is too great; the whole frame, where its
+-- payload has no layout; and all that is left, where the source ends inside. Otherwise no more than that.
+abbrev pub Unread : (ℕ → Bool) → (List ℕ → Type 0) → Bool → Option (List ℕ) → Option (List ℕ) → FrameError → Type 0
+Unread kinds NoFrame allowed old new errors.TooLong = (allowed ≡ false) × ((x : ℕ) × Consumes old new (x ∷ []))
+Unread kinds NoFrame allowed old new errors.BadFrame = IsTrue allowed × Takes old new (λ given. (given ≢ []) × (frame_front kinds given ≡ given) × IfSome old (λ bytes. NoFrame bytes × (frame_front kinds bytes ≡ given)))
+Unread kinds NoFrame allowed old new errors.ReadFault = Takes old new (λ given. NoFrame given × (frame_front kinds given ≡ given) × (allowed ≡ false → given ≡ []))
+Unread kinds NoFrame allowed old new errors.OutOfMemory = IsTrue allowed × Takes old new (λ given. frame_front kinds given ≡ given)
+
 abbrev pub IsUnread : Phase → Bool → Option (List ℕ) → Option (List ℕ) → FrameError → Type 0
-IsUnread phase allowed old new errors.TooLong = (allowed ≡ false) × ((x : ℕ) × Consumes old new (x ∷ []))
-IsUnread phase allowed old new errors.BadFrame = IsTrue allowed × Takes old new (λ given. (given ≢ []) × IfSome old (NoFrame phase))
-IsUnread phase allowed old new errors.ReadFault = Takes old new (λ given. NoFrame phase given × (allowed ≡ false → given ≡ []))
-IsUnread phase allowed old new errors.OutOfMemory = IsTrue allowed × Takes old new (λ _. Unit {0})
+IsUnread phase = Unread (allows phase) (NoFrame phase)
 
 abbrev pub FrameRead : Phase → Bool → Option (List ℕ) → Option (List ℕ) → Result (Option RawFrame) FrameError → Type 0
 FrameRead phase allowed old new (Ok None) = Consumes old new [] × IsAtEnd old

@@ -12,7 +12,7 @@ use Rattle.spf_api.specs.Status.{code_number}
 use Rattle.spf_api.specs.Reading.{context_at}
 use Rattle.spf_view.specs.Views.{Outcome, Accepted, Denied, Passed, View, Waiting, Permitted, same_view, has_synced, last_moment, outcome, outcomes, view_of, revision_of}
 use Rattle.spf_view.specs.Steps.{step_in}
-use Rattle.spf_view.specs.Sessions.{Stream, Outputs, Told, End, Whole, OutOfMemory, ReadFault, WriteFault, TooLong, BadFrame, Refused as SessionRefused, NeverSynced}
+use Rattle.spf_view.specs.Sessions.{Stream, Outputs, End, Whole, OutOfMemory, ReadFault, WriteFault, TooLong, BadFrame, Refused as SessionRefused, NeverSynced}
 use Rattle.spf_feed.specs.declared.event.SessionEvent.{SessionEvent}
 use Rattle.spf_feed.specs.declared.event.SessionEvent.TheVariants as events
 use Rattle.spf_feed.specs.declared.follow_error.FollowError.{FollowError}
@@ -83,7 +83,7 @@ refusal_by deadline synced e = if synced then None else terminal_of deadline e
 abbrev pub stream_by : {I : Type 0} → (I → Option Context) → (List ℕ → Option I) → Rules → Stream (SessionEvent I) Terminal
 stream_by read item_at rules = record {
   event_at = event_at item_at;
-  answers = λ past kind. allows (ask_of read rules past) kind;
+  allows = λ past kind. allows (ask_of read rules past) kind;
   refusal = λ past e. refusal_by rules.deadline (has_synced (subject_by read rules) past) e;
   closes = closes;
   synced = has_synced (subject_by read rules);
@@ -153,13 +153,9 @@ outputs rules = record {
   records = λ past e. records_in context_in (has_synced (subject rules) past) rules.limits (view_of (outcomes (subject rules) past)) e (outcome (subject rules) e past);
 }
 
--- the lists that the sink, the publisher and the recorder hold, where they tell
-abbrev pub told : Option (List ℕ) → Option (List PlainStep) → Option (List MetricsRecord) → Told PlainStep MetricsRecord
-told held steps records = record { held = held; steps = steps; records = records }
+-- ---- results
 
--- ---- answers
-
--- how an answer of `follow_x509` ends a session
+-- how a result of `follow_x509` ends a session
 abbrev pub end_for : Result ℕ FollowError → End Terminal
 end_for (Ok count) = Whole count
 end_for (Err answers.OutOfMemory) = OutOfMemory

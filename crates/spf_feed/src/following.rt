@@ -1,6 +1,6 @@
 //! Following an update stream: its steps, its records and its lines.
 
-ghost use Rattle.std.specs.Prelude.{◌≡◌, ◌∷◌, [], false, None, Ok, Err, IsTrue, IfOk, IfErr, OnOk, List, is_some, if◌then◌else◌};
+ghost use Rattle.std.specs.Prelude.{◌≡◌, ◌<◌, ◌-◌, ◌^◌, ◌∷◌, [], false, None, Some, Ok, Err, IsTrue, IfOk, IfErr, OnOk, List, is_some, if◌then◌else◌};
 ghost use Rattle.std.specs.Option.{ForSome, option_map, option_or};
 ghost use Rattle.spf_view.specs.Sessions.{Followed};
 ghost use Rattle.spf_view.specs.Keeping.{kept_with};
@@ -10,9 +10,10 @@ ghost use Rattle.spf_feed.specs.Steps.{plain, is_accept, HasStep, MayFollow, sam
 ghost use Rattle.spf_feed.specs.Turns.{MayTake, listed};
 ghost use Rattle.spf_feed.specs.Items.{Event as SessionOf, context_in, Rules, rules_with};
 ghost use Rattle.spf_feed.specs.declared.follow_error.FollowError.TheVariants as answers;
+ghost use Rattle.spf_feed.specs.declared.frame.FrameError.TheVariants as errors;
 ghost use Rattle.spf_feed.specs.Received.{received_ask, received_moment, received_close};
-ghost use Rattle.spf_feed.specs.Run.{ask_of, stream, outputs, told, end_for};
-ghost use Rattle.spf_feed.specs.Following.{is_fault, HasFaults, OnlyAllowed, EventRead, HandsOn, IsShownAfter, IsStepTaken, change_of, is_changed, update_of, TurnTaken};
+ghost use Rattle.spf_feed.specs.Run.{ask_of, stream, outputs, end_for};
+ghost use Rattle.spf_feed.specs.Following.{is_fault, HasFaults, error_at as unread_error, OnlyAllowed, EventRead, HandsOn, IsShownAfter, IsTaken, change_of, is_changed, update_of, TurnTaken};
 
 use crate::follow_error::FollowError;
 use crate::frame::{FrameError, Phase, next_frame};
@@ -50,6 +51,19 @@ fn next_event<S: Source>(
         Ok(Some(event)) => Ok(Some(event)),
         Ok(None) => Err(FrameError::BadFrame),
         Err(_) => Err(FrameError::OutOfMemory),
+    }
+}
+
+/// The error that a session ends with, where no event was read after `count` of them.
+fn error_at(count: u64, e: FrameError) -> FollowError
+    requires { e ≡ errors.BadFrame → count < 2 ^ 64 - 1 }
+    ensures { result ≡ unread_error count e }
+{
+    match e {
+        FrameError::TooLong => FollowError::SessionTooLong,
+        FrameError::BadFrame => FollowError::BadFrame { frame: count + 1 },
+        FrameError::ReadFault => FollowError::ReadFault,
+        FrameError::OutOfMemory => FollowError::OutOfMemory,
     }
 }
 
@@ -184,7 +198,9 @@ fn accept<P: Publisher, M: MetricsRecorder>(
     requires next { MayFollow (P.steps publisher.old) (plain step) }
     requires first { snapshot.old ≡ None → IsTrue (is_accept (plain step)) }
     ensures synced { OnOk result (HasStep (P.steps publisher.new)) }
-    ensures taken { IsStepTaken (plain step) (update_of (change_of snapshot.old (plain step))) snapshot.old snapshot.new (P.steps publisher.old) (P.steps publisher.new) (M.records recorder.old) (M.records recorder.new) result }
+    ensures taken { IsTaken (Some (plain step)) (update_of (change_of snapshot.old (plain step)))
+        (record { kept = snapshot.old; steps = P.steps publisher.old; records = M.records recorder.old })
+        (record { kept = snapshot.new; steps = P.steps publisher.new; records = M.records recorder.new }) result }
 {
     let change = publish(alloc, publisher, snapshot, step)?;
     record_change(recorder, change)?;
@@ -203,7 +219,9 @@ fn deny<P: Publisher, M: MetricsRecorder>(
     requires next { MayFollow (P.steps publisher.old) (plain step) }
     requires first { snapshot.old ≡ None → IsTrue (is_accept (plain step)) }
     ensures synced { OnOk result (HasStep (P.steps publisher.new)) }
-    ensures taken { IsStepTaken (plain step) (listed records) snapshot.old snapshot.new (P.steps publisher.old) (P.steps publisher.new) (M.records recorder.old) (M.records recorder.new) result }
+    ensures taken { IsTaken (Some (plain step)) (listed records)
+        (record { kept = snapshot.old; steps = P.steps publisher.old; records = M.records recorder.old })
+        (record { kept = snapshot.new; steps = P.steps publisher.new; records = M.records recorder.new }) result }
 {
     let change = publish(alloc, publisher, snapshot, step)?;
     record_all(recorder, records)?;
@@ -223,7 +241,9 @@ fn take<P: Publisher, M: MetricsRecorder>(
     requires synced { IsTrue (is_some snapshot.old) → HasStep (P.steps publisher.old) }
     ensures synced { OnOk result (IsTrue (is_some snapshot.new) → HasStep (P.steps publisher.new)) }
     ensures calm { IfErr result (λ e. is_fault e ≡ false) }
-    ensures turn { TurnTaken limits turn snapshot.old snapshot.new (P.steps publisher.old) (P.steps publisher.new) (M.records recorder.old) (M.records recorder.new) result }
+    ensures turn { TurnTaken limits turn
+        (record { kept = snapshot.old; steps = P.steps publisher.old; records = M.records recorder.old })
+        (record { kept = snapshot.new; steps = P.steps publisher.new; records = M.records recorder.new }) result }
 {
     match turn {
         Turn::Terminal(terminal) => Err(FollowError::from(terminal)),
@@ -290,12 +310,47 @@ pub fn follow_x509<S: Source, K: Sink, P: Publisher, M: MetricsRecorder, C: Svid
 ) -> Result<u64, FollowError>
     requires { ForSome picker (λ p. C.can_pick p.now) }
 
-    // What is read, put, published, recorded and answered belongs to one list of events.
-    ensures followed { Followed (stream (rules_with limits deadline ready (option_map (λ p. C.picks p.now) picker.entry))) (outputs (rules_with limits deadline ready (option_map (λ p. C.picks p.now) picker.entry))) max_frames (S.left source.old) (S.left source.new)
-        (told (K.held sink.old) (P.steps publisher.old) (M.records recorder.old)) (told (K.held sink.new) (P.steps publisher.new) (M.records recorder.new)) (end_for result) }
+    // What is read, put, published, recorded and returned belongs to one list of events.
+    ensures followed { Followed
+        (stream (rules_with limits deadline ready (option_map (λ p. C.picks p.now) picker.entry)))
+        (outputs (rules_with limits deadline ready (option_map (λ p. C.picks p.now) picker.entry))) max_frames
+        (record {
+          left = S.left source.old;
+          held = K.held sink.old;
+          steps = P.steps publisher.old;
+          records = M.records recorder.old;
+          read_faults = S.faults source.old;
+          write_faults = K.faults sink.old;
+        })
+        (record {
+          left = S.left source.new;
+          held = K.held sink.new;
+          steps = P.steps publisher.new;
+          records = M.records recorder.new;
+          read_faults = S.faults source.new;
+          write_faults = K.faults sink.new;
+        })
+        (end_for result) }
 
     // A fault comes only where its count rose.
-    ensures cause { HasFaults (S.faults source.old) (S.faults source.new) (K.faults sink.old) (K.faults sink.new) result }
+    ensures cause { HasFaults
+        (record {
+          left = S.left source.old;
+          held = K.held sink.old;
+          steps = P.steps publisher.old;
+          records = M.records recorder.old;
+          read_faults = S.faults source.old;
+          write_faults = K.faults sink.old;
+        })
+        (record {
+          left = S.left source.new;
+          held = K.held sink.new;
+          steps = P.steps publisher.new;
+          records = M.records recorder.new;
+          read_faults = S.faults source.new;
+          write_faults = K.faults sink.new;
+        })
+        result }
 {
     let mut payload = Vec::new(alloc);
     let mut line = NumberedLine::new(alloc)?;
@@ -307,10 +362,7 @@ pub fn follow_x509<S: Source, K: Sink, P: Publisher, M: MetricsRecorder, C: Svid
         let event = match next_event(alloc, source, &mut payload, phase, count < max_frames) {
             Ok(Some(event)) => event,
             Ok(None) => return at_end(&snapshot, count),
-            Err(FrameError::TooLong) => return Err(FollowError::SessionTooLong),
-            Err(FrameError::BadFrame) => return Err(FollowError::BadFrame { frame: count + 1 }),
-            Err(FrameError::ReadFault) => return Err(FollowError::ReadFault),
-            Err(FrameError::OutOfMemory) => return Err(FollowError::OutOfMemory),
+            Err(e) => return Err(error_at(count, e)),
         };
         count += 1;
         let is_close = is_close(&event);

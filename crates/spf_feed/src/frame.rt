@@ -1,9 +1,9 @@
 //! Frames: a kind octet, four octets of length, and so many payload octets.
 
-ghost use Rattle.std.specs.Prelude.{◌≡◌, ◌≤◌, ◌^◌, length as list_len};
+ghost use Rattle.std.specs.Prelude.{◌≡◌, ◌≤◌, ◌^◌, take, length as list_len};
 ghost use Rattle.std.specs.Int.{w32, to_be_bytes, from_be_bytes};
 ghost use Rattle.spf_feed.specs.Parts.{PartRead, PartPut, HasFault};
-ghost use Rattle.spf_feed.specs.Frames.{allows, sized, FitsFrame, KindRead, FrameRead, with_payload};
+ghost use Rattle.spf_feed.specs.Frames.{allows, sized, sized_front, FitsFrame, KindRead, FrameRead, with_payload};
 
 use crate::source::fill;
 use spf_io::{Bytes, OutOfMemory, Source};
@@ -94,7 +94,7 @@ fn read_kind<S: Source>(source: &mut S) -> Result<Option<u8>, FrameError>
 
 /// The four octets of a length.
 fn read_length<S: Source>(source: &mut S) -> Result<u32, FrameError>
-    ensures bytes { PartRead (to_be_bytes w32) (λ n. n ≤ 2 ^ 24) (S.left source.old) (S.left source.new) result }
+    ensures bytes { PartRead (to_be_bytes w32) (λ n. n ≤ 2 ^ 24) sized_front (S.left source.old) (S.left source.new) result }
     ensures cause { HasFault (S.faults source.old) (S.faults source.new) result }
 {
     let mut octets = [0; 4];
@@ -119,7 +119,7 @@ fn read_octets<S: Source>(
     payload: &mut Vec<u8>,
     length: u32,
 ) -> Result<(), FrameError>
-    ensures bytes { PartPut (λ p. p) (λ p. list_len p ≡ length) (S.left source.old) (S.left source.new) result payload.new.items }
+    ensures bytes { PartPut (λ p. p) (λ p. list_len p ≡ length) (take length) (S.left source.old) (S.left source.new) result payload.new.items }
     ensures cause { HasFault (S.faults source.old) (S.faults source.new) result }
 {
     match payload.resize(length as usize, 0) {
@@ -139,7 +139,7 @@ fn read_octets<S: Source>(
 
 /// Four octets of length, and so many octets, in place of what the buffer held.
 fn read_sized<S: Source>(source: &mut S, payload: &mut Vec<u8>) -> Result<(), FrameError>
-    ensures bytes { PartPut sized FitsFrame (S.left source.old) (S.left source.new) result payload.new.items }
+    ensures bytes { PartPut sized FitsFrame sized_front (S.left source.old) (S.left source.new) result payload.new.items }
     ensures cause { HasFault (S.faults source.old) (S.faults source.new) result }
 {
     let length = read_length(source)?;

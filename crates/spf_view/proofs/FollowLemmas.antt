@@ -273,11 +273,11 @@ followed_early s o max_frames old =
 -- ---- the exits after an event
 
 -- one event more, whose frame was taken
-pub record IsNext {E A X Y : Type 0} (s : Stream E A) (max_frames : ℕ) (cur new : Ports X Y) (past : List E) (count : ℕ) (e : E) : Type 0 where
+pub record IsNext {E A : Type 0} (s : Stream E A) (max_frames : ℕ) (now after : Option (List ℕ)) (past : List E) (count : ℕ) (e : E) : Type 0 where
   pub room : count < max_frames
   pub front : List ℕ
   pub frame : IsFrame s past front e
-  pub took : Consumes cur.left new.left front
+  pub took : Consumes now after front
 
 framed : {E A : Type 0} (s : Stream E A) (past past' : List E) (front : List ℕ) (e : E) → past' ≡ past → IsFrame s past front e → IsFrame s past' front e
 framed s past past' front e same h = subst (λ p. IsFrame s p front e) (sym same) h
@@ -340,7 +340,7 @@ in_order_more {E} s o text es past e cur new line_cut steps_cut going history no
 
 -- an event that is not refused, after which the run ends
 followed_after : {E A X Y : Type 0} (s : Stream E A) (o : Outputs E X Y) (max_frames : ℕ) (old cur new : Ports X Y) (past : List E) (count : ℕ) (e : E) (r : End A)
-    (f : SoFar s o max_frames old cur past count) (n : IsNext s max_frames cur new past count e) → s.refusal past e ≡ None → TakenAtEnd s max_frames old.left (f.text ++ n.front) (f.es ++ e ∷ []) [] r
+    (f : SoFar s o max_frames old cur past count) (n : IsNext s max_frames cur.left new.left past count e) → s.refusal past e ≡ None → TakenAtEnd s max_frames old.left (f.text ++ n.front) (f.es ++ e ∷ []) [] r
     → (r ≡ ReadFault → ⊥) → Adds o past e cur new (cuts_line r) (cuts_steps r)
     → IfSome old.left (λ bytes. IsTrue (is_free r) ⊎ IsEndOf s max_frames bytes (f.es ++ e ∷ []) r) → Followed s o max_frames old new r
 unfolding handed_more all_of grows_as grows_more
@@ -368,13 +368,13 @@ followed_after s o max_frames old cur new past count e r f n none taken calm add
         same false e = e
 
 read_ended : {E A X Y : Type 0} (s : Stream E A) (o : Outputs E X Y) (max_frames : ℕ) (old cur new : Ports X Y) (past : List E) (count : ℕ) (e : E) (rest : List ℕ)
-    (f : SoFar s o max_frames old cur past count) (n : IsNext s max_frames cur new past count e) → IsTrue (ends s past e) → IsReading s max_frames ((f.text ++ n.front) ++ rest) (f.es ++ e ∷ []) rest
+    (f : SoFar s o max_frames old cur past count) (n : IsNext s max_frames cur.left new.left past count e) → IsTrue (ends s past e) → IsReading s max_frames ((f.text ++ n.front) ++ rest) (f.es ++ e ∷ []) rest
 read_ended s o max_frames old cur new past count e rest f n ending =
     reading_ended s max_frames f.text f.es n.front e rest f.going (framed s past (onto [] f.es) n.front e f.history n.frame) (subst (λ p. IsTrue (ends s p e)) (sym f.history) ending) (omega (arith, f.count_is, n.room))
 
 -- an event that is refused
 pub followed_refused : {E A X Y : Type 0} (s : Stream E A) (o : Outputs E X Y) (max_frames : ℕ) (old cur new : Ports X Y) (past : List E) (count : ℕ) (e : E) (x : A)
-    → SoFar s o max_frames old cur past count → IsNext s max_frames cur new past count e → OnlyRead cur new → s.refusal past e ≡ Some x → Followed s o max_frames old new (Refused x)
+    → SoFar s o max_frames old cur past count → IsNext s max_frames cur.left new.left past count e → OnlyRead cur new → s.refusal past e ≡ Some x → Followed s o max_frames old new (Refused x)
 unfolding grows_all all_of
 followed_refused {E} s o max_frames old cur new past count e x f n same h = record {
   es = f.es ++ e ∷ [];
@@ -409,19 +409,19 @@ followed_refused {E} s o max_frames old cur new past count e x f n same h = reco
 
 -- memory ran out over an event
 pub followed_stopped : {E A X Y : Type 0} (s : Stream E A) (o : Outputs E X Y) (max_frames : ℕ) (old cur new : Ports X Y) (past : List E) (count : ℕ) (e : E)
-    → SoFar s o max_frames old cur past count → IsNext s max_frames cur new past count e → s.refusal past e ≡ None → Adds o past e cur new true true → Followed s o max_frames old new OutOfMemory
+    → SoFar s o max_frames old cur past count → IsNext s max_frames cur.left new.left past count e → s.refusal past e ≡ None → Adds o past e cur new true true → Followed s o max_frames old new OutOfMemory
 followed_stopped s o max_frames old cur new past count e f n none adds =
     followed_after s o max_frames old cur new past count e OutOfMemory f n none (λ some. absurd (some refl)) (λ is. absurd cc) adds (free s max_frames (f.es ++ e ∷ []) OutOfMemory old.left refl)
 
 -- the line of an event was put in part
 pub followed_unput : {E A X Y : Type 0} (s : Stream E A) (o : Outputs E X Y) (max_frames : ℕ) (old cur new : Ports X Y) (past : List E) (count : ℕ) (e : E)
-    → SoFar s o max_frames old cur past count → IsNext s max_frames cur new past count e → s.refusal past e ≡ None → Adds o past e cur new true false → Followed s o max_frames old new WriteFault
+    → SoFar s o max_frames old cur past count → IsNext s max_frames cur.left new.left past count e → s.refusal past e ≡ None → Adds o past e cur new true false → Followed s o max_frames old new WriteFault
 followed_unput s o max_frames old cur new past count e f n none adds =
     followed_after s o max_frames old cur new past count e WriteFault f n none refl (λ is. absurd cc) adds (free s max_frames (f.es ++ e ∷ []) WriteFault old.left refl)
 
 -- a close
 pub followed_closed : {E A X Y : Type 0} (s : Stream E A) (o : Outputs E X Y) (max_frames : ℕ) (old cur new : Ports X Y) (past : List E) (count : ℕ) (e : E) (r : End A)
-    → SoFar s o max_frames old cur past count → IsNext s max_frames cur new past count e → s.refusal past e ≡ None → s.closes e ≡ true → AddsAll o past e cur new
+    → SoFar s o max_frames old cur past count → IsNext s max_frames cur.left new.left past count e → s.refusal past e ≡ None → s.closes e ≡ true → AddsAll o past e cur new
     → r ≡ cond (s.synced (e ∷ past)) (Whole (count + 1)) NeverSynced → Followed s o max_frames old new r
 followed_closed {E} s o max_frames old cur new past count e r f n none closed adds is =
     followed_after s o max_frames old cur new past count e r f n none (none_more s max_frames old.left (f.text ++ n.front) more (s.synced (e ∷ past)) (count + 1) r number is) (no_fault (s.synced (e ∷ past)) (count + 1) r is)
@@ -446,7 +446,7 @@ followed_closed {E} s o max_frames old cur new past count e r f n none closed ad
     number = omega (arith, length-append f.es (e ∷ []), f.count_is)
 
 pub goes_on : {E A X Y : Type 0} (s : Stream E A) (o : Outputs E X Y) (max_frames : ℕ) (old cur new : Ports X Y) (past : List E) (count : ℕ) (e : E)
-    → SoFar s o max_frames old cur past count → IsNext s max_frames cur new past count e → s.refusal past e ≡ None → s.closes e ≡ false → AddsAll o past e cur new
+    → SoFar s o max_frames old cur past count → IsNext s max_frames cur.left new.left past count e → s.refusal past e ≡ None → s.closes e ≡ false → AddsAll o past e cur new
     → SoFar s o max_frames old new (e ∷ past) (count + 1)
 goes_on {E} s o max_frames old cur new past count e f n none going adds = record {
   es = f.es ++ e ∷ [];

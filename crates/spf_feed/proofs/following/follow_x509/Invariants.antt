@@ -2,7 +2,6 @@ use Rattle.std.proofs.Common.{◌≤◌, ◌-◌}
 use Rattle.std.specs.Prelude.{IsTrue, is_some}
 use Rattle.std.specs.Option.{option_map}
 use Rattle.spf_feed.specs.Items.{rules_with}
-use Rattle.spf_feed.specs.Run.{told}
 use Rattle.spf_feed.specs.Steps.{HasStep}
 use Rattle.spf_feed.proofs.Loop.{LoopAt}
 use Rattle.spf_feed.proofs.following.follow_x509.Given as goal
@@ -13,8 +12,23 @@ invariant-events g l = record {
   synced : IsTrue (is_some l.snapshot) → HasStep (g.P.Publisher.steps l.publisher);
   reads : g.S.Source.faults l.initial.source ≤ g.S.Source.faults l.source;
   writes : g.K.Sink.faults l.initial.sink ≤ g.K.Sink.faults l.sink;
-  session : LoopAt (rules_with l.fn.limits l.fn.deadline l.fn.ready (option_map (λ p. g.C.SvidPicker.picks p.now) l.fn.picker)) l.max_frames (g.S.Source.left l.initial.source) (g.S.Source.left l.source)
-      (told (g.K.Sink.held l.initial.sink) (g.P.Publisher.steps l.initial.publisher) (g.M.MetricsRecorder.records l.initial.recorder)) (told (g.K.Sink.held l.sink) (g.P.Publisher.steps l.publisher) (g.M.MetricsRecorder.records l.recorder))
+  session : LoopAt (rules_with l.fn.limits l.fn.deadline l.fn.ready (option_map (λ p. g.C.SvidPicker.picks p.now) l.fn.picker)) l.max_frames
+      (record {
+        left = g.S.Source.left l.initial.source;
+        held = g.K.Sink.held l.initial.sink;
+        steps = g.P.Publisher.steps l.initial.publisher;
+        records = g.M.MetricsRecorder.records l.initial.recorder;
+        read_faults = g.S.Source.faults l.initial.source;
+        write_faults = g.K.Sink.faults l.initial.sink;
+      })
+      (record {
+        left = g.S.Source.left l.source;
+        held = g.K.Sink.held l.sink;
+        steps = g.P.Publisher.steps l.publisher;
+        records = g.M.MetricsRecorder.records l.recorder;
+        read_faults = g.S.Source.faults l.source;
+        write_faults = g.K.Sink.faults l.sink;
+      })
       l.count l.snapshot l.now l.phase l.line;
 }
 
