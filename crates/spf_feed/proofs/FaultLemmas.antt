@@ -3,8 +3,7 @@ use Rattle.std.proofs.Common.{◌≡◌, ℕ, ◌≤◌, true, false, Result, Ok
 use Rattle.std.specs.Prelude.{IfErr}
 use Rattle.spf_feed.specs.declared.follow_error.FollowError.{FollowError}
 use Rattle.spf_feed.specs.declared.follow_error.FollowError.TheVariants as answers
-use Rattle.spf_view.specs.Sessions.{Ports}
-use Rattle.spf_feed.specs.Following.{is_fault, HasFaults}
+use Rattle.spf_feed.specs.Following.{is_fault, FaultCounts, HasFaults}
 
 -- an answer that is no fault is not this fault
 not_this : (fault e : FollowError) (r : Result ℕ FollowError) → is_fault fault ≡ true → is_fault e ≡ false → r ≡ Err e → r ≡ Err fault → ⊥
@@ -13,7 +12,7 @@ not_this fault e r is_one is_none p q =
     let both : is_fault fault ≡ false = subst (λ (x : FollowError). is_fault x ≡ false) same is_none in
     cc
 
-pub no_fault : {X Y : Type 0} (old new : Ports X Y) (r : Result ℕ FollowError) → IfErr r (λ e. is_fault e ≡ false) → old.read_faults ≤ new.read_faults → old.write_faults ≤ new.write_faults → HasFaults old new r
+pub no_fault : (old new : FaultCounts) (r : Result ℕ FollowError) → IfErr r (λ e. is_fault e ≡ false) → old.reads ≤ new.reads → old.writes ≤ new.writes → HasFaults old new r
 no_fault old new (Ok n) calm reads writes = record { reads_later = reads; writes_later = writes; read = λ p. absurd cc; write = λ p. absurd cc }
 no_fault old new (Err e) calm reads writes = record {
   reads_later = reads;

@@ -6,7 +6,7 @@ use Rattle.spf_io.specs.Outside.{Rose}
 use Rattle.spf_view.specs.Views.{Waiting}
 use Rattle.spf_view.specs.Standing.{Kept, is_change}
 use Rattle.spf_view.specs.Keeping.{kept_with_any}
-use Rattle.spf_view.specs.Sessions.{IsFrame, NoFrameAt, Ports, Grows, GrowsUpTo}
+use Rattle.spf_view.specs.Sessions.{IsFrame, NoFrameAt, Grows, GrowsUpTo}
 use Rattle.spf_feed.specs.declared.follow_error.FollowError.{FollowError}
 use Rattle.spf_feed.specs.declared.follow_error.FollowError.TheVariants as answers
 use Rattle.spf_feed.specs.declared.frame.FrameError.{FrameError}
@@ -43,12 +43,17 @@ is_fault answers.ReadFault = true
 is_fault answers.WriteFault = true
 is_fault _ = false
 
--- the counts of faults never fall, and a fault comes only where its count rose
-pub record HasFaults {X Y : Type 0} (old new : Ports X Y) (r : Result ℕ FollowError) : Type 0 where
-  pub reads_later : old.read_faults ≤ new.read_faults
-  pub writes_later : old.write_faults ≤ new.write_faults
-  pub read : r ≡ Err answers.ReadFault → Rose old.read_faults new.read_faults
-  pub write : r ≡ Err answers.WriteFault → Rose old.write_faults new.write_faults
+-- how many reads and writes failed so far
+pub record FaultCounts : Type 0 where
+  pub reads : ℕ
+  pub writes : ℕ
+
+-- the counts never fall, and a fault comes only where its count rose
+pub record HasFaults (old new : FaultCounts) (r : Result ℕ FollowError) : Type 0 where
+  pub reads_later : old.reads ≤ new.reads
+  pub writes_later : old.writes ≤ new.writes
+  pub read : r ≡ Err answers.ReadFault → Rose old.reads new.reads
+  pub write : r ≡ Err answers.WriteFault → Rose old.writes new.writes
 
 -- ---- reading an event
 

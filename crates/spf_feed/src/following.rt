@@ -319,38 +319,19 @@ pub fn follow_x509<S: Source, K: Sink, P: Publisher, M: MetricsRecorder, C: Svid
           held = K.held sink.old;
           steps = P.steps publisher.old;
           records = M.records recorder.old;
-          read_faults = S.faults source.old;
-          write_faults = K.faults sink.old;
         })
         (record {
           left = S.left source.new;
           held = K.held sink.new;
           steps = P.steps publisher.new;
           records = M.records recorder.new;
-          read_faults = S.faults source.new;
-          write_faults = K.faults sink.new;
         })
         (end_for result) }
 
     // A fault comes only where its count rose.
     ensures cause { HasFaults
-        (record {
-          left = S.left source.old;
-          held = K.held sink.old;
-          steps = P.steps publisher.old;
-          records = M.records recorder.old;
-          read_faults = S.faults source.old;
-          write_faults = K.faults sink.old;
-        })
-        (record {
-          left = S.left source.new;
-          held = K.held sink.new;
-          steps = P.steps publisher.new;
-          records = M.records recorder.new;
-          read_faults = S.faults source.new;
-          write_faults = K.faults sink.new;
-        })
-        result }
+        (record { reads = S.faults source.old; writes = K.faults sink.old })
+        (record { reads = S.faults source.new; writes = K.faults sink.new }) result }
 {
     let mut payload = Vec::new(alloc);
     let mut line = NumberedLine::new(alloc)?;

@@ -130,14 +130,12 @@ pub record Outputs (E X Y : Type 0) : Type 0 where
   pub records : List E → E → List Y
 
 -- What a run sees of its surroundings at one time: the bytes that the source has left, and what the sink, the publisher and
--- the recorder hold, each where it says so; and how many reads and writes failed so far.
+-- the recorder hold, each where it says so.
 pub record Ports (X Y : Type 0) : Type 0 where
   pub left : Option (List ℕ)
   pub held : Option (List ℕ)
   pub steps : Option (List X)
   pub records : Option (List Y)
-  pub read_faults : ℕ
-  pub write_faults : ℕ
 
 -- a list, where it is known, grows by these
 abbrev pub Grows : {X : Type 0} → Option (List X) → Option (List X) → List X → Type 0

@@ -20,7 +20,7 @@ whole_end : (setting : Setting) (es fs : List Event) (rest other : List ℕ) →
     → IsTrue (closed_of (stream (rules_for setting)) es || length rest == 0) → end_of (stream (rules_for setting)) setting.max_frames fs other ≡ Whole (length es)
 whole_end setting es fs rest other same left calm accepted whole =
     ap (λ l. end_of (stream (rules_for setting)) setting.max_frames l other) (sym same) ∙ ap (end_of (stream (rules_for setting)) setting.max_frames es) (sym left)
-    ∙ (λ i. end_by (calm i) (whole i) (accepted i) (length es == setting.max_frames) (length es))
+    ∙ (λ i. end_by (record { refusal = calm i; whole = whole i; synced = accepted i; full = length es == setting.max_frames; count = length es }))
 
 -- an answer that is no refusal to read the session whole
 fails_freely : (answer : Result ℕ FollowError) (r : Result (Unit {0}) Fault) (reads reads' writes writes' n : ℕ) → r ≡ ended_by answer → HasCauses reads reads' writes writes' r → (Rose reads reads' → ⊥) → (Rose writes writes' → ⊥)
@@ -52,7 +52,7 @@ ends_whole (Err answers.NeverSynced) r m is e = absurd cc
 
 completes_by : (setting : Setting) (bytes : List ℕ) (left' held held' : Option (List ℕ)) (r : Result (Unit {0}) Fault) (reads reads' writes writes' : ℕ) → Ran setting (Some bytes) left' held held' r → HasCauses reads reads' writes writes' r
     → IsWholeSession setting bytes → (Rose reads reads' → ⊥) → (Rose writes writes' → ⊥) → (status_of_end r ≡ 0) ⊎ (status_of_end r ≡ 2)
-completes_by setting bytes left' held held' r reads reads' writes writes' ran causes whole calm quiet = by_answer ran.followed.answer
+completes_by setting bytes left' held held' r reads reads' writes writes' ran causes whole calm quiet = by_answer ran.followed.end
   where
     by_answer : IsTrue (is_free (end_for ran.answer)) ⊎ IsEndOf (stream (rules_for setting)) setting.max_frames bytes ran.followed.es (end_for ran.answer) → (status_of_end r ≡ 0) ⊎ (status_of_end r ≡ 2)
     by_answer (inl free) = inr (fails_freely ran.answer r reads reads' writes writes' 0 ran.is causes calm quiet free)

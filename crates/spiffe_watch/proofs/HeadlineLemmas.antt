@@ -5,7 +5,7 @@ use Rattle.std.specs.Borrow.{Bor}
 use Rattle.std.specs.Option.{option_map}
 use Rattle.spf_view.specs.Sessions.{End, Whole, end_by, IsEndOf, refusal_of, all_of, Grows, GrowsUpTo, Followed}
 use Rattle.spf_feed.specs.Items.{Event, Rules}
-use Rattle.spf_feed.specs.Run.{stream, outputs, told, end_for}
+use Rattle.spf_feed.specs.Run.{stream, outputs, end_for}
 use Rattle.spiffe_watch.specs.Setting.{Setting}
 use Rattle.spf_view.proofs.FollowLemmas.{followed_early}
 use Rattle.spf_feed.specs.declared.follow_error.FollowError.{FollowError}
@@ -13,7 +13,7 @@ use Rattle.spf_feed.specs.declared.follow_error.FollowError.TheVariants as answe
 use Rattle.spiffe_watch.specs.declared.fault.Fault.{Fault}
 use Rattle.spiffe_watch.specs.declared.words.Command.{Command}
 use Rattle.spiffe_watch.specs.declared.words.Command.TheVariants as commands
-use Rattle.spiffe_watch.specs.Headline.{rules_for, FollowedBy, lines_of, Shows, Ran, Does, Headline, ended_by}
+use Rattle.spiffe_watch.specs.Headline.{rules_for, ports, FollowedBy, lines_of, Shows, Ran, Does, Headline, ended_by}
 
 -- a whole session is the end of a reading without a refusal, that is whole and has an accepted event
 pub record IsWhole {A : Type 0} (x : Option A) (whole synced : Bool) : Type 0 where
@@ -21,7 +21,7 @@ pub record IsWhole {A : Type 0} (x : Option A) (whole synced : Bool) : Type 0 wh
   pub whole_is : whole ≡ true
   pub synced_is : synced ≡ true
 
-whole_by : {A : Type 0} (x : Option A) (whole synced full : Bool) (n m : ℕ) → Whole m ≡ end_by x whole synced full n → IsWhole x whole synced
+whole_by : {A : Type 0} (x : Option A) (whole synced full : Bool) (n m : ℕ) → Whole m ≡ end_by (record { refusal = x; whole = whole; synced = synced; full = full; count = n }) → IsWhole x whole synced
 whole_by (Some x) whole synced full n m h = absurd cc
 whole_by None true true full n m h = record { calm = refl; whole_is = refl; synced_is = refl }
 whole_by None true false full n m h = absurd cc
@@ -48,7 +48,7 @@ abbrev count_of : {A : Type 0} → End A → ℕ
 count_of (Whole n) = n
 count_of end = 0
 
-counted_by : {A : Type 0} (x : Option A) (whole synced full : Bool) (n m : ℕ) → Whole m ≡ end_by x whole synced full n → m ≡ n
+counted_by : {A : Type 0} (x : Option A) (whole synced full : Bool) (n m : ℕ) → Whole m ≡ end_by (record { refusal = x; whole = whole; synced = synced; full = full; count = n }) → m ≡ n
 counted_by (Some x) whole synced full n m h = absurd cc
 counted_by None true true full n m h = ap count_of h
 counted_by None true false full n m h = absurd cc
@@ -58,7 +58,7 @@ counted_by None false synced false n m h = absurd cc
 -- an answer that is Ok shows a whole session, and counts its events
 pub counted : (setting : Setting) (bytes : List ℕ) (left' held held' : Option (List ℕ)) (count : ℕ) → FollowedBy setting (Some bytes) left' held held' (Ok count)
     → (s : Shows setting bytes held held') × (count ≡ length s.session.es)
-counted setting bytes left' held held' count f = elim f.answer [ inl free ↦ absurd cc | inr ended ↦ by_end ended ]
+counted setting bytes left' held held' count f = elim f.end [ inl free ↦ absurd cc | inr ended ↦ by_end ended ]
   where
     by_end : IsEndOf (stream (rules_for setting)) setting.max_frames bytes f.es (Whole count) → (s : Shows setting bytes held held') × (count ≡ length s.session.es)
     by_end ended =
@@ -75,16 +75,16 @@ shows setting bytes left' held held' count f = (counted setting bytes left' held
 
 -- how following ended, and the rules of its picker
 pub ran : (setting : Setting) (left left' held held' : Option (List ℕ)) (answer : Result ℕ FollowError) (r : Result (Unit {0}) Fault) (rules : Rules) → rules ≡ rules_for setting
-    → Followed (stream rules) (outputs rules) setting.max_frames left left' (told held None None) (told held' None None) (end_for answer) → r ≡ ended_by answer → Ran setting left left' held held' r
+    → Followed (stream rules) (outputs rules) setting.max_frames (ports left held) (ports left' held') (end_for answer) → r ≡ ended_by answer → Ran setting left left' held held' r
 ran setting left left' held held' answer r rules same f is = record {
   answer = answer;
-  followed = subst (λ x. Followed (stream x) (outputs x) setting.max_frames left left' (told held None None) (told held' None None) (end_for answer)) same f;
+  followed = subst (λ x. Followed (stream x) (outputs x) setting.max_frames (ports left held) (ports left' held') (end_for answer)) same f;
   is = is;
 }
 
 -- memory ran out before anything was read
 pub ran_early : (setting : Setting) (left held : Option (List ℕ)) (r : Result (Unit {0}) Fault) → r ≡ ended_by (Err answers.OutOfMemory) → Ran setting left left held held r
-ran_early setting left held r is = record { answer = Err answers.OutOfMemory; followed = followed_early (stream (rules_for setting)) (outputs (rules_for setting)) setting.max_frames left (told held None None); is = is }
+ran_early setting left held r is = record { answer = Err answers.OutOfMemory; followed = followed_early (stream (rules_for setting)) (outputs (rules_for setting)) setting.max_frames (ports left held); is = is }
 
 -- status 0 is an answer that is Ok
 pub ended_well : (answer : Result ℕ FollowError) (end : Result (Unit {0}) Fault) → end ≡ ended_by answer → end ≡ Ok tt → IsOk answer

@@ -5,10 +5,10 @@ use Rattle.spf_view.specs.Views.{revision_after}
 use Rattle.spf_feed.specs.declared.limits.ResourceLimits.{ResourceLimits}
 use Rattle.spf_feed.specs.declared.ready.Ready.TheVariants as readiness
 use Rattle.spf_feed.specs.Items.{rules_with, subject}
-use Rattle.spf_feed.specs.Run.{outputs, stream, told}
+use Rattle.spf_feed.specs.Run.{outputs, stream}
 use Rattle.spf_feed.proofs.PlainLines.{line_is_line}
 use Rattle.spiffe_watch.specs.declared.words.MadeWords.{MadeWords}
-use Rattle.spiffe_watch.specs.Headline.{FollowedBy, IsSummary, rules_for}
+use Rattle.spiffe_watch.specs.Headline.{ports, FollowedBy, IsSummary, rules_for}
 use Rattle.spiffe_watch.specs.Made.{made_session}
 use Rattle.spiffe_watch.specs.Summary.{default_setting, summary_line, withdrawn_of}
 use Rattle.spiffe_watch.specs.Tallied.{tally_of}
@@ -35,12 +35,12 @@ summed words left' held count revision withdrawn f r w =
 -- the same of what a run with the limits of the setting starts with and leaves
 pub summed_by : (words : MadeWords) (left left' held : Option (List ℕ)) (held' : List ℕ) (limits : ResourceLimits) (count revision withdrawn : ℕ)
     → left ≡ Some (made_session words) → held ≡ Some [] → limits ≡ default_setting.limits
-    → Followed (stream (rules_with limits None readiness.Usable None)) (outputs (rules_with limits None readiness.Usable None)) 1000000 left left' (told held None None) (told (Some held') None None) (Whole count)
+    → Followed (stream (rules_with limits None readiness.Usable None)) (outputs (rules_with limits None readiness.Usable None)) 1000000 (ports left held) (ports left' (Some held')) (Whole count)
     → revision ≡ (tally_of held').revision → withdrawn ≡ (tally_of held').withdrawn
     → IsSummary words (summary_line count revision withdrawn)
 summed_by words left left' held held' limits count revision withdrawn made none same f r w =
     let F : Option (List ℕ) → Option (List ℕ) → ResourceLimits → Type 0 =
-    λ l h x. Followed (stream (rules_with x None readiness.Usable None)) (outputs (rules_with x None readiness.Usable None)) 1000000 l left' (told h None None) (told (Some held') None None) (Whole count) in
+    λ l h x. Followed (stream (rules_with x None readiness.Usable None)) (outputs (rules_with x None readiness.Usable None)) 1000000 (ports l h) (ports left' (Some held')) (Whole count) in
     let first = subst (λ l. F l held limits) made f in
     let second = subst (λ h. F (Some (made_session words)) h limits) none first in
     summed words left' held' count revision withdrawn (subst (λ x. F (Some (made_session words)) (Some []) x) same second) r w

@@ -3,11 +3,13 @@ use Rattle.std.specs.Prelude.{◌≡◌, ◌⊎◌, ℕ, true, ◌==◌, ◌||�
 use Rattle.std.specs.Option.{option_map}
 use Rattle.spf_io.specs.Outside.{Rose}
 use Rattle.spf_view.specs.Views.{has_synced}
-use Rattle.spf_view.specs.Sessions.{IsReading, refusal_of, closed_of, onto, Grows, Followed}
+use Rattle.spf_view.specs.Sessions.{IsReading, refusal_of, closed_of, onto, Ports, Grows, Followed}
+use Rattle.spf_feed.specs.declared.record.MetricsRecord.{MetricsRecord}
+use Rattle.spf_feed.specs.Steps.{PlainStep}
 use Rattle.spf_feed.specs.declared.follow_error.FollowError.{FollowError}
 use Rattle.spf_feed.specs.Items.{Event, Rules, rules_with, subject}
 use Rattle.spf_feed.specs.Pick.{first_with_hint}
-use Rattle.spf_feed.specs.Run.{stream, outputs, told, end_for}
+use Rattle.spf_feed.specs.Run.{stream, outputs, end_for}
 use Rattle.spiffe_watch.specs.declared.fault.Fault.{Fault}
 use Rattle.spiffe_watch.specs.declared.words.Command.{Command}
 use Rattle.spiffe_watch.specs.declared.words.Command.TheVariants as commands
@@ -22,11 +24,15 @@ use Rattle.spiffe_watch.specs.Summary.{default_setting, summary}
 abbrev pub rules_for : Setting → Rules
 rules_for setting = rules_with setting.limits setting.deadline setting.ready (option_map first_with_hint setting.hint)
 
+-- what a run has of the source and the sink, where steps and records are kept nowhere
+abbrev pub ports : Option (List ℕ) → Option (List ℕ) → Ports PlainStep MetricsRecord
+ports left held = record { left = left; held = held; steps = None; records = None }
+
 -- A session of a setting is followed, from what the source has left and the sink holds before to what they do after;
 -- steps and records are kept nowhere.
 abbrev pub FollowedBy : Setting → Option (List ℕ) → Option (List ℕ) → Option (List ℕ) → Option (List ℕ) → Result ℕ FollowError → Type 0
 FollowedBy setting left left' held held' answer =
-    Followed (stream (rules_for setting)) (outputs (rules_for setting)) setting.max_frames left left' (told held None None) (told held' None None) (end_for answer)
+    Followed (stream (rules_for setting)) (outputs (rules_for setting)) setting.max_frames (ports left held) (ports left' held') (end_for answer)
 
 -- how a run ends with an answer, and its status
 abbrev pub ended_by : Result ℕ FollowError → Result (Unit {0}) Fault

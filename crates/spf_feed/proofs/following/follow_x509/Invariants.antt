@@ -18,16 +18,12 @@ invariant-events g l = record {
         held = g.K.Sink.held l.initial.sink;
         steps = g.P.Publisher.steps l.initial.publisher;
         records = g.M.MetricsRecorder.records l.initial.recorder;
-        read_faults = g.S.Source.faults l.initial.source;
-        write_faults = g.K.Sink.faults l.initial.sink;
       })
       (record {
         left = g.S.Source.left l.source;
         held = g.K.Sink.held l.sink;
         steps = g.P.Publisher.steps l.publisher;
         records = g.M.MetricsRecorder.records l.recorder;
-        read_faults = g.S.Source.faults l.source;
-        write_faults = g.K.Sink.faults l.sink;
       })
       l.count l.snapshot l.now l.phase l.line;
 }
