@@ -10,5 +10,6 @@ pub mod FrontLemmas
 pub mod SessionLemmas
 pub mod AllSteps
 pub mod FollowLemmas
+mod ExistsLemmas
 mod Rows
 pub mod KeepingLemmas

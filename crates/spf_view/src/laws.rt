@@ -76,6 +76,11 @@ pub fn one_reading<E, A>()
     ensures { (s : Stream E A) (max_frames : ℕ) (bytes : List ℕ) (es fs : List E) (rest other : List ℕ) → IsReading s max_frames bytes es rest → IsReading s max_frames bytes fs other → (es ≡ fs) × (rest ≡ other) }
 {}
 
+/// Each list of bytes has a reading, for every bound on frames.
+pub fn a_reading<E, A>()
+    ensures { (s : Stream E A) (max_frames : ℕ) (bytes : List ℕ) → (es : List E) × (rest : List ℕ) × IsReading s max_frames bytes es rest }
+{}
+
 /// The steps that a session gives, event by event, are those of the whole list of its events.
 pub fn steps_of_a_session<E, A, M, L, D>()
     ensures { (t : Stream E A) (s : Subject E M L D) (es : List E) → refusal_of t [] es ≡ None → all_of t (λ past e. option_to_list (step_in s.limits (outcome s e past))) [] es ≡ steps_of s es }
