@@ -1,3 +1,4 @@
+pub mod ClaimLemmas
 pub mod Added
 pub mod Counted
 pub mod Holds
@@ -9,5 +10,4 @@ mod Rows
 pub mod Rules
 pub mod Spelled
 pub mod Utf8
-pub mod Viewed
 pub mod Written

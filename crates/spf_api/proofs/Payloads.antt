@@ -1,5 +1,5 @@
 -- What is laid out is read, and what is read is laid out so: whole responses.
-use Rattle.std.proofs.Common.{◌≡◌, ℕ, cond, List, [], ◌++◌, length, Option, Some, None, Result, Ok, Err, eqb, refl, sym, ap, ◌∙◌, subst, unwrap_or, ⊎_elim}
+use Rattle.std.proofs.Common.{◌≡◌, ℕ, cond, List, [], ◌++◌, length, Option, Some, None, Result, Ok, Err, eqb, refl, sym, ap, ◌∙◌, subst, unwrap_or, ⊎_elim, IfSome, ◌∷◌, suc}
 use Rattle.std.proofs.lemmas.Bool.{eqb-true}
 use Rattle.std.proofs.lemmas.List.{append-nil, nil_from_length}
 use Rattle.std.specs.Option.{option_map}
@@ -16,10 +16,15 @@ use Rattle.spf_api.specs.declared.response.Response.TheVariants as response
 use Rattle.spf_api.specs.declared.response.ResponseKind.{ResponseKind}
 use Rattle.spf_api.specs.declared.response.ResponseKind.TheVariants as kind
 use Rattle.spf_api.specs.Layout.{field_text, list_text, HasLength32, IsListOf, svid_entry_text, IsSvidEntry, bundle_entry_text, IsBundleEntry, jwt_svid_entry_text, context_payload, IsContext}
-use Rattle.spf_api.specs.Payload.{LaysOut, bundles_payload, IsBundles, jwt_svids_payload, IsJwtSvids, HasLayout, Payload, Finds}
-use Rattle.spf_api.specs.Reading.{byte_field_at, list_at, svid_entry_at, bundle_entry_at, jwt_svid_entry_at, context_at, bundles_at, jwt_svids_at, IsRead}
+use Rattle.spf_api.specs.Payload.{LaysOut, bundles_payload, IsBundles, jwt_svids_payload, IsJwtSvids, Payload, Finds, IsRead}
+use Rattle.spf_api.specs.Reading.{text_field_at, byte_field_at, list_at, svid_entry_at, bundle_entry_at, jwt_svid_entry_at, context_at, bundles_at, jwt_svids_at}
+use Rattle.spf_api.specs.Claims.{claim_text, claim_at, claim_value_at, IsClaim, IsClaimValue, optional_claims_text, optional_claims_at, validation_payload, IsValidation, validation_at}
+use Rattle.spf_api.specs.declared.payload_validation.TheConstants.{MAX_CLAIM_DEPTH}
+use Rattle.spf_api.specs.declared.response.Claim.{Claim}
+use Rattle.spf_api.specs.declared.response.ValidationResponse.{ValidationResponse}
 use Rattle.spf_api.specs.Views.{context_of}
-use Rattle.spf_api.proofs.Spelled.{IsBytes, Reads, chosen, byte_fields}
+use Rattle.spf_api.proofs.Spelled.{IsBytes, Reads, chosen, byte_fields, text_fields}
+use Rattle.spf_api.proofs.ClaimLemmas.{claims, claim_values, went}
 use Rattle.spf_api.proofs.Lists.{Front, front, bind_then, lists, svid_entries, bundle_entries, jwt_svid_entries}
 
 -- what was found is the same
@@ -97,6 +102,48 @@ jwt_svids_takes bytes ts octets found =
     subst (λ (l : List JwtSvidEntry). LaysOut IsJwtSvids jwt_svids_payload bytes (record { svids = l })) done.1
     (record { fits = ft.0; octets = ft.1.0 ∙ ap (λ (l : List ℕ). text ++ l) done.0 ∙ append-nil text }))
 
+-- a list of claims of a validation
+abbrev claim_lists : Reads (claim_at (claim_value_at MAX_CLAIM_DEPTH)) claim_text (IsClaim (IsClaimValue MAX_CLAIM_DEPTH))
+claim_lists = claims (claim_values MAX_CLAIM_DEPTH)
+
+abbrev MayBe : Option (List Claim) → Type 0
+MayBe o = IfSome o (IsListOf (IsClaim (IsClaimValue MAX_CLAIM_DEPTH)))
+
+optional_again : (o : Option (List Claim)) → MayBe o → optional_claims_at (optional_claims_text o) ≡ Some o
+optional_again None fits = refl
+optional_again (Some cs) fits = rw (list_again claim_lists cs fits) refl
+
+optional_takes : (bytes : List ℕ) (o : Option (List Claim)) → IsBytes bytes → optional_claims_at bytes ≡ Some o → MayBe o × (bytes ≡ optional_claims_text o)
+optional_takes [] o octets e = absurd cc
+optional_takes (flag ∷ rest) o octets e =
+    went (eqb flag 0) _ _ _ e
+    (λ is found.
+    let done = ended rest None o found in
+    subst (λ (p : Option (List Claim)). MayBe p × (flag ∷ rest ≡ optional_claims_text p)) done.1 (tt, λ i. eqb-true flag 0 is i ∷ done.0 i))
+    (λ _ other. went (eqb flag 1) _ _ _ other
+    (λ is found.
+    bind_then (list_at (claim_at (claim_value_at MAX_CLAIM_DEPTH)) rest) _ o found (λ c c_is made.
+    let done = ended c.1 (Some c.0) o made in
+    let fc = front (lists claim_lists) rest c.0 c.1 (λ i. octets (suc i)) c_is in
+    let text = list_text claim_text c.0 in
+    subst (λ (p : Option (List Claim)). MayBe p × (flag ∷ rest ≡ optional_claims_text p)) done.1
+    (fc.0, λ i. eqb-true flag 1 is i ∷ (fc.1.0 ∙ ap (λ (l : List ℕ). text ++ l) done.0 ∙ append-nil text) i)))
+    (λ _ none. absurd cc))
+
+validation_again : (r : ValidationResponse) → IsValidation r → validation_at (validation_payload r) ≡ Some r
+unfolding validation_at validation_payload
+validation_again r fits = rw (text_fields.again r.spiffe_id (optional_claims_text r.claims) fits.spiffe_id, optional_again r.claims fits.claims) refl
+
+validation_takes : (bytes : List ℕ) (r : ValidationResponse) → IsBytes bytes → validation_at bytes ≡ Some r → LaysOut IsValidation validation_payload bytes r
+unfolding validation_at validation_payload
+validation_takes bytes r octets found =
+    bind_then (text_field_at bytes) _ r found (λ i i_is then_i.
+    bind_then (optional_claims_at i.1) _ r then_i (λ c c_is made.
+    let fi = front text_fields bytes i.0 i.1 octets i_is in
+    let fc = optional_takes i.1 c fi.1.1 c_is in
+    subst (LaysOut IsValidation validation_payload bytes) (some_is _ r made)
+    (record { fits = record { spiffe_id = fi.0; claims = fc.0 }; octets = fi.1.0 ∙ ap (λ (l : List ℕ). field_text i.0 ++ l) fc.1 })))
+
 -- what is laid out is read
 pub laid_is_read : (k : ResponseKind) (bytes : List ℕ) (r : Response) → Payload k bytes r → IsRead k bytes (Some r)
 unfolding Payload IsRead
@@ -104,48 +151,54 @@ laid_is_read kind.Context bytes (response.Context r) laid = sym (ap (λ b. optio
 laid_is_read kind.Bundles bytes (response.Bundles r) laid = sym (ap (λ b. option_map (λ l. response.Bundles (record { bundles = l })) (bundles_at b)) laid.octets ∙ ap (option_map (λ l. response.Bundles (record { bundles = l }))) (bundles_again r laid.fits))
 laid_is_read kind.JwtSvids bytes (response.JwtSvids r) laid = sym (ap (λ b. option_map (λ l. response.JwtSvids (record { svids = l })) (jwt_svids_at b)) laid.octets ∙ ap (option_map (λ l. response.JwtSvids (record { svids = l }))) (jwt_svids_again r laid.fits))
 laid_is_read kind.JwtBundles bytes (response.JwtBundles r) laid = sym (ap (λ b. option_map (λ l. response.JwtBundles (record { bundles = l })) (bundles_at b)) laid.octets ∙ ap (option_map (λ l. response.JwtBundles (record { bundles = l }))) (bundles_again r laid.fits))
+laid_is_read kind.Validation bytes (response.Validation r) laid = sym (ap (λ b. option_map response.Validation (validation_at b)) laid.octets ∙ ap (option_map response.Validation) (validation_again r laid.fits))
 laid_is_read _ bytes _ laid = absurd laid
 
 -- where nothing is read, nothing is laid out
-pub none_laid : (k : ResponseKind) (bytes : List ℕ) → HasLayout k → IsRead k bytes None → (r : Response) → ¬ (Payload k bytes r)
+pub none_laid : (k : ResponseKind) (bytes : List ℕ) → IsRead k bytes None → (r : Response) → ¬ (Payload k bytes r)
 unfolding IsRead
-none_laid kind.Context bytes has read r laid = let some = laid_is_read kind.Context bytes r laid in cc
-none_laid kind.Bundles bytes has read r laid = let some = laid_is_read kind.Bundles bytes r laid in cc
-none_laid kind.JwtSvids bytes has read r laid = let some = laid_is_read kind.JwtSvids bytes r laid in cc
-none_laid kind.JwtBundles bytes has read r laid = let some = laid_is_read kind.JwtBundles bytes r laid in cc
-none_laid kind.Validation bytes has read r laid = absurd has
+none_laid kind.Context bytes read r laid = let some = laid_is_read kind.Context bytes r laid in cc
+none_laid kind.Bundles bytes read r laid = let some = laid_is_read kind.Bundles bytes r laid in cc
+none_laid kind.JwtSvids bytes read r laid = let some = laid_is_read kind.JwtSvids bytes r laid in cc
+none_laid kind.JwtBundles bytes read r laid = let some = laid_is_read kind.JwtBundles bytes r laid in cc
+none_laid kind.Validation bytes read r laid = let some = laid_is_read kind.Validation bytes r laid in cc
 
 context_finds : (bytes : List ℕ) (found : Option ContextResponse) → IsBytes bytes → context_at bytes ≡ found → Finds kind.Context bytes (option_map response.Context found)
 unfolding Payload IsRead
 context_finds bytes (Some r) octets e = context_takes bytes r octets e
-context_finds bytes None octets e = none_laid kind.Context bytes tt (sym (ap (option_map response.Context) e))
+context_finds bytes None octets e = none_laid kind.Context bytes (sym (ap (option_map response.Context) e))
 
 bundles_find : (bytes : List ℕ) (found : Option (List BundleEntry)) → IsBytes bytes → bundles_at bytes ≡ found
     → Finds kind.Bundles bytes (option_map (λ l. response.Bundles (record { bundles = l })) found)
 unfolding Payload IsRead
 bundles_find bytes (Some bs) octets e = bundles_takes bytes bs octets e
-bundles_find bytes None octets e = none_laid kind.Bundles bytes tt (sym (ap (option_map (λ l. response.Bundles (record { bundles = l }))) e))
+bundles_find bytes None octets e = none_laid kind.Bundles bytes (sym (ap (option_map (λ l. response.Bundles (record { bundles = l }))) e))
 
 jwt_svids_find : (bytes : List ℕ) (found : Option (List JwtSvidEntry)) → IsBytes bytes → jwt_svids_at bytes ≡ found
     → Finds kind.JwtSvids bytes (option_map (λ l. response.JwtSvids (record { svids = l })) found)
 unfolding Payload IsRead
 jwt_svids_find bytes (Some ts) octets e = jwt_svids_takes bytes ts octets e
-jwt_svids_find bytes None octets e = none_laid kind.JwtSvids bytes tt (sym (ap (option_map (λ l. response.JwtSvids (record { svids = l }))) e))
+jwt_svids_find bytes None octets e = none_laid kind.JwtSvids bytes (sym (ap (option_map (λ l. response.JwtSvids (record { svids = l }))) e))
 
 jwt_bundles_find : (bytes : List ℕ) (found : Option (List BundleEntry)) → IsBytes bytes → bundles_at bytes ≡ found
     → Finds kind.JwtBundles bytes (option_map (λ l. response.JwtBundles (record { bundles = l })) found)
 unfolding Payload IsRead
 jwt_bundles_find bytes (Some bs) octets e = bundles_takes bytes bs octets e
-jwt_bundles_find bytes None octets e = none_laid kind.JwtBundles bytes tt (sym (ap (option_map (λ l. response.JwtBundles (record { bundles = l }))) e))
+jwt_bundles_find bytes None octets e = none_laid kind.JwtBundles bytes (sym (ap (option_map (λ l. response.JwtBundles (record { bundles = l }))) e))
+
+validation_finds : (bytes : List ℕ) (found : Option ValidationResponse) → IsBytes bytes → validation_at bytes ≡ found → Finds kind.Validation bytes (option_map response.Validation found)
+unfolding Payload IsRead
+validation_finds bytes (Some r) octets e = validation_takes bytes r octets e
+validation_finds bytes None octets e = none_laid kind.Validation bytes (sym (ap (option_map response.Validation) e))
 
 -- what is read is laid out so; where nothing is read, nothing is laid out
-pub finds : (k : ResponseKind) (bytes : List ℕ) (o : Option Response) → HasLayout k → IsBytes bytes → IsRead k bytes o → Finds k bytes o
+pub finds : (k : ResponseKind) (bytes : List ℕ) (o : Option Response) → IsBytes bytes → IsRead k bytes o → Finds k bytes o
 unfolding IsRead
-finds kind.Context bytes o has octets read = subst (Finds kind.Context bytes) (sym read) (context_finds bytes (context_at bytes) octets refl)
-finds kind.Bundles bytes o has octets read = subst (Finds kind.Bundles bytes) (sym read) (bundles_find bytes (bundles_at bytes) octets refl)
-finds kind.JwtSvids bytes o has octets read = subst (Finds kind.JwtSvids bytes) (sym read) (jwt_svids_find bytes (jwt_svids_at bytes) octets refl)
-finds kind.JwtBundles bytes o has octets read = subst (Finds kind.JwtBundles bytes) (sym read) (jwt_bundles_find bytes (bundles_at bytes) octets refl)
-finds kind.Validation bytes o has octets read = absurd has
+finds kind.Context bytes o octets read = subst (Finds kind.Context bytes) (sym read) (context_finds bytes (context_at bytes) octets refl)
+finds kind.Bundles bytes o octets read = subst (Finds kind.Bundles bytes) (sym read) (bundles_find bytes (bundles_at bytes) octets refl)
+finds kind.JwtSvids bytes o octets read = subst (Finds kind.JwtSvids bytes) (sym read) (jwt_svids_find bytes (jwt_svids_at bytes) octets refl)
+finds kind.JwtBundles bytes o octets read = subst (Finds kind.JwtBundles bytes) (sym read) (jwt_bundles_find bytes (bundles_at bytes) octets refl)
+finds kind.Validation bytes o octets read = subst (Finds kind.Validation bytes) (sym read) (validation_finds bytes (validation_at bytes) octets refl)
 
 -- there is one reading of the octets
 pub one_reading : (k : ResponseKind) (bytes : List ℕ) (r s : Response) → Payload k bytes r → Payload k bytes s → r ≡ s
@@ -154,12 +207,12 @@ one_reading kind.Context bytes r s first second = some_is r s (laid_is_read kind
 one_reading kind.Bundles bytes r s first second = some_is r s (laid_is_read kind.Bundles bytes r first ∙ sym (laid_is_read kind.Bundles bytes s second))
 one_reading kind.JwtSvids bytes r s first second = some_is r s (laid_is_read kind.JwtSvids bytes r first ∙ sym (laid_is_read kind.JwtSvids bytes s second))
 one_reading kind.JwtBundles bytes r s first second = some_is r s (laid_is_read kind.JwtBundles bytes r first ∙ sym (laid_is_read kind.JwtBundles bytes s second))
-one_reading kind.Validation bytes r s first second = absurd first
+one_reading kind.Validation bytes r s first second = some_is r s (laid_is_read kind.Validation bytes r first ∙ sym (laid_is_read kind.Validation bytes s second))
 
 -- the same where the answer is not want of memory
 pub finds_ok : {E : Type 0} (k : ResponseKind) (bytes : List ℕ) (answer : Result (Option Response) E) → IsBytes bytes → IfOk answer (λ o. IsRead k bytes o)
-    → IfOk answer (λ o. HasLayout k → Finds k bytes o)
-finds_ok k bytes (Ok o) octets read = λ has. finds k bytes o has octets read
+    → IfOk answer (λ o. Finds k bytes o)
+finds_ok k bytes (Ok o) octets read = finds k bytes o octets read
 finds_ok k bytes (Err e) octets read = tt
 
 pub context_finds_ok : {E : Type 0} (bytes : List ℕ) (answer : Result (Option ContextView) E) → IsBytes bytes → IfOk answer (λ o. option_map context_of o ≡ context_at bytes)
@@ -174,6 +227,7 @@ one_writing kind.Context a b (response.Context r) first second = first.octets �
 one_writing kind.Bundles a b (response.Bundles r) first second = first.octets ∙ sym second.octets
 one_writing kind.JwtSvids a b (response.JwtSvids r) first second = first.octets ∙ sym second.octets
 one_writing kind.JwtBundles a b (response.JwtBundles r) first second = first.octets ∙ sym second.octets
+one_writing kind.Validation a b (response.Validation r) first second = first.octets ∙ sym second.octets
 one_writing _ a b _ first second = absurd first
 
 -- what was laid out is found
@@ -183,4 +237,4 @@ written_is_found kind.Context bytes r found laid read = read ∙ sym (laid_is_re
 written_is_found kind.Bundles bytes r found laid read = read ∙ sym (laid_is_read kind.Bundles bytes r laid)
 written_is_found kind.JwtSvids bytes r found laid read = read ∙ sym (laid_is_read kind.JwtSvids bytes r laid)
 written_is_found kind.JwtBundles bytes r found laid read = read ∙ sym (laid_is_read kind.JwtBundles bytes r laid)
-written_is_found kind.Validation bytes r found laid read = absurd laid
+written_is_found kind.Validation bytes r found laid read = read ∙ sym (laid_is_read kind.Validation bytes r laid)

@@ -17,9 +17,9 @@ use Rattle.spf_api.specs.declared.status.TransportError.TheVariants as transport
 use Rattle.spf_api.specs.Errors.{status_reading}
 use Rattle.spf_api.specs.Layout.{field_text, list_text, svid_entry_text, context_payload, IsSvidEntry, IsBundleEntry, HasLength32, IsContext}
 use Rattle.spf_api.specs.Parsed.{required, bundle_required, fields_required, entries_rule, hint_rule, svids_and_bundles_of, parsed_of, bundle_set_of}
-use Rattle.spf_api.specs.Payload.{Payload}
+use Rattle.spf_api.specs.Payload.{IsRead, Payload}
 use Rattle.spf_api.proofs.Spelled.{chosen}
-use Rattle.spf_api.specs.Reading.{number_at, byte_field_at, text_field_at, svid_entry_at, bundle_entry_at, context_at, IsRead}
+use Rattle.spf_api.specs.Reading.{number_at, byte_field_at, text_field_at, svid_entry_at, bundle_entry_at, context_at}
 use Rattle.spf_api.proofs.Payloads.{laid_is_read, none_laid}
 
 -- a digit of a text in hexadecimal
@@ -126,7 +126,7 @@ far_count = refl
 
 far_count_lays : (r : Response) → ¬ (Payload kind.Context (octets (codes "ffffffff")) r)
 unfolding IsRead
-far_count_lays = none_laid kind.Context (octets (codes "ffffffff")) tt (sym (ap (option_map response.Context) far_count))
+far_count_lays = none_laid kind.Context (octets (codes "ffffffff")) (sym (ap (option_map response.Context) far_count))
 
 -- the response rule
 no_svids : parsed_of (context1 []) ≡ Err (api.MissingRequiredField (codes "X509SVIDResponse.svids"))

@@ -1,3 +1,4 @@
+pub mod Claims
 pub mod Errors
 pub mod Layout
 pub mod Parsed

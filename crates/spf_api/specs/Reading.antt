@@ -4,13 +4,8 @@ use Rattle.std.specs.Int.{w32, from_be_bytes}
 use Rattle.std.specs.Str.{is_utf8}
 use Rattle.spf_api.specs.declared.response.SvidEntry.{SvidEntry}
 use Rattle.spf_api.specs.declared.response.BundleEntry.{BundleEntry}
-use Rattle.std.specs.Option.{option_map}
 use Rattle.spf_api.specs.declared.response.ContextResponse.{ContextResponse}
 use Rattle.spf_api.specs.declared.response.JwtSvidEntry.{JwtSvidEntry}
-use Rattle.spf_api.specs.declared.response.Response.{Response}
-use Rattle.spf_api.specs.declared.response.Response.TheVariants as response
-use Rattle.spf_api.specs.declared.response.ResponseKind.{ResponseKind}
-use Rattle.spf_api.specs.declared.response.ResponseKind.TheVariants as kind
 
 infixl 10 ◌>>=◌
 abbrev pub ◌>>=◌ : {A B : Type 0} → Option A → (A → Option B) → Option B
@@ -84,11 +79,3 @@ unfoldable pub jwt_svids_at : List ℕ → Option (List JwtSvidEntry)
 jwt_svids_at bytes = do
   t ← list_at jwt_svid_entry_at bytes
   if length t.1 == 0 then Some t.0 else None
-
--- What reading a payload of that kind gives. Of validations nothing is said.
-unfoldable pub IsRead : ResponseKind → List ℕ → Option Response → Type 0
-IsRead kind.Context bytes found = found ≡ option_map response.Context (context_at bytes)
-IsRead kind.Bundles bytes found = found ≡ option_map (λ l. response.Bundles (record { bundles = l })) (bundles_at bytes)
-IsRead kind.JwtSvids bytes found = found ≡ option_map (λ l. response.JwtSvids (record { svids = l })) (jwt_svids_at bytes)
-IsRead kind.JwtBundles bytes found = found ≡ option_map (λ l. response.JwtBundles (record { bundles = l })) (bundles_at bytes)
-IsRead kind.Validation bytes found = Unit {0}

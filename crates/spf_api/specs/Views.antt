@@ -1,10 +1,10 @@
 -- The entries and responses that views hold.
 use Rattle.std.specs.Prelude.{ℕ, List, map}
 use Rattle.std.specs.Borrow.{Bor}
-use Rattle.std.specs.List.{All}
-use Rattle.std.specs.Str.{IsUtf8}
 use Rattle.spf_api.specs.declared.response.SvidEntry.{SvidEntry}
 use Rattle.spf_api.specs.declared.response.BundleEntry.{BundleEntry}
+use Rattle.spf_api.specs.declared.response.JwtSvidEntry.{JwtSvidEntry}
+use Rattle.spf_api.specs.declared.payload_jwt.JwtSvidEntryView.{JwtSvidEntryView}
 use Rattle.spf_api.specs.declared.response.ContextResponse.{ContextResponse}
 use Rattle.spf_api.specs.declared.response.SvidEntryView.{SvidEntryView}
 use Rattle.spf_api.specs.declared.response.BundleEntryView.{BundleEntryView}
@@ -22,15 +22,5 @@ octets_of b = b.now
 abbrev pub context_of : ContextView → ContextResponse
 context_of v = record { svids = map svid_entry_of v.svids; federated = map bundle_entry_of v.federated; crls = map octets_of v.crls }
 
--- the texts of an entry are UTF-8
-pub record HasTexts (v : SvidEntryView) : Type 0 where
-  pub spiffe_id : IsUtf8 v.spiffe_id.now
-  pub hint : IsUtf8 v.hint.now
-
-abbrev pub IsNamed : BundleEntryView → Type 0
-IsNamed v = IsUtf8 v.name.now
-
--- the texts of a response are UTF-8
-pub record IsTextual (v : ContextView) : Type 0 where
-  pub svids : All HasTexts v.svids
-  pub federated : All IsNamed v.federated
+abbrev pub jwt_svid_entry_of : JwtSvidEntryView → JwtSvidEntry
+jwt_svid_entry_of v = record { spiffe_id = v.spiffe_id.now; svid = v.svid.now; hint = v.hint.now }

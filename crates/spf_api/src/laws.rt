@@ -5,8 +5,7 @@ ghost use Rattle.spf_x509.specs.Bundle.{Bundle, find_entry, with_bundles};
 ghost use Rattle.spf_api.specs.declared.response.Response.{Response};
 ghost use Rattle.spf_api.specs.declared.response.ResponseKind.{ResponseKind};
 ghost use Rattle.spf_api.specs.Parsed.{last_for};
-ghost use Rattle.spf_api.specs.Payload.{kind_of, HasLayout, Payload};
-ghost use Rattle.spf_api.specs.Reading.{IsRead};
+ghost use Rattle.spf_api.specs.Payload.{kind_of, Payload, IsRead};
 
 /// What `write_payload` lays out is what `read_payload` finds.
 pub fn written_is_read()

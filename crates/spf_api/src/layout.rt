@@ -1,13 +1,13 @@
 //! How numbers, byte fields and text fields lie in a payload: each is read as the value and what follows it.
 
-ghost use Rattle.std.specs.Prelude.{◌≡◌, ◌<◌, ◌^◌, ◌++◌, length, OnOk, IfSome};
+ghost use Rattle.std.specs.Prelude.{◌≡◌, ◌<◌, ◌^◌, ◌++◌, length, IfOk, OnOk};
 ghost use Rattle.std.specs.Int.{w32, to_be_bytes};
 ghost use Rattle.std.specs.Option.{option_map};
-ghost use Rattle.std.specs.Str.{IsUtf8};
 ghost use Rattle.spf_api.specs.Layout.{HasLength32, IsText, field_text};
 ghost use Rattle.spf_api.specs.Reading.{number_at, byte_field_at, text_field_at};
 
 use spf_io::{OutOfMemory, Text};
+use std::alloc::Global;
 
 /// Four octets, big-endian: a length or a count.
 #[tactic(auto, unfolding(crate::specs::Reading::number_at))]
@@ -20,9 +20,10 @@ pub(crate) fn number(bytes: &[u8]) -> Option<(usize, &[u8])>
     }
 }
 
-/// A length and that many octets.
+/// Returns the byte field at the start of the bytes, which is a length of four octets and that many octets, and what follows
+/// it.
 #[tactic(auto, unfolding(crate::specs::Reading::byte_field_at))]
-pub(crate) fn byte_field(bytes: &[u8]) -> Option<(&[u8], &[u8])>
+pub fn read_byte_field(bytes: &[u8]) -> Option<(&[u8], &[u8])>
     ensures { option_map (λ x. (x.0.now, x.1.now)) result ≡ byte_field_at bytes.now }
 {
     let (length, rest) = number(bytes)?;
@@ -32,20 +33,29 @@ pub(crate) fn byte_field(bytes: &[u8]) -> Option<(&[u8], &[u8])>
     Some(rest.split_at(length))
 }
 
-/// A byte field in UTF-8.
+/// Returns the text field at the start of the bytes, which is a byte field in UTF-8, and what follows it.
 #[tactic(auto, unfolding(crate::specs::Reading::text_field_at))]
-pub(crate) fn text_field(bytes: &[u8]) -> Option<(&[u8], &[u8])>
-    ensures exact { option_map (λ x. (x.0.now, x.1.now)) result ≡ text_field_at bytes.now }
-    ensures utf8 { IfSome result (λ x. IsUtf8 x.0.now) }
+pub fn read_text_field(bytes: &[u8]) -> Option<(&str, &[u8])>
+    ensures { option_map (λ x. (x.0.now, x.1.now)) result ≡ text_field_at bytes.now }
 {
-    let (text, rest) = byte_field(bytes)?;
+    let (text, rest) = read_byte_field(bytes)?;
     match str::from_utf8(text) {
-        Ok(_) => Some((text, rest)),
+        Ok(text) => Some((text, rest)),
         Err(_) => None,
     }
 }
 
-/// A length or a count. One of more than four octets counts as want of memory.
+/// A copy of a text field.
+pub(crate) fn owned_text(alloc: Global, bytes: &[u8]) -> Result<Option<(Text, &[u8])>, OutOfMemory>
+    ensures { IfOk result (λ o. option_map (λ x. (x.0, x.1.now)) o ≡ text_field_at bytes.now) }
+{
+    let Some((text, rest)) = read_text_field(bytes) else {
+        return Ok(None);
+    };
+    Ok(Some((Text::copy_of(alloc, text)?, rest)))
+}
+
+/// A length or a count. One of more than four octets counts as out of memory.
 pub(crate) fn put_number(out: &mut Vec<u8>, number: usize) -> Result<(), OutOfMemory>
     ensures short { OnOk result (number < 2 ^ 32) }
     ensures octets { OnOk result (out.new.items ≡ out.old.items ++ to_be_bytes w32 number) }

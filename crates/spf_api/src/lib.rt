@@ -2,24 +2,27 @@
 #![tactic(auto)]
 
 mod endpoint_error;
+mod entry;
 mod error;
 mod jwt_error;
-mod laws;
+pub mod laws;
 mod layout;
 mod link;
-mod owned;
 mod payload;
 mod payload_jwt;
+mod payload_validation;
 mod payload_view;
 mod payload_writer;
 mod response;
 mod response_rule;
+mod sharing;
 mod status;
 mod views;
 
 pub use endpoint_error::{EndpointError, EndpointParseError};
 pub use error::WorkloadApiError;
 pub use jwt_error::{JsonError, JsonErrorKind, JwtBundleError, JwtSvidError};
+pub use layout::{read_byte_field, read_text_field};
 pub use link::{ClientFault, LinkFault};
 pub use payload::{read_payload, write_payload};
 pub use payload_view::read_context_view;
@@ -28,8 +31,8 @@ pub use response::{
     JwtSvidEntry, JwtSvidsResponse, Response, ResponseKind, SvidEntry, SvidEntryView,
     ValidationResponse,
 };
-pub use response_rule::{bundle_set_from, context_from, context_from_view, svid_from, svids_from};
+pub use response_rule::{
+    bundle_set_from, context_from, context_from_view, context_from_view_sharing, svid_from,
+    svids_from,
+};
 pub use status::{GrpcStatusCode, GrpcStatusError, TransportConnectError, TransportError};
-
-#[cfg(test)]
-mod tests;

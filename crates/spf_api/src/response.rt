@@ -91,24 +91,24 @@ pub struct ValidationResponse {
     pub claims: Option<List<Claim>>,
 }
 
-/// An SVID entry, as slices of what was read.
+/// An SVID entry, whose fields are slices of the payload that was read.
 #[derive(Clone, Copy, Debug, PartialEq, Eq)]
 pub struct SvidEntryView<'a> {
-    pub spiffe_id: &'a [u8],
+    pub spiffe_id: &'a str,
     pub x509_svid: &'a [u8],
     pub x509_svid_key: &'a [u8],
     pub bundle: &'a [u8],
-    pub hint: &'a [u8],
+    pub hint: &'a str,
 }
 
-/// A bundle entry, as slices of what was read.
+/// A bundle entry, whose fields are slices of the payload that was read.
 #[derive(Clone, Copy, Debug, PartialEq, Eq)]
 pub struct BundleEntryView<'a> {
-    pub name: &'a [u8],
+    pub name: &'a str,
     pub bundle: &'a [u8],
 }
 
-/// A context response, as slices of what was read.
+/// A context response, whose fields are slices of the payload that was read.
 #[derive(Debug, PartialEq, Eq, Drop)]
 pub struct ContextView<'a> {
     pub svids: List<SvidEntryView<'a>>,

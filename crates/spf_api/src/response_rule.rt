@@ -1,21 +1,21 @@
 //! What a response means: its SVIDs, bundles and CRLs, or the first rule that it breaks.
 
-ghost use Rattle.std.specs.Prelude.{◌≡◌, map, All, IfOk, MatchBool};
+ghost use Rattle.std.specs.Prelude.{◌≡◌, map, MatchBool};
 ghost use Rattle.std.specs.Arc.{arc_value};
-ghost use Rattle.std.specs.Str.{IsUtf8};
 ghost use Rattle.spf_io.specs.Rule.{Gives, each};
 ghost use Rattle.spf_x509.specs.Bundle.{with_bundles};
 ghost use Rattle.spf_api.specs.Errors.{is_memory_api};
-ghost use Rattle.spf_api.specs.Views.{svid_entry_of, bundle_entry_of, context_of, HasTexts, IsNamed, IsTextual};
-ghost use Rattle.spf_api.specs.Parsed.{required, bundle_required, fields_required, kept_by_each, entries_rule, hint_rule};
+ghost use Rattle.spf_api.specs.Views.{svid_entry_of, bundle_entry_of, context_of};
+ghost use Rattle.spf_api.specs.Parsed.{required, bundle_required, fields_required, kept_by_each, entries_rule};
 ghost use Rattle.spf_api.specs.Parsed.{svid_and_bundle_of, named_bundle_of, svids_in, brought_to, read_as, parsed_of, svids_of, first_svid_of, bundle_set_of};
 
+use crate::entry::{to_entries, views_of};
 use crate::error::WorkloadApiError;
-use crate::owned::{byte_fields, text};
 use crate::response::{
     BundleEntryView, BundlesResponse, ContextResponse, ContextView, SvidEntry, SvidEntryView,
 };
-use crate::views;
+use crate::sharing::{parse_bundle, parse_svid, shared_bundle, shared_svid};
+use crate::views::context_view;
 use spf_id::TrustDomain;
 use spf_io::{OutOfMemory, Text};
 use spf_x509::{X509Bundle, X509BundleSet, X509Context, X509Svid};
@@ -61,7 +61,7 @@ fn check_bundles(alloc: Global, entries: &[SvidEntryView<'_>]) -> Result<(), Wor
 fn check_fields(alloc: Global, entry: &SvidEntryView<'_>) -> Result<(), WorkloadApiError>
     ensures { Gives is_memory_api (λ _. tt) result (fields_required (svid_entry_of entry.now)) }
 {
-    require(alloc, entry.spiffe_id, "X509SVID.spiffe_id")?;
+    require(alloc, entry.spiffe_id.as_bytes(), "X509SVID.spiffe_id")?;
     require(alloc, entry.x509_svid, "X509SVID.x509_svid")?;
     require(alloc, entry.x509_svid_key, "X509SVID.x509_svid_key")
 }
@@ -87,56 +87,36 @@ fn check_entries(alloc: Global, entries: &[SvidEntryView<'_>]) -> Result<(), Wor
     check_all_fields(alloc, entries)
 }
 
-/// The hint of an entry, of which an empty one is none.
-fn hint_of(alloc: Global, hint: &[u8]) -> Result<Option<Text>, OutOfMemory>
-    requires { IsUtf8 hint.now }
-    ensures { IfOk result (λ h. h ≡ hint_rule hint.now) }
-{
-    if hint.is_empty() {
-        return Ok(None);
-    }
-    Ok(Some(text(alloc, hint)?))
+/// The SVID of the held context at that index.
+fn held_svid(held: Option<&X509Context>, index: usize) -> Option<&Arc<X509Svid>> {
+    held?.svids().get(index)
+}
+
+fn held_bundles(held: Option<&X509Context>) -> Option<&X509BundleSet> {
+    Some(held?.bundle_set())
 }
 
 /// The SVID of an entry, and the bundle of its trust domain.
-#[tactic(auto, unfolding(crate::specs::Parsed::svid_and_bundle_of, crate::specs::Parsed::svid_of_entry, crate::specs::Parsed::bundle_for))]
-fn material(
+#[tactic(auto, unfolding(crate::specs::Parsed::svid_and_bundle_of))]
+fn shared_material(
     alloc: Global,
     entry: &SvidEntryView<'_>,
-) -> Result<(X509Svid, X509Bundle), WorkloadApiError>
-    requires { HasTexts entry.now }
-    ensures { Gives is_memory_api (λ m. (m.0, m.1)) result (svid_and_bundle_of (svid_entry_of entry.now)) }
+    index: usize,
+    bundles: &X509BundleSet,
+    held: Option<&X509Context>,
+) -> Result<(Arc<X509Svid>, Arc<X509Bundle>), WorkloadApiError>
+    ensures { Gives is_memory_api (λ m. (arc_value m.0, arc_value m.1)) result (svid_and_bundle_of (svid_entry_of entry.now)) }
 {
-    let hint = hint_of(alloc, entry.hint)?;
-    let svid = X509Svid::parse_from_der_with_hint(
+    let svid = shared_svid(alloc, entry, held_svid(held, index))?;
+    let trust_domain = svid.spiffe_id().trust_domain();
+    let bundle = shared_bundle(
         alloc,
-        entry.x509_svid,
-        entry.x509_svid_key,
-        hint,
+        trust_domain,
+        entry.bundle,
+        bundles,
+        held_bundles(held),
     )?;
-    let trust_domain = svid.spiffe_id().trust_domain().try_clone(alloc)?;
-    let bundle = X509Bundle::parse_from_der(alloc, trust_domain, entry.bundle)?;
     Ok((svid, bundle))
-}
-
-/// The bundle that stands under that name.
-#[tactic(auto, unfolding(crate::specs::Parsed::named_bundle_of, crate::specs::Parsed::bundle_for))]
-fn named_bundle(alloc: Global, name: &str, bundle: &[u8]) -> Result<X509Bundle, WorkloadApiError>
-    ensures { Gives is_memory_api (λ b. b) result (named_bundle_of (record { name = name.now; bundle = bundle.now })) }
-{
-    let trust_domain = TrustDomain::new(alloc, name)?;
-    Ok(X509Bundle::parse_from_der(alloc, trust_domain, bundle)?)
-}
-
-fn federated_bundle(
-    alloc: Global,
-    entry: &BundleEntryView<'_>,
-) -> Result<X509Bundle, WorkloadApiError>
-    requires { IsNamed entry.now }
-    ensures { Gives is_memory_api (λ b. b) result (named_bundle_of (bundle_entry_of entry.now)) }
-{
-    let name = unsafe { str::from_utf8_unchecked(entry.name) };
-    named_bundle(alloc, name, entry.bundle)
 }
 
 /// The SVIDs in order. Their bundles are added to the set.
@@ -144,59 +124,104 @@ fn shared_svids(
     alloc: Global,
     entries: &[SvidEntryView<'_>],
     bundles: &mut X509BundleSet,
+    held: Option<&X509Context>,
 ) -> Result<Vec<Arc<X509Svid>>, WorkloadApiError>
-    requires { All HasTexts entries.now }
     ensures { Gives is_memory_api (λ v. (map arc_value v.items, bundles.new)) result (read_as (brought_to bundles.old) (each svid_and_bundle_of (map svid_entry_of entries.now))) }
 {
     let mut svids = Vec::new(alloc);
     for entry in entries {
-        let (svid, bundle) = material(alloc, entry)?;
-        bundles.add_bundle(bundle)?;
-        svids.push(Arc::new(alloc, svid)?)?;
+        let (svid, bundle) = shared_material(alloc, entry, svids.len(), bundles, held)?;
+        bundles.add_shared(bundle)?;
+        svids.push(svid)?;
     }
     Ok(svids)
 }
 
-fn add_federated(
+/// The bundle of the trust domain of that name.
+#[tactic(auto, unfolding(crate::specs::Parsed::named_bundle_of))]
+fn named_bundle(
+    alloc: Global,
+    entry: &BundleEntryView<'_>,
+    bundles: &X509BundleSet,
+    held: Option<&X509Context>,
+) -> Result<Arc<X509Bundle>, WorkloadApiError>
+    ensures { Gives is_memory_api arc_value result (named_bundle_of (bundle_entry_of entry.now)) }
+{
+    let trust_domain = TrustDomain::new(alloc, entry.name)?;
+    shared_bundle(
+        alloc,
+        &trust_domain,
+        entry.bundle,
+        bundles,
+        held_bundles(held),
+    )
+}
+
+fn add_named(
     alloc: Global,
     entries: &[BundleEntryView<'_>],
     bundles: &mut X509BundleSet,
+    held: Option<&X509Context>,
 ) -> Result<(), WorkloadApiError>
-    requires { All IsNamed entries.now }
     ensures { Gives is_memory_api (λ _. bundles.new) result (read_as (with_bundles bundles.old) (each named_bundle_of (map bundle_entry_of entries.now))) }
 {
     for entry in entries {
-        let bundle = federated_bundle(alloc, entry)?;
-        bundles.add_bundle(bundle)?;
+        let bundle = named_bundle(alloc, entry, bundles, held)?;
+        bundles.add_shared(bundle)?;
     }
     Ok(())
 }
 
-/// The context of the response that the view holds. A later bundle of a trust domain replaces an earlier one. Each
-/// certificate is copied once.
+/// Returns the context of the response that the view holds, where a later bundle of a trust domain replaces an earlier
+/// one. What `held` holds of the same bytes, SVIDs at the same index and bundles of the same trust domain, is shared with it
+/// and not read again: the result is the same with any context or none.
 #[tactic(auto, unfolding(crate::specs::Parsed::parsed_of, crate::specs::Parsed::svids_and_bundles_of))]
-pub fn context_from_view(
+pub fn context_from_view_sharing(
     alloc: Global,
     view: &ContextView<'_>,
+    held: Option<&X509Context>,
 ) -> Result<X509Context, WorkloadApiError>
-    requires { IsTextual view.now }
     ensures { Gives is_memory_api (λ c. c) result (parsed_of (context_of view.now)) }
 {
     let entries = view.svids.as_slice();
     check_entries(alloc, entries)?;
     let mut bundles = X509BundleSet::new(alloc);
-    let svids = shared_svids(alloc, entries, &mut bundles)?;
-    add_federated(alloc, view.federated.as_slice(), &mut bundles)?;
-    let crls = byte_fields(alloc, view.crls.as_slice())?;
-    Ok(X509Context::new(svids, Arc::new(alloc, bundles)?, crls))
+    let svids = shared_svids(alloc, entries, &mut bundles, held)?;
+    add_named(alloc, view.federated.as_slice(), &mut bundles, held)?;
+    let crls = to_entries(alloc, view.crls.as_slice())?;
+    Ok(X509Context::new(svids, Arc::new(alloc, bundles)?, crls.into_vec()))
 }
 
-/// The context of the response.
+/// Returns the context of the response that the view holds, where a later bundle of a trust domain replaces an earlier
+/// one.
+pub fn context_from_view(
+    alloc: Global,
+    view: &ContextView<'_>,
+) -> Result<X509Context, WorkloadApiError>
+    ensures { Gives is_memory_api (λ c. c) result (parsed_of (context_of view.now)) }
+{
+    context_from_view_sharing(alloc, view, None)
+}
+
+/// Returns the context of the response.
 pub fn context_from(alloc: Global, r: &ContextResponse) -> Result<X509Context, WorkloadApiError>
     ensures { Gives is_memory_api (λ c. c) result (parsed_of r.now) }
 {
-    let view = views::context(alloc, r)?;
+    let view = context_view(alloc, r)?;
     context_from_view(alloc, &view)
+}
+
+/// The SVID of an entry, where the bundle of its trust domain can be read too.
+#[tactic(auto, unfolding(crate::specs::Parsed::svid_and_bundle_of))]
+fn material(
+    alloc: Global,
+    entry: &SvidEntryView<'_>,
+) -> Result<(X509Svid, X509Bundle), WorkloadApiError>
+    ensures { Gives is_memory_api (λ m. (m.0, m.1)) result (svid_and_bundle_of (svid_entry_of entry.now)) }
+{
+    let svid = parse_svid(alloc, entry)?;
+    let bundle = parse_bundle(alloc, svid.spiffe_id().trust_domain(), entry.bundle)?;
+    Ok((svid, bundle))
 }
 
 /// The SVIDs in order. Their bundles are read, and not kept.
@@ -204,7 +229,6 @@ fn owned_svids(
     alloc: Global,
     entries: &[SvidEntryView<'_>],
 ) -> Result<Vec<X509Svid>, WorkloadApiError>
-    requires { All HasTexts entries.now }
     ensures { Gives is_memory_api (λ v. v.items) result (read_as svids_in (each svid_and_bundle_of (map svid_entry_of entries.now))) }
 {
     let mut svids = Vec::new(alloc);
@@ -220,7 +244,7 @@ fn owned_svids(
 pub fn svids_from(alloc: Global, r: &ContextResponse) -> Result<Vec<X509Svid>, WorkloadApiError>
     ensures { Gives is_memory_api (λ v. v.items) result (svids_of r.now) }
 {
-    let entries = views::svid_entries(alloc, r.svids.as_slice())?;
+    let entries = views_of::<SvidEntryView<'_>>(alloc, r.svids.as_slice())?;
     check_entries(alloc, entries.as_slice())?;
     owned_svids(alloc, entries.as_slice())
 }
@@ -245,14 +269,11 @@ pub fn bundle_set_from(
 ) -> Result<X509BundleSet, WorkloadApiError>
     ensures { Gives is_memory_api (λ b. b) result (bundle_set_of r.now) }
 {
-    let entries = r.bundles.as_slice();
-    if entries.is_empty() {
+    if r.bundles.as_slice().is_empty() {
         return Err(missing(alloc, "X509BundlesResponse.bundles"));
     }
+    let entries = views_of::<BundleEntryView<'_>>(alloc, r.bundles.as_slice())?;
     let mut bundles = X509BundleSet::new(alloc);
-    for entry in entries {
-        let bundle = named_bundle(alloc, entry.name.as_str(), entry.bundle.as_slice())?;
-        bundles.add_bundle(bundle)?;
-    }
+    add_named(alloc, entries.as_slice(), &mut bundles, None)?;
     Ok(bundles)
 }

@@ -22,12 +22,11 @@ loop-entry-preserved c =
     let i = c.loop-entry.entry-index in
     let x = get_or xs i no_entry in
     let svids : List (Arc Svid Global) = c.loop-entry.svids.items in
-    let pushed : map arc_value c.push.new.self.items ≡ map arc_value svids ++ c.in_ok-svid.svid ∷ [] =
-    ap (map arc_value) c.in_ok-push.ensures.items ∙ map_push arc_value svids c.in_ok-new.field-0
-    ∙ ap (λ (s : Svid). map arc_value svids ++ s ∷ []) c.in_ok-new.ensures.ok in
+    let pushed : map arc_value c.push.new.self.items ≡ map arc_value svids ++ arc_value c.in_ok-svid.svid ∷ [] =
+    ap (map arc_value) c.in_ok-push.ensures.items ∙ map_push arc_value svids c.in_ok-svid.svid in
     rw pushed
-    (placed_more (λ v. svid_and_bundle_of (svid_entry_of v)) xs i x (map arc_value svids) c.args.bundles.now c.loop-entry.bundles c.add_bundle.new.self (c.in_ok-svid.svid, c.in_ok-svid.bundle)
-    c.loop-entry.invariant c.loop-entry-test.true (get_or_same xs i no_entry x c.loop-entry-test.true) c.in_ok-svid.ensures c.in_ok-add_bundle.ensures.ok)
+    (placed_more (λ v. svid_and_bundle_of (svid_entry_of v)) xs i x (map arc_value svids) c.args.bundles.now c.loop-entry.bundles c.add_shared.new.self (arc_value c.in_ok-svid.svid, arc_value c.in_ok-svid.bundle)
+    c.loop-entry.invariant c.loop-entry-test.true (get_or_same xs i no_entry x c.loop-entry-test.true) c.in_ok-svid.ensures c.in_ok-add_shared.ensures.ok)
 
 pub returns-in_err-svid : goal.returns-in_err-svid
 returns-in_err-svid c =

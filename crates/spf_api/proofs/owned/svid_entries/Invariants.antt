@@ -1,6 +1,0 @@
-use Rattle.std.proofs.Common.{◌≡◌, map, take}
-use Rattle.spf_api.specs.Views.{svid_entry_of}
-use Rattle.spf_api.proofs.owned.svid_entries.Given as goal
-
-abbrev pub invariant-loop-view : goal.invariant-loop-view
-invariant-loop-view l = l.entries.items ≡ map svid_entry_of (take l.view-index l.views)

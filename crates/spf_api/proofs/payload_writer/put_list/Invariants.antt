@@ -1,0 +1,6 @@
+use Rattle.std.proofs.Common.{take}
+use Rattle.spf_api.proofs.Laid.{Laid}
+use Rattle.spf_api.proofs.payload_writer.put_list.Given as goal
+
+abbrev pub invariant-loop-entry : goal.invariant-loop-entry
+invariant-loop-entry g l = Laid g.E.Laid.text g.E.Laid.may_be_laid l.initial.out.items l.out.items (take l.entry-index l.entries)

@@ -1,0 +1,125 @@
+//! The SVIDs and bundles of entries. What was read before from the same bytes is shared, and not read again.
+
+ghost use Rattle.std.specs.Prelude.{◌≡◌, IfOk, IfSome, IsTrue, Ok};
+ghost use Rattle.std.specs.Arc.{arc_value};
+ghost use Rattle.std.specs.Option.{option_map};
+ghost use Rattle.spf_io.specs.Rule.{Gives};
+ghost use Rattle.spf_x509.specs.BundleRule.{bundle_of};
+ghost use Rattle.spf_x509.specs.Chain.{authorities_rule};
+ghost use Rattle.spf_api.specs.Errors.{is_memory_api};
+ghost use Rattle.spf_api.specs.Views.{svid_entry_of};
+ghost use Rattle.spf_api.specs.Parsed.{hint_rule, svid_of_entry, bundle_for};
+
+use crate::error::WorkloadApiError;
+use crate::response::SvidEntryView;
+use spf_id::TrustDomain;
+use spf_io::{OutOfMemory, Text};
+use spf_x509::{X509Bundle, X509BundleSet, X509Svid};
+use std::alloc::Global;
+use std::sync::Arc;
+
+/// The hint of an entry, of which an empty one is none.
+fn hint_of(hint: &str) -> Option<&str>
+    ensures { option_map (λ t. t.now) result ≡ hint_rule hint.now }
+{
+    if hint.is_empty() { None } else { Some(hint) }
+}
+
+fn owned_hint(alloc: Global, hint: Option<&str>) -> Result<Option<Text>, OutOfMemory>
+    ensures { IfOk result (λ h. h ≡ option_map (λ t. t.now) hint.entry) }
+{
+    match hint {
+        Some(hint) => Ok(Some(Text::copy_of(alloc, hint)?)),
+        None => Ok(None),
+    }
+}
+
+/// Reads the SVID of an entry.
+#[tactic(auto, unfolding(crate::specs::Parsed::svid_of_entry))]
+pub(crate) fn parse_svid(
+    alloc: Global,
+    entry: &SvidEntryView<'_>,
+) -> Result<X509Svid, WorkloadApiError>
+    ensures { Gives is_memory_api (λ s. s) result (svid_of_entry (svid_entry_of entry.now)) }
+{
+    let hint = owned_hint(alloc, hint_of(entry.hint))?;
+    Ok(X509Svid::parse_from_der_with_hint(alloc, entry.x509_svid, entry.x509_svid_key, hint)?)
+}
+
+/// Whether the SVID was read from the bytes of the entry.
+#[tactic(auto, unfolding(crate::specs::Parsed::svid_of_entry))]
+fn is_svid_of(svid: &X509Svid, entry: &SvidEntryView<'_>) -> bool
+    ensures { IsTrue result → svid_of_entry (svid_entry_of entry.now) ≡ Ok svid.now }
+{
+    svid.is_parsed_from(entry.x509_svid, entry.x509_svid_key, hint_of(entry.hint))
+}
+
+/// Returns the SVID of an entry, which is `held` where that was read from the same bytes.
+pub(crate) fn shared_svid(
+    alloc: Global,
+    entry: &SvidEntryView<'_>,
+    held: Option<&Arc<X509Svid>>,
+) -> Result<Arc<X509Svid>, WorkloadApiError>
+    ensures { Gives is_memory_api arc_value result (svid_of_entry (svid_entry_of entry.now)) }
+{
+    if let Some(held) = held {
+        if is_svid_of(held, entry) {
+            return Ok(Arc::try_clone(held)?);
+        }
+    }
+    let svid = parse_svid(alloc, entry)?;
+    Ok(Arc::new(alloc, svid)?)
+}
+
+/// Reads the bundle of a trust domain.
+#[tactic(auto, unfolding(crate::specs::Parsed::bundle_for))]
+pub(crate) fn parse_bundle(
+    alloc: Global,
+    trust_domain: &TrustDomain,
+    der: &[u8],
+) -> Result<X509Bundle, WorkloadApiError>
+    ensures { Gives is_memory_api (λ b. b) result (bundle_for trust_domain.now der.now) }
+{
+    let trust_domain = trust_domain.try_clone(alloc)?;
+    Ok(X509Bundle::parse_from_der(alloc, trust_domain, der)?)
+}
+
+/// Returns the set's bundle of the trust domain, where it was read from these bytes.
+fn share_of(
+    set: &X509BundleSet,
+    trust_domain: &TrustDomain,
+    der: &[u8],
+) -> Result<Option<Arc<X509Bundle>>, OutOfMemory>
+    ensures { IfOk result (λ o. IfSome o (λ b. bundle_of trust_domain.now (authorities_rule der.now) ≡ Ok (arc_value b))) }
+{
+    let Some(bundle) = set.get_ref(trust_domain) else {
+        return Ok(None);
+    };
+    if !bundle.is_parsed_from(trust_domain, der) {
+        return Ok(None);
+    }
+    Ok(Some(Arc::try_clone(bundle)?))
+}
+
+/// Returns the bundle of a trust domain, which is that of one of the two sets where it was read from the same bytes.
+#[tactic(auto, unfolding(crate::specs::Parsed::bundle_for))]
+pub(crate) fn shared_bundle(
+    alloc: Global,
+    trust_domain: &TrustDomain,
+    der: &[u8],
+    found: &X509BundleSet,
+    held: Option<&X509BundleSet>,
+) -> Result<Arc<X509Bundle>, WorkloadApiError>
+    ensures { Gives is_memory_api arc_value result (bundle_for trust_domain.now der.now) }
+{
+    if let Some(bundle) = share_of(found, trust_domain, der)? {
+        return Ok(bundle);
+    }
+    if let Some(held) = held {
+        if let Some(bundle) = share_of(held, trust_domain, der)? {
+            return Ok(bundle);
+        }
+    }
+    let bundle = parse_bundle(alloc, trust_domain, der)?;
+    Ok(Arc::new(alloc, bundle)?)
+}

@@ -1,4 +1,0 @@
-mod fixtures;
-mod payloads;
-mod rules;
-mod texts;

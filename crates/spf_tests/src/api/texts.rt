@@ -1,0 +1,300 @@
+//! Status codes, how a status reads, and the texts of errors.
+
+use spf_api::{
+    EndpointError, EndpointParseError, GrpcStatusCode, GrpcStatusError, JsonError, JsonErrorKind,
+    JwtBundleError, JwtSvidError, TransportConnectError, TransportError, WorkloadApiError,
+};
+use spf_id::SpiffeIdError;
+use spf_io::Text;
+use spf_x509::{X509BundleError, X509SvidError};
+use std::alloc::Global;
+use std::fmt::Display;
+use std::test::Fail;
+
+/// The codes of gRPC from 0 on, by their names.
+const CODES: [&str; 17] = [
+    "ok",
+    "cancelled",
+    "unknown",
+    "invalid_argument",
+    "deadline_exceeded",
+    "not_found",
+    "already_exists",
+    "permission_denied",
+    "resource_exhausted",
+    "failed_precondition",
+    "aborted",
+    "out_of_range",
+    "unimplemented",
+    "internal",
+    "unavailable",
+    "data_loss",
+    "unauthenticated",
+];
+
+/// The name of the code with that number, where there is one.
+fn name_of(number: u8) -> Option<&'static str> {
+    Some(GrpcStatusCode::from_number(number)?.as_str())
+}
+
+#[test]
+fn status_codes(rt: HostRuntime) {
+    for number in 0..17u8 {
+        let wanted = CODES.get(number as usize).copied();
+        assert!(rt; name_of(number) == wanted, "{number}");
+    }
+    assert!(rt; GrpcStatusCode::from_number(17).is_none());
+    assert!(rt; GrpcStatusCode::from_number(7) == Some(GrpcStatusCode::PermissionDenied));
+}
+
+/// Whether that is the text of the value.
+fn has_text<T: Display + Drop>(alloc: Global, value: T, text: &str) -> Result<bool, Fail> {
+    Ok(value.to_string(alloc)?.as_str() == text)
+}
+
+/// How a status reads.
+fn reading(alloc: Global, code: GrpcStatusCode, message: &str) -> Result<WorkloadApiError, Fail> {
+    let message = Text::copy_of(alloc, message)?;
+    Ok(WorkloadApiError::from_status(GrpcStatusError::new(code, message)))
+}
+
+/// Whether that is the text of how a status reads.
+fn reads_as(alloc: Global, code: GrpcStatusCode, message: &str, text: &str) -> Result<bool, Fail> {
+    has_text(alloc, reading(alloc, code, message)?, text)
+}
+
+/// Whether such a status reads as an invalid argument, and whether as unimplemented.
+fn kinds(alloc: Global, code: GrpcStatusCode) -> Result<(bool, bool), Fail> {
+    let error = reading(alloc, code, "")?;
+    let kinds = (error.is_invalid_argument(), error.is_unimplemented());
+    drop(error);
+    Ok(kinds)
+}
+
+const STATUSES: &[(GrpcStatusCode, &str, &str)] = &[
+    (
+        GrpcStatusCode::PermissionDenied,
+        "no",
+        "permission denied: no",
+    ),
+    (
+        GrpcStatusCode::PermissionDenied,
+        "no identity issued here",
+        "no identity issued",
+    ),
+    (
+        GrpcStatusCode::Unavailable,
+        "no identity issued",
+        "gRPC status unavailable: no identity issued",
+    ),
+];
+
+#[test]
+fn from_status(rt: HostRuntime) -> Result<(), Fail> {
+    let alloc = rt.alloc();
+    for &(code, message, text) in STATUSES {
+        assert!(rt; reads_as(alloc, code, message, text)?, "{text}");
+    }
+    Ok(())
+}
+
+const KINDS: &[(GrpcStatusCode, (bool, bool))] = &[
+    (GrpcStatusCode::InvalidArgument, (true, false)),
+    (GrpcStatusCode::Unimplemented, (false, true)),
+    (GrpcStatusCode::Unknown, (false, false)),
+];
+
+#[test]
+fn codes_of_errors(rt: HostRuntime) -> Result<(), Fail> {
+    let alloc = rt.alloc();
+    for &(code, wanted) in KINDS {
+        assert!(rt; kinds(alloc, code)? == wanted, "{}", code.as_str());
+    }
+    Ok(())
+}
+
+const API_TEXTS: [&str; 16] = [
+    "missing SPIFFE endpoint socket path (SPIFFE_ENDPOINT_SOCKET)",
+    "SPIFFE endpoint socket path is not a valid UTF-8 string",
+    "empty Workload API response",
+    "Workload API response is missing required field: T",
+    "Workload API response has invalid field: T",
+    "invalid workload api endpoint: endpoint socket URI must not include a fragment",
+    "no identity issued",
+    "permission denied: T",
+    "no JWT-SVID found with hint: T",
+    "gRPC transport connection failed: T",
+    "failed to parse X.509 SVID: no certificates found in chain",
+    "failed to parse JWT-SVID: InvalidKid",
+    "failed to parse X.509 bundle: out of memory",
+    "failed to parse JWT bundle: MissingKeys",
+    "failed to parse SPIFFE ID: DotSegment",
+    "out of memory",
+];
+
+/// The error of that row, with that text where it keeps one.
+fn api_error(row: usize, text: Text) -> WorkloadApiError {
+    match row {
+        0 => WorkloadApiError::MissingEndpointSocket,
+        1 => WorkloadApiError::NotUnicodeEndpointSocket,
+        2 => WorkloadApiError::EmptyResponse,
+        3 => WorkloadApiError::MissingRequiredField { field: text },
+        4 => WorkloadApiError::InvalidResponseField { field: text },
+        5 => WorkloadApiError::Endpoint(EndpointError::HasFragment),
+        6 => WorkloadApiError::NoIdentityIssued,
+        7 => WorkloadApiError::PermissionDenied(text),
+        8 => WorkloadApiError::HintNotFound(text),
+        9 => WorkloadApiError::Transport(TransportError::connect(text)),
+        10 => WorkloadApiError::X509Svid(X509SvidError::EmptyChain),
+        11 => WorkloadApiError::JwtSvid(JwtSvidError::InvalidKid),
+        12 => WorkloadApiError::X509Bundle(X509BundleError::OutOfMemory),
+        13 => WorkloadApiError::JwtBundle(JwtBundleError::MissingKeys),
+        14 => WorkloadApiError::SpiffeId(SpiffeIdError::DotSegment),
+        _ => WorkloadApiError::OutOfMemory,
+    }
+}
+
+const TRANSPORT_TEXTS: [&str; 5] = [
+    "unsupported endpoint transport: T",
+    "gRPC status not_found: T",
+    "gRPC status data_loss: T",
+    "gRPC transport connection failed: T",
+    "out of memory",
+];
+
+fn transport_error(row: usize, text: Text) -> TransportError {
+    match row {
+        0 => TransportError::UnsupportedEndpointTransport { scheme: text },
+        1 => TransportError::status(GrpcStatusCode::NotFound, text),
+        2 => TransportError::Status(GrpcStatusError::new(GrpcStatusCode::DataLoss, text)),
+        3 => TransportError::Connect(TransportConnectError::new(text)),
+        _ => TransportError::OutOfMemory,
+    }
+}
+
+const JWT_SVID_TEXTS: [&str; 13] = [
+    "Parts",
+    "HeaderText",
+    "HeaderFloat",
+    "UnsupportedAlg",
+    "InvalidTyp",
+    "InvalidKid",
+    "ClaimsText",
+    "ClaimsFloat",
+    "MissingClaim",
+    "InvalidSub",
+    "InvalidAud",
+    "InvalidExp",
+    "out of memory",
+];
+
+fn jwt_svid_error(row: usize, text: Text) -> JwtSvidError {
+    match row {
+        0 => JwtSvidError::Parts,
+        1 => JwtSvidError::HeaderText,
+        2 => JwtSvidError::HeaderFloat,
+        3 => JwtSvidError::UnsupportedAlg,
+        4 => JwtSvidError::InvalidTyp,
+        5 => JwtSvidError::InvalidKid,
+        6 => JwtSvidError::ClaimsText,
+        7 => JwtSvidError::ClaimsFloat,
+        8 => JwtSvidError::MissingClaim { claim: text },
+        9 => JwtSvidError::InvalidSub(SpiffeIdError::WrongScheme),
+        10 => JwtSvidError::InvalidAud,
+        11 => JwtSvidError::InvalidExp,
+        _ => JwtSvidError::OutOfMemory,
+    }
+}
+
+const JWT_BUNDLE_TEXTS: [&str; 6] = [
+    "Json",
+    "HoldsFloat",
+    "MissingKeys",
+    "NotAnObject",
+    "MissingKeyId",
+    "out of memory",
+];
+
+fn jwt_bundle_error(row: usize) -> JwtBundleError {
+    match row {
+        0 => JwtBundleError::Json(JsonError::new(JsonErrorKind::Syntax)),
+        1 => JwtBundleError::HoldsFloat,
+        2 => JwtBundleError::MissingKeys,
+        3 => JwtBundleError::NotAnObject,
+        4 => JwtBundleError::MissingKeyId,
+        _ => JwtBundleError::OutOfMemory,
+    }
+}
+
+const ENDPOINT_TEXTS: [(EndpointError, &str); 11] = [
+    (
+        EndpointError::Parse(EndpointParseError),
+        "endpoint socket is not a valid URI",
+    ),
+    (
+        EndpointError::HasUserInfo,
+        "endpoint socket URI must not include user info",
+    ),
+    (
+        EndpointError::HasQuery,
+        "endpoint socket URI must not include query values",
+    ),
+    (
+        EndpointError::HasFragment,
+        "endpoint socket URI must not include a fragment",
+    ),
+    (
+        EndpointError::UnixAuthorityNotAllowed,
+        "unix: endpoint socket URI must not include an authority",
+    ),
+    (
+        EndpointError::UnixMissingPath,
+        "unix: endpoint socket URI must include a path",
+    ),
+    (
+        EndpointError::TcpHostNotIp,
+        "tcp: endpoint socket URI host must be an IP address",
+    ),
+    (
+        EndpointError::TcpMissingPort,
+        "tcp: endpoint socket URI must include a port",
+    ),
+    (
+        EndpointError::TcpUnexpectedPath,
+        "tcp: endpoint socket URI must not include a path",
+    ),
+    (
+        EndpointError::InvalidScheme,
+        "endpoint socket URI scheme must be unix: or tcp:",
+    ),
+    (EndpointError::OutOfMemory, "out of memory"),
+];
+
+/// Whether that is the text of the error of that row of a table, which keeps the text `T`.
+fn is_row_text(alloc: Global, table: usize, row: usize, text: &str) -> Result<bool, Fail> {
+    let kept = Text::copy_of(alloc, "T")?;
+    match table {
+        0 => has_text(alloc, api_error(row, kept), text),
+        1 => has_text(alloc, transport_error(row, kept), text),
+        2 => has_text(alloc, jwt_svid_error(row, kept), text),
+        _ => has_text(alloc, jwt_bundle_error(row), text),
+    }
+}
+
+#[test]
+fn error_texts(rt: HostRuntime) -> Result<(), Fail> {
+    let alloc = rt.alloc();
+    let tables: [&[&str]; 4] = [&API_TEXTS, &TRANSPORT_TEXTS, &JWT_SVID_TEXTS, &JWT_BUNDLE_TEXTS];
+    for (table, texts) in tables.iter().enumerate() {
+        for (row, text) in texts.iter().enumerate() {
+            assert!(rt; is_row_text(alloc, table, row, text)?, "{table} {row}");
+        }
+    }
+    for (error, text) in ENDPOINT_TEXTS {
+        assert!(rt; has_text(alloc, error, text)?, "{text}");
+    }
+    assert!(rt; has_text(alloc, EndpointParseError, "invalid URI")?);
+    assert!(rt; has_text(alloc, JsonError::new(JsonErrorKind::Eof), "Eof")?);
+    assert!(rt; has_text(alloc, JsonErrorKind::Syntax, "Syntax")?);
+    Ok(())
+}
