@@ -1,0 +1,10 @@
+//! A client of the Workload API over a link of any kind: its headers and interceptors, its fetches and streams.
+#![tactic(auto)]
+
+mod headers;
+mod interceptor;
+mod metadata;
+
+pub use headers::Headers;
+pub use interceptor::{Interceptor, InterceptorFault, NoInterceptor};
+pub use metadata::MetadataAdder;

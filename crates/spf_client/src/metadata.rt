@@ -1,0 +1,41 @@
+//! The header that every request of the Workload API carries (SPIFFE Workload API section 4.1).
+
+ghost use Rattle.std.specs.Prelude.{◌≡◌};
+ghost use Rattle.spf_client.specs.Metadata.{IsAdded};
+
+use crate::headers::Headers;
+use crate::interceptor::{Interceptor, InterceptorFault};
+use spf_api::WorkloadApiError;
+
+/// The name of the header.
+const WORKLOAD_HEADER: &str = "workload.spiffe.io";
+
+/// Sets the header after another interceptor.
+#[derive(Debug, Drop)]
+pub struct MetadataAdder<I> {
+    extra: I,
+}
+
+impl<I: Interceptor> MetadataAdder<I> {
+    pub fn new(extra: I) -> MetadataAdder<I>
+        ensures { result.extra ≡ extra }
+    {
+        MetadataAdder { extra }
+    }
+
+    /// Calls the interceptor, and then sets the header to `true`. After a refusal the headers are as the interceptor left
+    /// them.
+    pub fn call(&self, headers: &mut Headers) -> Result<(), WorkloadApiError>
+        ensures { IsAdded (I.intercepts self.now.extra headers.old) headers.new result }
+    {
+        match self.extra.call(headers) {
+            Ok(()) => {}
+            Err(InterceptorFault::Status(status)) => {
+                return Err(WorkloadApiError::from_status(status));
+            }
+            Err(InterceptorFault::OutOfMemory) => return Err(WorkloadApiError::OutOfMemory),
+        }
+        headers.set(WORKLOAD_HEADER, "true")?;
+        Ok(())
+    }
+}
