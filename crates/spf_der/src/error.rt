@@ -31,8 +31,10 @@ pub struct Pkcs8DecodeError;
 /// Why no certificate was read.
 #[derive(Clone, Copy, Debug, PartialEq, Eq, Error)]
 pub enum CertReadError {
+    /// The bytes are no certificate.
     #[error("{0}")]
     Parse(X509ParseError),
+    /// Memory ran out.
     #[error("out of memory")]
     OutOfMemory,
 }

@@ -26,6 +26,3 @@ pub use extensions::{
 };
 pub use key::read_key;
 pub use writer::{CertSpec, write_certificate, write_key};
-
-#[cfg(test)]
-mod tests;

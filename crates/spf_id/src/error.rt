@@ -35,6 +35,7 @@ pub enum SpiffeIdError {
     /// The last segment of a path is empty.
     #[error("TrailingSlash")]
     TrailingSlash,
+    /// Memory ran out.
     #[error("out of memory")]
     OutOfMemory,
 }

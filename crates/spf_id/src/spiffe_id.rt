@@ -1,13 +1,11 @@
-ghost use Rattle.std.specs.Prelude.{◌≡◌, drop, length, IfOk, MatchResult};
-ghost use Rattle.std.specs.List.{before_first, slice_split};
+ghost use Rattle.std.specs.Prelude.{◌≡◌, IfOk};
 ghost use Rattle.spf_io.specs.Rule.{Gives};
-ghost use Rattle.spf_id.specs.Id.{Id, id_text};
-ghost use Rattle.spf_id.specs.Rule.{is_memory, is_slash, parts_rule, id_rule, has_spiffe_scheme};
+ghost use Rattle.spf_id.specs.Id.{id_text};
+ghost use Rattle.spf_id.specs.Rule.{is_memory, id_rule, has_spiffe_scheme};
 
 use crate::error::SpiffeIdError;
-use crate::path::check_path;
-use crate::trust_domain::{TrustDomain, check_domain};
-use memchr::memchr;
+use crate::id_parts::parts;
+use crate::trust_domain::TrustDomain;
 use spf_io::{OutOfMemory, Text};
 use std::alloc::Global;
 use std::fmt;
@@ -38,52 +36,6 @@ impl Model for SpiffeId {
     ghost use Rattle.std.proofs.Common.{sym};
 
     ghost inverse_ok = { λ a h. (λ i. record { text = sym h.text i; domain = a.domain }) };
-}
-
-/// What stands before the first slash, and the rest, which is empty or begins with it.
-fn halves(text: &str) -> (&str, &str)
-    ensures domain { result.0.now ≡ before_first is_slash text.now }
-    ensures path { result.1.now ≡ drop (length (before_first is_slash text.now)) text.now }
-{
-    match memchr(b'/', text.as_bytes()) {
-        None => (text, ""),
-        Some(at) => text.split_at(at),
-    }
-}
-
-/// The trust domain and the path in what follows the scheme, or the first broken rule.
-#[tactic(auto, using(crate::proofs::Parts::parts_by_halves))]
-fn parts_after_scheme(rest: &str) -> Result<(&str, &str), SpiffeIdError>
-    ensures { MatchResult result
-        (λ p. parts_rule (slice_split is_slash rest.now) ≡ Ok (record { domain = p.0.now; path = p.1.now }))
-        (λ e. parts_rule (slice_split is_slash rest.now) ≡ Err e) }
-{
-    let (domain, path) = halves(rest);
-    if domain.is_empty() {
-        return Err(SpiffeIdError::MissingTrustDomain);
-    }
-    check_domain(domain.as_bytes())?;
-    check_path(path.as_bytes())?;
-    Ok((domain, path))
-}
-
-/// The trust domain and the path of an ID, or the first broken rule.
-#[tactic(auto, unfolding(crate::specs::Rule::id_rule))]
-pub(crate) fn parts(text: &str) -> Result<(&str, &str), SpiffeIdError>
-    ensures { MatchResult result
-        (λ p. id_rule text.now ≡ Ok (record { domain = p.0.now; path = p.1.now }))
-        (λ e. id_rule text.now ≡ Err e) }
-{
-    if text.is_empty() {
-        return Err(SpiffeIdError::Empty);
-    }
-    if text.len() > 2048 {
-        return Err(SpiffeIdError::TooLong);
-    }
-    match text.strip_prefix("spiffe://") {
-        None => Err(SpiffeIdError::WrongScheme),
-        Some(rest) => parts_after_scheme(rest),
-    }
 }
 
 /// Whether a URI begins with `spiffe:`, ASCII case apart.

@@ -1,11 +1,12 @@
 ghost use Rattle.std.specs.Prelude.{◌≡◌, IfOk, MatchResult, codes, nat_eq, string_bytes};
-ghost use Rattle.std.specs.List.{list_all, starts_with};
+ghost use Rattle.std.specs.List.{starts_with};
 ghost use Rattle.spf_io.specs.Rule.{Gives};
-ghost use Rattle.spf_id.specs.Rule.{is_memory, is_domain_octet, domain_rule, holds_colon_slash, name_rule};
+ghost use Rattle.spf_id.specs.Rule.{is_memory, holds_colon_slash, name_rule};
 
+use crate::domain::check_domain;
 use crate::error::SpiffeIdError;
+use crate::id_parts::parts;
 use crate::separator::cut;
-use crate::spiffe_id::parts;
 use spf_io::{OutOfMemory, Text};
 use std::alloc::Global;
 use std::fmt;
@@ -25,36 +26,6 @@ impl Model for TrustDomain {
     ghost view = { λ t. t.name };
 
     ghost inverse = { λ s. record { name = s } };
-}
-
-fn is_domain_char(octet: u8) -> bool
-    ensures { result ≡ is_domain_octet octet }
-{
-    octet.is_ascii_lowercase()
-        || octet.is_ascii_digit()
-        || octet == b'.'
-        || octet == b'-'
-        || octet == b'_'
-}
-
-fn is_domain_text(octets: &[u8]) -> bool
-    ensures { result ≡ list_all is_domain_octet octets.now }
-{
-    octets.iter().all(|octet| is_domain_char(*octet))
-}
-
-/// Whether a trust domain that is not empty breaks a rule, and which.
-#[tactic(auto, unfolding(crate::specs::Rule::domain_rule))]
-pub(crate) fn check_domain(octets: &[u8]) -> Result<(), SpiffeIdError>
-    ensures { result ≡ domain_rule octets.now }
-{
-    if octets.len() > 255 {
-        return Err(SpiffeIdError::TrustDomainTooLong);
-    }
-    if !is_domain_text(octets) {
-        return Err(SpiffeIdError::BadTrustDomainChar);
-    }
-    Ok(())
 }
 
 fn begins_with_slash(octets: &[u8]) -> bool

@@ -15,6 +15,3 @@ pub use memory::{Failed, OutOfMemory};
 pub use sink::{MemSink, Sink, StdSink};
 pub use source::{MemSource, Source, StdSource};
 pub use text::Text;
-
-#[cfg(test)]
-mod tests;

@@ -87,7 +87,7 @@ impl Sink for MemSink {
         }
         match self.held.extend_from_slice(piece) {
             Ok(()) => Ok(()),
-            Err(_) => Err(Failed),
+            Err(_) => unreachable!(),
         }
     }
 }

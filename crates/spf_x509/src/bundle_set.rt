@@ -84,17 +84,14 @@ impl X509BundleSet {
     }
 
     /// The same set again, which shares its bundles.
-    pub fn try_clone(&self) -> Result<X509BundleSet, OutOfMemory>
+    pub fn try_clone(&self, alloc: Global) -> Result<X509BundleSet, OutOfMemory>
         ensures { IfOk result (λ s. s ≡ self.now) }
     {
-        let mut bundles = BTreeMap::new(self.alloc);
+        let mut bundles = BTreeMap::new(alloc);
         for (trust_domain, bundle) in self.bundles.iter() {
-            bundles.insert(trust_domain.try_clone(self.alloc)?, Arc::try_clone(bundle)?)?;
+            bundles.insert(trust_domain.try_clone(alloc)?, Arc::try_clone(bundle)?)?;
         }
-        Ok(X509BundleSet {
-            bundles,
-            alloc: self.alloc,
-        })
+        Ok(X509BundleSet { bundles, alloc })
     }
 
     /// A share of the bundle of that trust domain.

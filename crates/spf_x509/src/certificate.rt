@@ -52,7 +52,7 @@ impl Certificate {
         Ok(Certificate::of_text(alloc, der)?)
     }
 
-    /// The same of bytes that are given away.
+    /// The same, keeping the bytes.
     #[tactic(auto, unfolding(crate::specs::Certificate::certificate_of))]
     pub fn try_from_owned(alloc: Global, der: Vec<u8>) -> Result<Certificate, CertificateError>
         ensures text { IfOk result (λ c. c ≡ der.items) }

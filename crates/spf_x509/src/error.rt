@@ -10,26 +10,37 @@ use thiserror::Error;
 /// Why a certificate is refused.
 #[derive(Debug, PartialEq, Eq, Drop, Error)]
 pub enum CertificateError {
+    /// A required extension is missing.
     #[error("X.509 extension is missing: {0}")]
     MissingX509Extension(X509ExtensionId),
+    /// An extension cannot be read: the names of a subject alternative name.
     #[error("unexpected X.509 extension: {0}")]
     UnexpectedExtension(Text),
+    /// The bytes are no certificate, or an extension stands twice.
     #[error("failed parsing X.509 certificate")]
     ParseX509Certificate(X509ParseError),
+    /// No URI of the subject alternative name is a SPIFFE ID.
     #[error("certificate is missing SPIFFE ID in URI SAN")]
     MissingSpiffeId,
+    /// The subject alternative name has more than one URI.
     #[error("certificate contains multiple URI SAN entries")]
     MultipleUriSanEntries,
+    /// A URI is longer than `max` bytes.
     #[error("URI SAN exceeds maximum length ({max} bytes)")]
     OversizedUriSan { max: usize },
+    /// Several URIs are SPIFFE IDs. No call returns it: two URIs are `MultipleUriSanEntries`.
     #[error("certificate contains multiple SPIFFE IDs in URI SAN")]
     MultipleSpiffeIds,
+    /// There are more than `max` URIs. No call returns it: two URIs are `MultipleUriSanEntries`.
     #[error("certificate has too many URI SAN entries (max {max})")]
     TooManyUriSanEntries { max: usize },
+    /// A chain has more than `max` certificates.
     #[error("certificate chain has too many certificates (max {max})")]
     TooManyCertificates { max: usize },
+    /// The URI with the scheme `spiffe:` breaks a rule of SPIFFE IDs.
     #[error("failed to parse SPIFFE ID from URI SAN: {0}")]
     InvalidSpiffeId(SpiffeIdError),
+    /// Memory ran out.
     #[error("out of memory")]
     OutOfMemory,
 }
@@ -109,8 +120,10 @@ impl From<SpiffeIdError> for CertificateError {
 /// Why a private key is refused.
 #[derive(Debug, PartialEq, Eq, Drop, Error)]
 pub enum PrivateKeyError {
+    /// The bytes are no private key in PKCS#8.
     #[error("failed decoding PKCS#8 private key")]
     DecodePkcs8(Pkcs8DecodeError),
+    /// Memory ran out.
     #[error("out of memory")]
     OutOfMemory,
 }
@@ -151,8 +164,10 @@ impl From<Pkcs8DecodeError> for PrivateKeyError {
 /// Why a bundle is refused.
 #[derive(Debug, PartialEq, Eq, Drop, Error)]
 pub enum X509BundleError {
+    /// A certificate is refused.
     #[error("{0}")]
     Certificate(CertificateError),
+    /// Memory ran out.
     #[error("out of memory")]
     OutOfMemory,
 }

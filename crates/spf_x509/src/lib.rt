@@ -28,6 +28,3 @@ pub use private_key::PrivateKey;
 pub use source::{BundleSource, SvidSource};
 pub use svid::X509Svid;
 pub use svid_error::X509SvidError;
-
-#[cfg(test)]
-mod tests;

@@ -7,15 +7,15 @@ ghost use Rattle.spf_x509.specs.Key.{key_rule};
 
 use crate::error::PrivateKeyError;
 use spf_der::read_key;
-use spf_io::OutOfMemory;
+use spf_io::{Bytes, OutOfMemory};
 use std::alloc::Global;
-use std::cmp::Ordering;
 use std::fmt;
 use std::marker::Model;
 
 /// A private key (RFC 5958 section 2), which contracts see as its bytes. Its drop overwrites them.
+#[derive(PartialEq, Eq, PartialOrd, Ord)]
 pub struct PrivateKey {
-    der: Vec<u8>,
+    der: Bytes,
 }
 
 impl Model for PrivateKey {
@@ -23,7 +23,9 @@ impl Model for PrivateKey {
 
     ghost Value = { List ℕ };
 
-    ghost view = { λ k. k.der.items };
+    ghost view = { λ k. k.der };
+
+    ghost inverse = { λ b. record { der = b } };
 }
 
 impl PrivateKey {
@@ -35,18 +37,20 @@ impl PrivateKey {
     {
         read_key(der)?;
         Ok(PrivateKey {
-            der: Vec::from_slice(alloc, der)?,
+            der: Bytes::copy_of(alloc, der)?,
         })
     }
 
-    /// The same of bytes that are given away.
+    /// The same, keeping the bytes. The allocator plays no part.
     #[tactic(auto, unfolding(crate::specs::Key::key_rule))]
-    pub fn try_from_owned(der: Vec<u8>) -> Result<PrivateKey, PrivateKeyError>
+    pub fn try_from_owned(_alloc: Global, der: Vec<u8>) -> Result<PrivateKey, PrivateKeyError>
         ensures text { IfOk result (λ k. k ≡ der.items) }
         ensures gives { Gives is_memory_key (λ k. k) result (key_rule der.items) }
     {
         read_key(der.as_slice())?;
-        Ok(PrivateKey { der })
+        Ok(PrivateKey {
+            der: Bytes::new(der),
+        })
     }
 
     pub fn as_bytes(&self) -> &[u8]
@@ -55,22 +59,23 @@ impl PrivateKey {
         self.der.as_slice()
     }
 
-    /// The same key again.
+    /// A copy of the key.
     pub fn try_clone(&self, alloc: Global) -> Result<PrivateKey, OutOfMemory>
         ensures { IfOk result (λ k. k ≡ self.now) }
     {
         Ok(PrivateKey {
-            der: Vec::from_slice(alloc, self.der.as_slice())?,
+            der: self.der.try_clone(alloc)?,
         })
     }
 }
 
 impl Drop for PrivateKey {
-    fn drop(mut self) {
-        for octet in self.der.iter_mut() {
+    fn drop(self) {
+        let PrivateKey { der } = self;
+        let mut octets = der.into_vec();
+        for octet in octets.iter_mut() {
             *octet = 0;
         }
-        let PrivateKey { der: _ } = self;
     }
 }
 
@@ -81,59 +86,7 @@ impl fmt::Debug for PrivateKey {
     ghost debug_output = { λ k. Some (shown k) };
 
     fn fmt<W: fmt::Write>(&self, f: &mut fmt::Formatter<W>) -> fmt::Result {
-        let length = self.der.len();
+        let length = self.der.as_slice().len();
         write!(f, "PrivateKey {{ len: {length} }}")
-    }
-}
-
-impl PartialEq for PrivateKey {
-    ghost use Rattle.std.specs.Prelude.{nat_eq};
-    ghost use Rattle.std.specs.Cmp.Lexicographic.{pointwise, nat_list_eq_equiv};
-    ghost use Rattle.std.specs.Cmp as Cmp;
-
-    ghost eq = { pointwise nat_eq };
-
-    ghost laws = { Cmp.partial_equiv_from_equiv nat_list_eq_equiv };
-
-    fn eq(&self, other: &PrivateKey) -> bool {
-        self.der == other.der
-    }
-}
-
-impl Eq for PrivateKey {
-    ghost use Rattle.std.specs.Cmp.Lexicographic.{nat_list_eq_equiv};
-
-    ghost laws = { nat_list_eq_equiv };
-}
-
-impl PartialOrd for PrivateKey {
-    ghost use Rattle.std.specs.Prelude.{Some};
-    ghost use Rattle.std.specs.Ordering.{nat_cmp};
-    ghost use Rattle.std.specs.Cmp.Lexicographic.{slice_cmp, texts_po};
-
-    ghost partial_cmp = { λ x y. Some (slice_cmp nat_cmp x y) };
-
-    ghost laws = { texts_po };
-
-    fn partial_cmp(&self, other: &PrivateKey) -> Option<Ordering> {
-        Some(self.cmp(other))
-    }
-}
-
-impl Ord for PrivateKey {
-    ghost use Rattle.std.specs.Ordering.{nat_cmp};
-    ghost use Rattle.std.specs.Cmp.Lexicographic.{slice_cmp, nat_list_cmp_total, texts_ties};
-    ghost use Rattle.std.specs.Prelude.{refl};
-
-    ghost cmp = { slice_cmp nat_cmp };
-
-    ghost total = { nat_list_cmp_total };
-
-    ghost matches_partial_cmp = { λ x y. refl };
-
-    ghost matches_eq = { texts_ties };
-
-    fn cmp(&self, other: &PrivateKey) -> Ordering {
-        self.der.cmp(&other.der)
     }
 }

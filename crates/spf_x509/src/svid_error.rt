@@ -8,28 +8,40 @@ use thiserror::Error;
 /// Why an X.509 SVID is refused (SPIFFE X.509-SVID sections 4 and 5).
 #[derive(Debug, PartialEq, Eq, Drop, Error)]
 pub enum X509SvidError {
+    /// The chain has no certificate.
     #[error("no certificates found in chain")]
     EmptyChain,
+    /// The leaf has the CA flag.
     #[error("leaf certificate must not have CA flag set to true")]
     LeafCertificateHasCaFlag,
+    /// The key usage of the leaf has cRLSign.
     #[error("leaf certificate must not have 'cRLSign' set as key usage")]
     LeafCertificateHasCrlSign,
+    /// The key usage of the leaf has keyCertSign.
     #[error("leaf certificate must not have 'keyCertSign' set as key usage")]
     LeafCertificateHasKeyCertSign,
+    /// The key usage of the leaf lacks digitalSignature.
     #[error("leaf certificate must have 'digitalSignature' set as key usage")]
     LeafCertificateMissingDigitalSignature,
+    /// An intermediate lacks the CA flag.
     #[error("signing certificate must have CA flag set to true")]
     SigningCertificateMissingCaFlag,
+    /// The key usage of an intermediate lacks keyCertSign.
     #[error("signing certificate must have 'keyCertSign' set as key usage")]
     SigningCertificateMissingKeyCertSign,
+    /// An extension of that name cannot be read.
     #[error("{extension} extension is present but could not be parsed")]
     UnparseableExtension { extension: Text },
+    /// A certificate is refused.
     #[error("{0}")]
     Certificate(CertificateError),
+    /// The SPIFFE ID of the leaf has an empty path.
     #[error("leaf certificate SPIFFE ID must have a non-root path component")]
     LeafSpiffeIdMissingPath,
+    /// The private key is refused.
     #[error("{0}")]
     PrivateKey(PrivateKeyError),
+    /// Memory ran out.
     #[error("out of memory")]
     OutOfMemory,
 }

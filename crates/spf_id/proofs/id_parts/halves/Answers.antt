@@ -4,7 +4,7 @@ use Rattle.std.specs.Prelude.{Some, None}
 use Rattle.std.specs.List.{before_first}
 use Rattle.spf_id.specs.Rule.{is_slash}
 use Rattle.spf_id.proofs.FirstIndex.{first_index, front_whole, front_length}
-use Rattle.spf_id.proofs.spiffe_id.halves.Goals as goal
+use Rattle.spf_id.proofs.id_parts.halves.Goals as goal
 
 pub returns-in-None-clause-domain : goal.returns-in-None-clause-domain
 returns-in-None-clause-domain c = sym (front_whole is_slash c.args.text.now (first_index 47 c.args.text.now None (rw c.as_bytes.ensures.value at c.in-None.ensures)))
