@@ -1,4 +1,4 @@
--- How the claims of a validation response lie in its payload, and what reading them gives.
+-- The layout of the claims of a validation response, and their readers.
 use Rattle.std.specs.Prelude.{ℕ, ℤ, zero, suc, FitsSigned, Bool, true, false, List, [], ◌∷◌, ◌++◌, length, Option, Some, None, ◌==◌, if◌then◌else◌}
 use Rattle.std.specs.Option.{IfSome}
 use Rattle.std.specs.Int.{w64, to_be_bytes, from_be_bytes, cast_unsigned, cast_signed}
@@ -16,7 +16,7 @@ abbrev pub truth_octet : Bool → ℕ
 truth_octet false = 0
 truth_octet true = 1
 
--- the text of a value, where the texts of its members stand in place of them: a kind octet and the contents
+-- the text of a value: a kind octet and the contents, in which each member is its own text
 abbrev pub layer_text : ClaimValue-F (List ℕ) (List ℕ) → List ℕ
 layer_text ClaimValue-F.Unset = 0 ∷ []
 layer_text ClaimValue-F.Null = 1 ∷ []
@@ -52,7 +52,7 @@ IsLayer IsValue (ClaimValue-F.Items members) = IsListOf IsValue members
 IsLayer IsValue (ClaimValue-F.Fields members) = IsListOf (IsClaim IsValue) members
 IsLayer IsValue _ = Unit {0}
 
--- a value that may be laid out, in which at most `depth` values stand in one another
+-- a value that may be laid out, with values at most `depth` deep
 abbrev pub IsClaimValue : ℕ → ClaimValue → Type 0
 IsClaimValue zero value = ⊥
 IsClaimValue (suc depth) value = IsLayer (IsClaimValue depth) (out-ClaimValue value)
@@ -102,7 +102,7 @@ contents_at value_at kind rest =
     else (if kind == 7 then as_value Fields (list_at (claim_at value_at) rest)
     else None)))))))
 
--- a kind octet and its contents, at most `depth` values in one another
+-- a kind octet and its contents, with values at most `depth` deep
 abbrev pub claim_value_at : ℕ → List ℕ → Option (ClaimValue × List ℕ)
 claim_value_at zero bytes = None
 claim_value_at (suc depth) [] = None

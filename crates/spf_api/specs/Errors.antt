@@ -1,4 +1,4 @@
--- How an error of one layer reads in the layer above: want of memory stays want of memory.
+-- An error of one layer as an error of the layer above: out of memory stays out of memory.
 use Rattle.std.specs.Prelude.{Bool, true, false, Option, Some, None, codes, if◌then◌else◌}
 use Rattle.spf_id.specs.declared.error.SpiffeIdError.{SpiffeIdError}
 use Rattle.spf_id.specs.declared.error.SpiffeIdError.TheVariants as id
@@ -21,7 +21,7 @@ use Rattle.spf_api.specs.Status.{holds}
 use Rattle.spf_api.specs.declared.error.WorkloadApiError.{WorkloadApiError}
 use Rattle.spf_api.specs.declared.error.WorkloadApiError.TheVariants as api
 
--- whether an error is want of memory
+-- whether memory ran out
 abbrev pub is_memory_api : WorkloadApiError → Bool
 is_memory_api api.OutOfMemory = true
 is_memory_api _ = false
@@ -59,7 +59,7 @@ abbrev pub is_denied : GrpcStatusCode → Bool
 is_denied code.PermissionDenied = true
 is_denied _ = false
 
--- how a status reads
+-- the error that a status stands for
 abbrev pub status_reading : Refused → WorkloadApiError
 status_reading s =
     if is_denied s.code then (if holds (codes "no identity issued") s.message then api.NoIdentityIssued else api.PermissionDenied s.message)

@@ -1,4 +1,4 @@
--- How responses lie in payloads: their octets, and what may be laid out.
+-- The layout of responses: their octets, and which of them may be laid out.
 use Rattle.std.specs.Prelude.{ℕ, ◌^◌, ◌<◌, List, [], ◌∷◌, ◌++◌, length}
 use Rattle.std.specs.List.{flat_map, All}
 use Rattle.std.specs.Int.{w32, to_be_bytes}

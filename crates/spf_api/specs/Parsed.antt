@@ -75,7 +75,7 @@ abbrev pub or_else : {A : Type 0} → Option A → Option A → Option A
 or_else (Some x) other = Some x
 or_else None other = other
 
--- the same answer, of which f is taken where a value was read
+-- the same result, with f applied to its value
 abbrev pub read_as : {A B E : Type 0} → (A → B) → Result A E → Result B E
 read_as f (Ok x) = Ok (f x)
 read_as f (Err e) = Err e
@@ -96,7 +96,7 @@ last_for domain [] = None
 last_for domain (b ∷ bundles) = or_else (last_for domain bundles) (if bytes_eq domain b.domain then Some b else None)
 
 -- Parsed: the context of a response, or the first broken rule (SPIFFE Workload API section 5). Of the bundles of one trust
--- domain the last stands, where those of SVIDs come before the federated ones.
+-- domain the last counts, and those of SVIDs come before the federated ones.
 unfoldable pub parsed_of : ContextResponse → Result Context WorkloadApiError
 parsed_of r = do
   materials ← svids_and_bundles_of r.svids
@@ -118,7 +118,7 @@ first_svid_of r = do
   svids ← svids_of r
   first_of svids
 
--- the bundle set of a bundles response, or the first broken rule: the last bundle of a trust domain stands
+-- the bundle set of a bundles response, or the first broken rule: the last bundle of a trust domain counts
 unfoldable pub bundle_set_of : BundlesResponse → Result (List (List ℕ × Bundle)) WorkloadApiError
 bundle_set_of r =
     if length r.bundles == 0 then Err (api.MissingRequiredField (codes "X509BundlesResponse.bundles"))

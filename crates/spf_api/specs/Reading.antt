@@ -1,4 +1,4 @@
--- What stands at the front of a payload, and what follows it.
+-- Readers of a payload: the value at its start, and the octets that follow.
 use Rattle.std.specs.Prelude.{◌≡◌, ℕ, zero, suc, List, [], ◌∷◌, length, take, drop, Option, Some, None, nat_lt, ◌==◌, if◌then◌else◌}
 use Rattle.std.specs.Int.{w32, from_be_bytes}
 use Rattle.std.specs.Str.{is_utf8}
@@ -29,7 +29,7 @@ text_field_at bytes = do
   t ← byte_field_at bytes
   if is_utf8 t.0 then Some (t.0, t.1) else None
 
--- so many entries
+-- n entries
 abbrev pub counted : {A : Type 0} → (List ℕ → Option (A × List ℕ)) → ℕ → List ℕ → Option (List A × List ℕ)
 counted one zero bytes = Some ([], bytes)
 counted one (suc n) bytes = one bytes >>= λ x. counted one n x.1 >>= λ others. Some (x.0 ∷ others.0, others.1)

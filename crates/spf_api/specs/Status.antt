@@ -64,7 +64,7 @@ code_at n =
     else (if n == 16 then Some code.Unauthenticated
     else None))))))))))))))))
 
--- whether the needle stands somewhere in the text
+-- whether the text contains the needle
 abbrev pub holds : List ℕ → List ℕ → Bool
 holds needle [] = starts_with nat_eq [] needle
 holds needle (x ∷ text) = starts_with nat_eq (x ∷ text) needle || holds needle text

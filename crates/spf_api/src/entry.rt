@@ -4,7 +4,7 @@ ghost use Rattle.std.specs.Prelude.{◌≡◌, ℕ, List as Members, Option, map
 ghost use Rattle.std.specs.Option.{option_map};
 ghost use Rattle.spf_api.specs.Reading.{list_at};
 
-use crate::layout::number;
+use crate::layout::read_number;
 use spf_io::{List, OutOfMemory};
 use std::alloc::Global;
 
@@ -38,7 +38,7 @@ pub(crate) fn read_entries<'a, V: EntryView<'a>>(
 ) -> Result<Option<(Vec<V>, &'a [u8])>, OutOfMemory>
     ensures { IfOk result (λ o. option_map (λ x. (map V.entry_of x.0.items, x.1.now)) o ≡ list_at V.entry_at bytes.now) }
 {
-    let Some((count, mut rest)) = number(bytes) else {
+    let Some((count, mut rest)) = read_number(bytes) else {
         return Ok(None);
     };
     let mut entries = Vec::new(alloc);

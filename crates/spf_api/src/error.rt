@@ -1,4 +1,4 @@
-//! Why a call of the Workload API fails.
+//! Errors of the Workload API.
 
 ghost use Rattle.std.specs.Prelude.{◌≡◌, ◌↔◌, IsTrue, Some, codes};
 ghost use Rattle.spf_api.specs.Status.{holds};
@@ -18,57 +18,72 @@ use thiserror::Error;
 /// Why a call of the Workload API fails.
 #[derive(Debug, PartialEq, Eq, Drop, Error)]
 pub enum WorkloadApiError {
+    /// The environment names no endpoint.
     #[error("missing SPIFFE endpoint socket path (SPIFFE_ENDPOINT_SOCKET)")]
     MissingEndpointSocket,
+    /// The environment names an endpoint by a text that is no UTF-8.
     #[error("SPIFFE endpoint socket path is not a valid UTF-8 string")]
     NotUnicodeEndpointSocket,
+    /// The stream ended before its first response.
     #[error("empty Workload API response")]
     EmptyResponse,
-    /// A field that a response must have is absent or empty.
+    /// A required field of a response is absent or empty.
     #[error("Workload API response is missing required field: {field}")]
     MissingRequiredField { field: Text },
+    /// A field of a response has a value that its rule refuses.
     #[error("Workload API response has invalid field: {field}")]
     InvalidResponseField { field: Text },
+    /// The text names no endpoint.
     #[error("invalid workload api endpoint: {0}")]
     Endpoint(EndpointError),
     /// The agent knows no registration entry of this workload.
     #[error("no identity issued")]
     NoIdentityIssued,
+    /// The agent denies this workload an identity, with the message of its status.
     #[error("permission denied: {0}")]
     PermissionDenied(Text),
+    /// No JWT-SVID of the response has that hint.
     #[error("no JWT-SVID found with hint: {0}")]
     HintNotFound(Text),
+    /// The transport failed.
     #[error("{0}")]
     Transport(TransportError),
+    /// An X.509-SVID of a response was refused.
     #[error("failed to parse X.509 SVID: {0}")]
     X509Svid(X509SvidError),
+    /// A JWT-SVID of a response was refused.
     #[error("failed to parse JWT-SVID: {0}")]
     JwtSvid(JwtSvidError),
+    /// An X.509 bundle of a response was refused.
     #[error("failed to parse X.509 bundle: {0}")]
     X509Bundle(X509BundleError),
+    /// A JWT bundle of a response was refused.
     #[error("failed to parse JWT bundle: {0}")]
     JwtBundle(JwtBundleError),
+    /// A SPIFFE ID or a trust domain name of a response was refused.
     #[error("failed to parse SPIFFE ID: {0}")]
     SpiffeId(SpiffeIdError),
+    /// Memory ran out.
     #[error("out of memory")]
     OutOfMemory,
 }
 
-/// Whether the agent says that it knows no registration entry.
-fn tells_no_identity(message: &str) -> bool
+/// Whether the message says that no identity was issued.
+fn says_no_identity(message: &str) -> bool
     ensures { result ≡ holds (codes "no identity issued") message.now }
 {
     memmem::find(message.as_bytes(), b"no identity issued").is_some()
 }
 
 impl WorkloadApiError {
-    /// How a status reads: PERMISSION_DENIED is a denial, of which a message can tell that no identity was issued.
+    /// Returns the error that a status stands for. PERMISSION_DENIED is a denial, or NoIdentityIssued where its message says
+    /// that no identity was issued; any other code is an error of the transport.
     pub fn from_status(status: GrpcStatusError) -> WorkloadApiError
         ensures { result ≡ status_reading status }
     {
         match status.code() {
             GrpcStatusCode::PermissionDenied => {
-                if tells_no_identity(status.message()) {
+                if says_no_identity(status.message()) {
                     WorkloadApiError::NoIdentityIssued
                 } else {
                     WorkloadApiError::PermissionDenied(status.into_message())
@@ -78,7 +93,7 @@ impl WorkloadApiError {
         }
     }
 
-    /// Whether it is a status INVALID_ARGUMENT of the transport.
+    /// Whether this is a status of the transport with the code INVALID_ARGUMENT.
     pub fn is_invalid_argument(&self) -> bool
         ensures { IsTrue result ↔ (status_code_of self.now ≡ Some code.InvalidArgument) }
     {
@@ -90,7 +105,7 @@ impl WorkloadApiError {
         }
     }
 
-    /// Whether it is a status UNIMPLEMENTED of the transport.
+    /// Whether this is a status of the transport with the code UNIMPLEMENTED.
     pub fn is_unimplemented(&self) -> bool
         ensures { IsTrue result ↔ (status_code_of self.now ≡ Some code.Unimplemented) }
     {

@@ -8,10 +8,12 @@ use std::alloc::{AllocError, AllocFailed};
 use std::fmt;
 use thiserror::Error;
 
-/// What was wrong with a JSON text: its form, or that it ended early.
+/// What is wrong with a JSON text.
 #[derive(Clone, Copy, Debug, PartialEq, Eq)]
 pub enum JsonErrorKind {
+    /// It does not follow the grammar.
     Syntax,
+    /// It ends early.
     Eof,
 }
 
@@ -25,7 +27,7 @@ impl fmt::Display for JsonErrorKind {
     }
 }
 
-/// Why a JSON text was not read.
+/// Why a JSON text was refused.
 #[derive(Clone, Copy, Debug, PartialEq, Eq, Error)]
 #[error("{kind}")]
 pub struct JsonError {
@@ -58,10 +60,13 @@ pub enum JwtSvidError {
     /// The header holds a number that is not whole.
     #[error("HeaderFloat")]
     HeaderFloat,
+    /// `alg` is not one of RS256, RS384, RS512, ES256, ES384, ES512, PS256, PS384 and PS512.
     #[error("UnsupportedAlg")]
     UnsupportedAlg,
+    /// `typ` is present, and neither `JWT` nor `JOSE`.
     #[error("InvalidTyp")]
     InvalidTyp,
+    /// `kid` is present, and no text.
     #[error("InvalidKid")]
     InvalidKid,
     /// The claims are not base64url without padding of a JSON object.
@@ -70,14 +75,19 @@ pub enum JwtSvidError {
     /// The claims hold a number that is not whole.
     #[error("ClaimsFloat")]
     ClaimsFloat,
+    /// A required claim is absent.
     #[error("MissingClaim")]
     MissingClaim { claim: Text },
+    /// `sub` is no SPIFFE ID.
     #[error("InvalidSub")]
     InvalidSub(SpiffeIdError),
+    /// `aud` is neither a text nor a list of texts that is not empty.
     #[error("InvalidAud")]
     InvalidAud,
+    /// `exp` is no whole number of 64 bits.
     #[error("InvalidExp")]
     InvalidExp,
+    /// Memory ran out.
     #[error("out of memory")]
     OutOfMemory,
 }
@@ -118,19 +128,22 @@ impl<T: Drop> From<AllocFailed<T>> for JwtSvidError {
 /// The first broken rule of a key set, in this order.
 #[derive(Debug, PartialEq, Eq, Drop, Error)]
 pub enum JwtBundleError {
+    /// The text is not JSON.
     #[error("Json")]
     Json(JsonError),
     /// A number is not a whole one of 64 bits.
     #[error("HoldsFloat")]
     HoldsFloat,
-    /// The value is no object with an array `keys`.
+    /// The value is not an object with an array `keys`.
     #[error("MissingKeys")]
     MissingKeys,
+    /// A key is not an object.
     #[error("NotAnObject")]
     NotAnObject,
     /// A key has no `kid`, or one that is no text or empty.
     #[error("MissingKeyId")]
     MissingKeyId,
+    /// Memory ran out.
     #[error("out of memory")]
     OutOfMemory,
 }

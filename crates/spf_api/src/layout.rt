@@ -1,4 +1,4 @@
-//! How numbers, byte fields and text fields lie in a payload: each is read as the value and what follows it.
+//! Numbers, byte fields and text fields of a payload. A reader returns the value, and the bytes that follow it.
 
 ghost use Rattle.std.specs.Prelude.{◌≡◌, ◌<◌, ◌^◌, ◌++◌, length, IfOk, OnOk};
 ghost use Rattle.std.specs.Int.{w32, to_be_bytes};
@@ -9,9 +9,9 @@ ghost use Rattle.spf_api.specs.Reading.{number_at, byte_field_at, text_field_at}
 use spf_io::{OutOfMemory, Text};
 use std::alloc::Global;
 
-/// Four octets, big-endian: a length or a count.
+/// Reads a length or a count: four octets, big-endian.
 #[tactic(auto, unfolding(crate::specs::Reading::number_at))]
-pub(crate) fn number(bytes: &[u8]) -> Option<(usize, &[u8])>
+pub(crate) fn read_number(bytes: &[u8]) -> Option<(usize, &[u8])>
     ensures { option_map (λ x. (x.0, x.1.now)) result ≡ number_at bytes.now }
 {
     match bytes {
@@ -26,7 +26,7 @@ pub(crate) fn number(bytes: &[u8]) -> Option<(usize, &[u8])>
 pub fn read_byte_field(bytes: &[u8]) -> Option<(&[u8], &[u8])>
     ensures { option_map (λ x. (x.0.now, x.1.now)) result ≡ byte_field_at bytes.now }
 {
-    let (length, rest) = number(bytes)?;
+    let (length, rest) = read_number(bytes)?;
     if rest.len() < length {
         return None;
     }
@@ -45,8 +45,11 @@ pub fn read_text_field(bytes: &[u8]) -> Option<(&str, &[u8])>
     }
 }
 
-/// A copy of a text field.
-pub(crate) fn owned_text(alloc: Global, bytes: &[u8]) -> Result<Option<(Text, &[u8])>, OutOfMemory>
+/// Reads a text field, and copies it.
+pub(crate) fn read_owned_text(
+    alloc: Global,
+    bytes: &[u8],
+) -> Result<Option<(Text, &[u8])>, OutOfMemory>
     ensures { IfOk result (λ o. option_map (λ x. (x.0, x.1.now)) o ≡ text_field_at bytes.now) }
 {
     let Some((text, rest)) = read_text_field(bytes) else {
@@ -55,7 +58,7 @@ pub(crate) fn owned_text(alloc: Global, bytes: &[u8]) -> Result<Option<(Text, &[
     Ok(Some((Text::copy_of(alloc, text)?, rest)))
 }
 
-/// A length or a count. One of more than four octets counts as out of memory.
+/// Appends a length or a count. One that four octets cannot hold counts as out of memory.
 pub(crate) fn put_number(out: &mut Vec<u8>, number: usize) -> Result<(), OutOfMemory>
     ensures short { OnOk result (number < 2 ^ 32) }
     ensures octets { OnOk result (out.new.items ≡ out.old.items ++ to_be_bytes w32 number) }

@@ -1,4 +1,4 @@
-//! The payload of each kind of response, both ways.
+//! Payloads of responses, read and written.
 
 ghost use Rattle.std.specs.Prelude.{◌≡◌, IfOk, OnOk};
 ghost use Rattle.std.specs.Option.{option_map};

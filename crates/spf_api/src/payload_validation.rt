@@ -1,4 +1,4 @@
-//! The payload of a validation response, both ways.
+//! Payloads of validation responses, read and written.
 
 ghost use Rattle.std.specs.Prelude.{◌≡◌, ◌++◌, [], ◌∷◌, IfOk, IfSome, OnOk};
 ghost use Rattle.std.specs.Option.{option_map};
@@ -8,15 +8,15 @@ ghost use Rattle.spf_api.specs.Reading.{list_at};
 ghost use Rattle.spf_api.specs.Claims.{truth_octet, truth_at, whole_at, claim_at, contents_at, claim_value_at, optional_claims_at, validation_at};
 ghost use Rattle.spf_api.specs.Claims.{claim_value_text, claim_text, IsClaim, IsClaimValue, optional_claims_text, validation_payload, IsValidation};
 
-use crate::layout::{number, owned_text, put_number, put_text, read_text_field};
+use crate::layout::{put_number, put_text, read_number, read_owned_text, read_text_field};
 use crate::response::{Claim, ClaimValue, ValidationResponse};
 use spf_io::{List, OutOfMemory, Text};
 use std::alloc::Global;
 
-/// How deep the values of a claim may stand in one another.
+/// How deep values of a claim may be nested: a value that holds none is one deep.
 pub(crate) const MAX_CLAIM_DEPTH: usize = 64;
 
-/// One octet, 0 or 1.
+/// Reads one octet, 0 or 1.
 #[tactic(auto, unfolding(crate::specs::Claims::truth_at))]
 fn truth(bytes: &[u8]) -> Option<(bool, &[u8])>
     ensures { option_map (λ x. (x.0, x.1.now)) result ≡ truth_at bytes.now }
@@ -28,7 +28,7 @@ fn truth(bytes: &[u8]) -> Option<(bool, &[u8])>
     }
 }
 
-/// Eight octets, two's complement.
+/// Reads eight octets, in two's complement.
 #[tactic(auto, unfolding(crate::specs::Claims::whole_at))]
 fn whole(bytes: &[u8]) -> Option<(i64, &[u8])>
     ensures { option_map (λ x. (x.0, x.1.now)) result ≡ whole_at bytes.now }
@@ -42,7 +42,7 @@ fn whole(bytes: &[u8]) -> Option<(i64, &[u8])>
     }
 }
 
-/// A kind octet and its contents. At most `depth` values stand in one another.
+/// Reads a value: a kind octet and its contents, with values at most `depth` deep.
 #[cycle(claims)]
 fn claim_value(
     alloc: Global,
@@ -60,7 +60,7 @@ fn claim_value(
     claim_contents(alloc, inner, *kind, rest)
 }
 
-/// The contents of a value of that kind, in which at most `depth` values stand in one another.
+/// Reads the contents of a value of that kind, with values at most `depth` deep.
 #[cycle(claims)]
 fn claim_contents(
     alloc: Global,
@@ -81,11 +81,11 @@ fn claim_contents(
             Some((number, rest)) => Ok(Some((ClaimValue::Whole(number), rest))),
             None => Ok(None),
         },
-        4 => match owned_text(alloc, rest)? {
+        4 => match read_owned_text(alloc, rest)? {
             Some((text, rest)) => Ok(Some((ClaimValue::OtherNumber(text), rest))),
             None => Ok(None),
         },
-        5 => match owned_text(alloc, rest)? {
+        5 => match read_owned_text(alloc, rest)? {
             Some((text, rest)) => Ok(Some((ClaimValue::Words(text), rest))),
             None => Ok(None),
         },
@@ -109,7 +109,7 @@ fn claim_values(
 ) -> Result<Option<(Vec<ClaimValue>, &[u8])>, OutOfMemory>
     ensures { IfOk result (λ o. option_map (λ x. (x.0.items, x.1.now)) o ≡ list_at (claim_value_at depth) bytes.now) }
 {
-    let Some((count, mut rest)) = number(bytes) else {
+    let Some((count, mut rest)) = read_number(bytes) else {
         return Ok(None);
     };
     let mut values = Vec::new(alloc);
@@ -123,7 +123,7 @@ fn claim_values(
     Ok(Some((values, rest)))
 }
 
-/// A name and a value.
+/// Reads a claim: a name and a value.
 #[cycle(claims)]
 #[tactic(auto, unfolding(crate::specs::Claims::claim_at))]
 fn claim(alloc: Global, depth: usize, bytes: &[u8]) -> Result<Option<(Claim, &[u8])>, OutOfMemory>
@@ -147,7 +147,7 @@ fn claims(
 ) -> Result<Option<(Vec<Claim>, &[u8])>, OutOfMemory>
     ensures { IfOk result (λ o. option_map (λ x. (x.0.items, x.1.now)) o ≡ list_at (claim_at (claim_value_at depth)) bytes.now) }
 {
-    let Some((count, mut rest)) = number(bytes) else {
+    let Some((count, mut rest)) = read_number(bytes) else {
         return Ok(None);
     };
     let mut claims = Vec::new(alloc);
@@ -161,7 +161,7 @@ fn claims(
     Ok(Some((claims, rest)))
 }
 
-/// The claims after which nothing follows, or that there are none.
+/// Reads the claims after which nothing follows, or that there are none.
 fn optional_claims(alloc: Global, bytes: &[u8]) -> Result<Option<Option<List<Claim>>>, OutOfMemory>
     ensures { IfOk result (λ o. o ≡ optional_claims_at bytes.now) }
 {
@@ -175,7 +175,7 @@ fn optional_claims(alloc: Global, bytes: &[u8]) -> Result<Option<Option<List<Cla
     }
 }
 
-/// The validation response that the payload lays out, if it lays out one.
+/// Returns the validation response that the payload lays out, and None where it lays out none.
 #[tactic(auto, unfolding(crate::specs::Claims::validation_at))]
 pub(crate) fn validation(
     alloc: Global,
@@ -183,7 +183,7 @@ pub(crate) fn validation(
 ) -> Result<Option<ValidationResponse>, OutOfMemory>
     ensures { IfOk result (λ o. o ≡ validation_at payload.now) }
 {
-    let Some((spiffe_id, rest)) = owned_text(alloc, payload)? else {
+    let Some((spiffe_id, rest)) = read_owned_text(alloc, payload)? else {
         return Ok(None);
     };
     match optional_claims(alloc, rest)? {
@@ -216,7 +216,7 @@ fn put_whole(out: &mut Vec<u8>, number: i64) -> Result<(), OutOfMemory>
     Ok(())
 }
 
-/// A value in which at most `depth` values stand in one another; a deeper one counts as out of memory.
+/// Appends a value. One with values more than `depth` deep counts as out of memory.
 #[cycle(put_claims)]
 fn put_claim_value(out: &mut Vec<u8>, depth: usize, value: &ClaimValue) -> Result<(), OutOfMemory>
     ensures fits { OnOk result (IsClaimValue depth value.now) }

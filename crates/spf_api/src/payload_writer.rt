@@ -1,4 +1,4 @@
-//! How entries and lists of them are laid out, appended to what was written before.
+//! Writing entries and lists of them.
 
 ghost use Rattle.std.specs.Prelude.{◌≡◌, ◌++◌, ℕ, List as Members, OnOk};
 ghost use Rattle.spf_api.specs.Layout.{IsListOf, IsContext, list_text, context_payload};
@@ -7,22 +7,22 @@ use crate::layout::{put_bytes, put_number, put_text};
 use crate::response::{BundleEntry, ContextResponse, JwtSvidEntry, SvidEntry};
 use spf_io::{Bytes, OutOfMemory};
 
-/// A kind of entry that is laid out.
-pub(crate) trait Laid {
+/// A kind of entry that can be written.
+pub(crate) trait PutEntry {
     ghost text: { Self → Members ℕ };
 
-    ghost may_be_laid: { Self → Type 0 };
+    ghost fits: { Self → Type 0 };
 
     /// Appends the text of the entry.
     fn put(&self, out: &mut Vec<u8>) -> Result<(), OutOfMemory>
-        ensures fits { OnOk result (may_be_laid self.now) }
+        ensures fits { OnOk result (fits self.now) }
         ensures octets { OnOk result (out.new.items ≡ out.old.items ++ text self.now) };
 }
 
 /// Appends the count of the entries, and each of them.
 #[tactic(auto, unfolding(crate::specs::Layout::list_text))]
-pub(crate) fn put_list<E: Laid>(out: &mut Vec<u8>, entries: &[E]) -> Result<(), OutOfMemory>
-    ensures fits { OnOk result (IsListOf E.may_be_laid entries.now) }
+pub(crate) fn put_list<E: PutEntry>(out: &mut Vec<u8>, entries: &[E]) -> Result<(), OutOfMemory>
+    ensures fits { OnOk result (IsListOf E.fits entries.now) }
     ensures octets { OnOk result (out.new.items ≡ out.old.items ++ list_text E.text entries.now) }
 {
     put_number(out, entries.len())?;
@@ -32,12 +32,12 @@ pub(crate) fn put_list<E: Laid>(out: &mut Vec<u8>, entries: &[E]) -> Result<(), 
     Ok(())
 }
 
-impl Laid for SvidEntry {
+impl PutEntry for SvidEntry {
     ghost use Rattle.spf_api.specs.Layout.{IsSvidEntry, svid_entry_text};
 
     ghost text = { svid_entry_text };
 
-    ghost may_be_laid = { IsSvidEntry };
+    ghost fits = { IsSvidEntry };
 
     #[tactic(auto, unfolding(crate::specs::Layout::svid_entry_text))]
     fn put(&self, out: &mut Vec<u8>) -> Result<(), OutOfMemory> {
@@ -50,12 +50,12 @@ impl Laid for SvidEntry {
     }
 }
 
-impl Laid for BundleEntry {
+impl PutEntry for BundleEntry {
     ghost use Rattle.spf_api.specs.Layout.{IsBundleEntry, bundle_entry_text};
 
     ghost text = { bundle_entry_text };
 
-    ghost may_be_laid = { IsBundleEntry };
+    ghost fits = { IsBundleEntry };
 
     #[tactic(auto, unfolding(crate::specs::Layout::bundle_entry_text))]
     fn put(&self, out: &mut Vec<u8>) -> Result<(), OutOfMemory> {
@@ -65,12 +65,12 @@ impl Laid for BundleEntry {
     }
 }
 
-impl Laid for Bytes {
+impl PutEntry for Bytes {
     ghost use Rattle.spf_api.specs.Layout.{HasLength32, field_text};
 
     ghost text = { field_text };
 
-    ghost may_be_laid = { λ b. HasLength32 b };
+    ghost fits = { λ b. HasLength32 b };
 
     fn put(&self, out: &mut Vec<u8>) -> Result<(), OutOfMemory> {
         put_bytes(out, self.as_slice())?;
@@ -78,12 +78,12 @@ impl Laid for Bytes {
     }
 }
 
-impl Laid for JwtSvidEntry {
+impl PutEntry for JwtSvidEntry {
     ghost use Rattle.spf_api.specs.Layout.{IsJwtSvidEntry, jwt_svid_entry_text};
 
     ghost text = { jwt_svid_entry_text };
 
-    ghost may_be_laid = { IsJwtSvidEntry };
+    ghost fits = { IsJwtSvidEntry };
 
     #[tactic(auto, unfolding(crate::specs::Layout::jwt_svid_entry_text))]
     fn put(&self, out: &mut Vec<u8>) -> Result<(), OutOfMemory> {

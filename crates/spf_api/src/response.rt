@@ -2,7 +2,7 @@
 
 use spf_io::{Bytes, List, Text};
 
-/// What an item of a stream is.
+/// The kinds of responses.
 #[derive(Clone, Copy, Debug, PartialEq, Eq)]
 pub enum ResponseKind {
     Context,
@@ -12,6 +12,7 @@ pub enum ResponseKind {
     Validation,
 }
 
+/// A response of the Workload API, by its kind.
 #[derive(Debug, PartialEq, Eq, Drop)]
 pub enum Response {
     Context(ContextResponse),
@@ -50,7 +51,7 @@ pub struct BundlesResponse {
     pub bundles: List<BundleEntry>,
 }
 
-/// A JWT identity, whose token stands in its compact form.
+/// A JWT identity, with its token in the compact form.
 #[derive(Debug, PartialEq, Eq, Drop)]
 pub struct JwtSvidEntry {
     pub spiffe_id: Text,
@@ -63,7 +64,7 @@ pub struct JwtSvidsResponse {
     pub svids: List<JwtSvidEntry>,
 }
 
-/// The value of a claim. A number that is not a whole one of 64 bits stands as its text.
+/// The value of a claim. A number that is not a whole number of 64 bits is kept as its text.
 #[derive(Debug, PartialEq, Eq, Drop)]
 #[cycle(claim)]
 pub enum ClaimValue {
@@ -84,7 +85,7 @@ pub struct Claim {
     pub value: ClaimValue,
 }
 
-/// What a token was found to say.
+/// What a validated token says.
 #[derive(Debug, PartialEq, Eq, Drop)]
 pub struct ValidationResponse {
     pub spiffe_id: Text,

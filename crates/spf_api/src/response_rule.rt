@@ -1,4 +1,4 @@
-//! What a response means: its SVIDs, bundles and CRLs, or the first rule that it breaks.
+//! The meaning of a response: its SVIDs, bundles and CRLs, or the first rule that it breaks.
 
 ghost use Rattle.std.specs.Prelude.{◌≡◌, map, MatchBool};
 ghost use Rattle.std.specs.Arc.{arc_value};
@@ -75,7 +75,7 @@ fn check_all_fields(alloc: Global, entries: &[SvidEntryView<'_>]) -> Result<(), 
     Ok(())
 }
 
-/// There is an SVID, and no entry lacks a field.
+/// Checks that there is an SVID, and that no entry lacks a field.
 #[tactic(auto, unfolding(crate::specs::Parsed::entries_rule))]
 fn check_entries(alloc: Global, entries: &[SvidEntryView<'_>]) -> Result<(), WorkloadApiError>
     ensures { Gives is_memory_api (λ _. tt) result (entries_rule (map svid_entry_of entries.now)) }
@@ -239,7 +239,7 @@ fn owned_svids(
     Ok(svids)
 }
 
-/// The SVIDs of the response in order. Its federated entries are not looked at.
+/// Returns the SVIDs of the response in order. Its federated entries are not read.
 #[tactic(auto, unfolding(crate::specs::Parsed::svids_of, crate::specs::Parsed::svids_and_bundles_of))]
 pub fn svids_from(alloc: Global, r: &ContextResponse) -> Result<Vec<X509Svid>, WorkloadApiError>
     ensures { Gives is_memory_api (λ v. v.items) result (svids_of r.now) }
@@ -249,7 +249,7 @@ pub fn svids_from(alloc: Global, r: &ContextResponse) -> Result<Vec<X509Svid>, W
     owned_svids(alloc, entries.as_slice())
 }
 
-/// The first SVID of the response, all of whose SVIDs are read.
+/// Returns the first SVID of the response, all of whose SVIDs are read.
 #[tactic(auto, unfolding(crate::specs::Parsed::first_svid_of))]
 pub fn svid_from(alloc: Global, r: &ContextResponse) -> Result<X509Svid, WorkloadApiError>
     ensures { Gives is_memory_api (λ s. s) result (first_svid_of r.now) }
@@ -261,7 +261,7 @@ pub fn svid_from(alloc: Global, r: &ContextResponse) -> Result<X509Svid, Workloa
     }
 }
 
-/// The bundles of the response, added in order.
+/// Returns the bundles of the response, of which a later one of a trust domain replaces an earlier one.
 #[tactic(auto, unfolding(crate::specs::Parsed::bundle_set_of))]
 pub fn bundle_set_from(
     alloc: Global,

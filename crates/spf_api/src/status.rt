@@ -1,4 +1,4 @@
-//! Statuses of gRPC, and how a transport fails.
+//! Statuses of gRPC, and errors of a transport.
 
 ghost use Rattle.std.specs.Prelude.{◌≡◌, None, Some};
 ghost use Rattle.std.specs.Option.{option_map};
@@ -10,7 +10,7 @@ use std::fmt;
 use std::marker::Model;
 use thiserror::Error;
 
-/// A status code of gRPC, whose number is its place here, from 0.
+/// A status code of gRPC. The codes have the numbers 0 to 16 in this order.
 #[derive(Clone, Copy, Debug, PartialEq, Eq, Hash)]
 pub enum GrpcStatusCode {
     Ok,
@@ -33,7 +33,7 @@ pub enum GrpcStatusCode {
 }
 
 impl GrpcStatusCode {
-    /// The code with that number.
+    /// Returns the code with that number, and None from 17 on.
     pub fn from_number(n: u8) -> Option<GrpcStatusCode>
         ensures { result ≡ code_at n }
     {
@@ -59,6 +59,7 @@ impl GrpcStatusCode {
         }
     }
 
+    /// Returns the name of the code, in lower case with underscores.
     pub fn as_str(self) -> &'static str
         ensures { result.now ≡ code_name self }
     {
@@ -95,7 +96,7 @@ impl fmt::Display for GrpcStatusCode {
     }
 }
 
-/// A status that refuses a call. Its source is a text for diagnosis alone.
+/// A status that refuses a call. Its source is a text that serves diagnosis alone.
 #[derive(Debug, PartialEq, Eq, Drop, Error)]
 #[error("gRPC status {code}: {message}")]
 pub struct GrpcStatusError {
@@ -156,7 +157,7 @@ impl GrpcStatusError {
         }
     }
 
-    /// The message alone.
+    /// Returns the message, and drops the rest.
     pub fn into_message(self) -> Text
         ensures { result ≡ self.message }
     {
@@ -164,7 +165,7 @@ impl GrpcStatusError {
     }
 }
 
-/// Why no connection came about, as a text for diagnosis.
+/// Why no connection was made, as a text that serves diagnosis alone.
 #[derive(Debug, PartialEq, Eq, Drop, Error)]
 #[error("gRPC transport connection failed: {source}")]
 pub struct TransportConnectError {
@@ -195,16 +196,19 @@ impl TransportConnectError {
     }
 }
 
-/// How a transport fails.
+/// Why a transport failed.
 #[derive(Debug, PartialEq, Eq, Drop, Error)]
 pub enum TransportError {
-    /// No call answers this.
+    /// The transport cannot reach endpoints of that scheme. No call of these crates returns this.
     #[error("unsupported endpoint transport: {scheme}")]
     UnsupportedEndpointTransport { scheme: Text },
+    /// The other side refused the call.
     #[error("{0}")]
     Status(GrpcStatusError),
+    /// No connection was made.
     #[error("{0}")]
     Connect(TransportConnectError),
+    /// Memory ran out.
     #[error("out of memory")]
     OutOfMemory,
 }
