@@ -3,10 +3,10 @@
 use super::rules::both;
 use crate::fixtures::{first_item, octets};
 use spf_api::{
-    ContextView, Response, ResponseKind, context_from, context_from_view, read_context_view,
-    read_payload, write_payload,
+    Claim, ClaimValue, ContextView, Response, ResponseKind, ValidationResponse, context_from,
+    context_from_view, context_from_view_sharing, read_context_view, read_payload, write_payload,
 };
-use spf_io::OutOfMemory;
+use spf_io::{List, OutOfMemory, Text};
 use std::alloc::Global;
 use std::test::Fail;
 
@@ -149,10 +149,67 @@ fn further_payloads(rt: HostRuntime) -> Result<(), Fail> {
     Ok(())
 }
 
+/// The payload of a validation with one claim, whose value is null in so many lists, each the one member of the next.
+fn nested_payload(alloc: Global, lists: usize) -> Result<Vec<u8>, Fail> {
+    let mut payload = Vec::new(alloc);
+    payload.extend_from_slice(b"\0\0\0\x01a\x01\0\0\0\x01\0\0\0\x01a")?;
+    for _ in 0..lists {
+        payload.extend_from_slice(b"\x06\0\0\0\x01")?;
+    }
+    payload.push(1)?;
+    Ok(payload)
+}
+
+/// What a payload with a claim of that depth lays out.
+fn nested_laid_out(alloc: Global, lists: usize) -> Result<&'static str, Fail> {
+    let payload = nested_payload(alloc, lists)?;
+    laid_out(alloc, ResponseKind::Validation, payload.as_slice())
+}
+
+/// A validation with one claim, whose value is null in so many lists.
+fn nested(alloc: Global, lists: usize) -> Result<Response, Fail> {
+    let mut value = ClaimValue::Null;
+    for _ in 0..lists {
+        let mut members = Vec::new(alloc);
+        members.push(value)?;
+        value = ClaimValue::Items(List::new(members));
+    }
+    let name = Text::copy_of(alloc, "a")?;
+    let mut claims = Vec::new(alloc);
+    claims.push(Claim { name, value })?;
+    Ok(Response::Validation(ValidationResponse {
+        spiffe_id: Text::copy_of(alloc, "a")?,
+        claims: Some(List::new(claims)),
+    }))
+}
+
+/// Whether such a validation is written as that payload.
+fn nested_is_written(alloc: Global, lists: usize) -> Result<bool, Fail> {
+    let wanted = nested_payload(alloc, lists)?;
+    match written(alloc, nested(alloc, lists)?) {
+        Ok(payload) => Ok(payload == wanted),
+        Err(OutOfMemory) => Ok(false),
+    }
+}
+
+/// Values of claims are at most 64 deep.
+#[test]
+fn deep_claims(rt: HostRuntime) -> Result<(), Fail> {
+    let alloc = rt.alloc();
+    for (lists, found, is_written) in [(63, "the same", true), (64, "nothing", false)] {
+        assert!(rt; nested_laid_out(alloc, lists)? == found, "{lists}");
+        assert!(rt; nested_is_written(alloc, lists)? == is_written, "{lists}");
+    }
+    Ok(())
+}
+
 /// Whether the view gives the context of the first item.
 fn gives_first_context(alloc: Global, view: ContextView<'_>) -> Result<bool, Fail> {
     let item = first_item(alloc)?;
-    Ok(both(context_from_view(alloc, &view), context_from(alloc, &item)))
+    let context = context_from(alloc, &item)?;
+    let shared = context_from_view_sharing(alloc, &view, Some(&context));
+    let same = both(context_from_view(alloc, &view), shared);
+    Ok(same && both(context_from_view(alloc, &view), context_from(alloc, &item)))
 }
 
 /// Whether the view of the payload gives the context of the first item; none where there is no view.
