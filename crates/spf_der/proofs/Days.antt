@@ -1,9 +1,9 @@
--- A day that the calendar has: as a test, and as `jiff` says it.
+-- A day that the calendar has: as a test, and as the calendar's library says it.
 use Rattle.std.proofs.Common.{◌≡◌, ℕ, ◌<◌, Bool, true, false, arith, refl, sym}
 use Rattle.std.specs.Prelude.{pos}
 use Rattle.std.proofs.lemmas.Bool.Decides.{nat_tests}
-use Rattle.jiff.specs.Words.{IsDate, IsYmd, epoch_day}
-use Rattle.jiff_core.specs.Calendar.{days_from_civil}
+use Rattle.jiff_core.specs.Calendar.{IsDate, days_from_civil}
+use Rattle.jiff_core.specs.Date.{IsYmd, epoch_day}
 use Rattle.jiff_core.specs.declared.civil.date.Date.{Date}
 use Rattle.spf_der.specs.Time.{is_day}
 

@@ -1,6 +1,7 @@
 pub mod Value
 pub mod Types
 pub mod Time
+pub mod DateTime
 pub mod Part
 pub mod Error
 pub mod Certificate

@@ -59,7 +59,7 @@ fn validity(bytes: &[u8]) -> Option<(i64, &[u8])>
     let (_start, times) = time(times)?;
     let (expiry, end) = time(times)?;
     if end.is_empty() {
-        Some((expiry, rest))
+        Some((expiry.unix_second(), rest))
     } else {
         None
     }

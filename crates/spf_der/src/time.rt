@@ -2,10 +2,29 @@
 ghost use Rattle.std.specs.Prelude.{◌≡◌, ◌<◌, IfSome};
 ghost use Rattle.std.specs.Option.{option_map};
 ghost use Rattle.spf_der.specs.Time as rules;
+ghost use Rattle.jiff_core.specs.Date.{epoch_day};
+ghost use Rattle.spf_der.specs.DateTime.{unix_second};
 ghost use Rattle.spf_der.specs.Time.{clock_of, day_number_of, moment_of, pair_of, time_at, unix_of};
 
 use crate::value::{GENERALIZED_TIME, UTC_TIME, value};
-use jiff::civil::Date;
+use jiff_core::civil::Date;
+
+/// A date and a second of its day.
+#[derive(Clone, Copy, Debug)]
+pub struct DateTime {
+    pub date: Date,
+    pub second: u32,
+}
+
+impl DateTime {
+    /// The Unix second, by one call of the calendar.
+    #[inline(always)]
+    pub fn unix_second(&self) -> i64
+        ensures { result ≡ unix_second self.now }
+    {
+        self.date.to_unix_epoch_day() as i64 * 86400 + self.second as i64
+    }
+}
 
 /// The number that two digits spell.
 #[inline(always)]
@@ -20,43 +39,43 @@ fn pair(tens: u8, ones: u8) -> Option<u8>
     }
 }
 
-/// The number of a day, counted from 1970-01-01, if the calendar has it.
+/// The date, if the calendar has it.
 #[inline(always)]
-fn day_number(year: u16, month: u8, day: u8) -> Option<i32>
+fn date(year: u16, month: u8, day: u8) -> Option<Date>
     requires year { year < 10000 }
     requires month { month < 100 }
     requires day { day < 100 }
-    ensures { result ≡ day_number_of year month day }
+    ensures { option_map epoch_day result ≡ day_number_of year month day }
 {
     match Date::new(year as i16, month as i8, day as i8) {
         Err(_) => None,
-        Ok(date) => Some(date.to_plain().to_unix_epoch_day()),
+        Ok(date) => Some(date),
     }
 }
 
-/// The Unix second of a date and a time of day, if there are such.
+/// A date and a time of day, if there are such.
 #[inline(always)]
 #[tactic(auto, unfolding(crate::specs::Time::moment_of))]
-fn moment(year: u16, month: u8, day: u8, hour: u8, minute: u8, second: u8) -> Option<i64>
+fn moment(year: u16, month: u8, day: u8, hour: u8, minute: u8, second: u8) -> Option<DateTime>
     requires year { year < 10000 }
     requires month { month < 100 }
     requires day { day < 100 }
-    ensures { result ≡ moment_of year month day hour minute second }
+    ensures { option_map unix_second result ≡ moment_of year month day hour minute second }
 {
     if hour > 23 || minute > 59 || second > 59 {
         return None;
     }
-    let day = day_number(year, month, day)?;
-    let seconds = (hour as u32 * 60 + minute as u32) * 60 + second as u32;
-    Some(day as i64 * 86400 + seconds as i64)
+    let date = date(year, month, day)?;
+    let second = (hour as u32 * 60 + minute as u32) * 60 + second as u32;
+    Some(DateTime { date, second })
 }
 
 /// `MMDDHHMMSSZ` in that year.
 #[inline(always)]
 #[tactic(auto, unfolding(crate::specs::Time::clock_of))]
-fn clock(year: u16, bytes: &[u8]) -> Option<i64>
+fn clock(year: u16, bytes: &[u8]) -> Option<DateTime>
     requires { year < 10000 }
-    ensures { result ≡ clock_of year bytes.now }
+    ensures { option_map unix_second result ≡ clock_of year bytes.now }
 {
     match bytes {
         [m, mm, d, dd, h, hh, n, nn, s, ss, z] => {
@@ -77,8 +96,8 @@ fn clock(year: u16, bytes: &[u8]) -> Option<i64>
 /// UTCTime (section 4.1.2.5.1): a year of two digits, from 1950 to 2049.
 #[inline(never)]
 #[tactic(auto, unfolding(crate::specs::Time::utc_time))]
-fn utc_time(contents: &[u8]) -> Option<i64>
-    ensures { result ≡ rules.utc_time contents.now }
+fn utc_time(contents: &[u8]) -> Option<DateTime>
+    ensures { option_map unix_second result ≡ rules.utc_time contents.now }
 {
     match contents {
         [y, yy, rest @ ..] => {
@@ -92,8 +111,8 @@ fn utc_time(contents: &[u8]) -> Option<i64>
 /// GeneralizedTime (section 4.1.2.5.2): a year of four digits.
 #[inline(never)]
 #[tactic(auto, unfolding(crate::specs::Time::generalized_time))]
-fn generalized_time(contents: &[u8]) -> Option<i64>
-    ensures { result ≡ rules.generalized_time contents.now }
+fn generalized_time(contents: &[u8]) -> Option<DateTime>
+    ensures { option_map unix_second result ≡ rules.generalized_time contents.now }
 {
     match contents {
         [c, cc, y, yy, rest @ ..] => {
@@ -105,10 +124,10 @@ fn generalized_time(contents: &[u8]) -> Option<i64>
     }
 }
 
-/// The Unix second of a Time, by its tag and its contents octets.
+/// A Time, by its tag and its contents octets.
 #[inline(always)]
-fn unix_second(tag: u8, contents: &[u8]) -> Option<i64>
-    ensures { result ≡ unix_of tag contents.now }
+fn tagged_time(tag: u8, contents: &[u8]) -> Option<DateTime>
+    ensures { option_map unix_second result ≡ unix_of tag contents.now }
 {
     match tag {
         UTC_TIME => utc_time(contents),
@@ -117,13 +136,13 @@ fn unix_second(tag: u8, contents: &[u8]) -> Option<i64>
     }
 }
 
-/// The Unix second of the Time at the front, and what follows it.
+/// The Time at the start of `bytes`, and what follows it.
 #[inline(always)]
 #[tactic(auto, unfolding(crate::specs::Time::time_at))]
-pub fn time(bytes: &[u8]) -> Option<(i64, &[u8])>
-    ensures { option_map (λ x. (x.0, x.1.now)) result ≡ time_at bytes.now }
+pub fn time(bytes: &[u8]) -> Option<(DateTime, &[u8])>
+    ensures { option_map (λ x. (unix_second x.0, x.1.now)) result ≡ time_at bytes.now }
 {
     let (tag, contents, rest) = value(bytes)?;
-    let moment = unix_second(tag, contents)?;
+    let moment = tagged_time(tag, contents)?;
     Some((moment, rest))
 }

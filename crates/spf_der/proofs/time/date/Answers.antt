@@ -1,11 +1,10 @@
-use Rattle.std.proofs.Common.{◌≡◌, Some, arith, w8, w16, w32, refl, ap, ◌∙◌}
+use Rattle.std.proofs.Common.{◌≡◌, Some, arith, w8, w16, refl, ap}
 use Rattle.std.specs.Prelude.{pos}
-use Rattle.std.proofs.lemmas.Int.{to_z_pos, to_z-of_z}
-use mir.Val.{to_z, SFits}
+use Rattle.std.proofs.lemmas.Int.{to_z_pos}
+use mir.Val.{to_z}
 use Rattle.spf_der.specs.Time.{day_number_of}
 use Rattle.spf_der.proofs.Days.{is_day_from, not_day_from, same_day}
-use Rattle.jiff.specs.Words.{epoch_day}
-use Rattle.spf_der.proofs.time.day_number.Goals as goal
+use Rattle.spf_der.proofs.time.date.Goals as goal
 
 pub returns-in-Err : goal.returns-in-Err
 unfolding day_number_of
@@ -23,7 +22,6 @@ returns-in-Ok c =
     let em : to_z w8 c.args.month ≡ pos c.args.month = to_z_pos w8 c.args.month (omega arith) in
     let ed : to_z w8 c.args.day ≡ pos c.args.day = to_z_pos w8 c.args.day (omega arith) in
     let is = rw (ey, em, ed) at c.in-Ok.ensures.value in
-    let fits : SFits w32 c.to_unix_epoch_day.result = omega (arith, c.to_unix_epoch_day.ensures.bound.0, c.to_unix_epoch_day.ensures.bound.1) in
     let has = rw (ey, em, ed) at (c.in-Ok.ensures.succeeds.0 refl) in
     rw (is_day_from c.args.year c.args.month c.args.day has)
-    (ap Some (to_z-of_z w32 c.to_unix_epoch_day.result fits ∙ c.to_unix_epoch_day.ensures.value ∙ ap epoch_day c.to_plain.ensures ∙ same_day c.in-Ok.date c.args.year c.args.month c.args.day is))
+    (ap Some (same_day c.in-Ok.date c.args.year c.args.month c.args.day is))
