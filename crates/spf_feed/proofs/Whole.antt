@@ -27,7 +27,7 @@ no_kind phase allowed old new errors.BadFrame h = absurd h
 no_kind phase allowed old new errors.ReadFault h = ([], h, ((λ k p rest ok short e. absurd cc), refl, λ e. refl))
 no_kind phase allowed old new errors.OutOfMemory h = absurd h
 
--- no frame is begun by a kind that is not allowed
+-- no frame is synced by a kind that is not allowed
 other_kind : (phase : Phase) (kind : ℕ) (ys : List ℕ) → allows phase kind ≡ false → NoFrame phase (kind ∷ ys) × (frame_front (allows phase) (kind ∷ ys) ≡ kind ∷ [])
 unfolding frame_front
 other_kind phase kind ys not_it = (

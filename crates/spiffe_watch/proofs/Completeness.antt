@@ -1,6 +1,6 @@
 -- A whole session is followed to its end.
 use Rattle.std.proofs.Common.{◌≡◌, ℕ, true, ◌==◌, ◌||◌, List, [], length, Option, None, Some, Result, Ok, Err, inl, inr, sym, ap, ◌∙◌, subst}
-use Rattle.std.specs.Prelude.{◌⊎◌, IsTrue}
+use Rattle.std.specs.Prelude.{◌⊎◌, IfSome, IsTrue}
 use Rattle.spf_io.specs.Outside.{Rose}
 use Rattle.spf_view.specs.Views.{has_synced}
 use Rattle.spf_view.specs.Sessions.{Whole, end_by, end_of, is_free, IsEndOf, closed_of, refusal_of, onto}
@@ -8,13 +8,14 @@ use Rattle.spf_view.proofs.SessionLemmas.{reading_same}
 use Rattle.spf_feed.specs.Items.{Event, subject}
 use Rattle.spf_feed.specs.Run.{stream, end_for}
 use Rattle.spf_feed.specs.declared.follow_error.FollowError.{FollowError}
-use Rattle.spf_feed.specs.declared.follow_error.FollowError.TheVariants as answers
-use Rattle.spiffe_watch.specs.declared.fault.Fault.{Fault}
-use Rattle.spiffe_watch.specs.declared.words.Command.{Command}
-use Rattle.spiffe_watch.specs.declared.words.Command.TheVariants as commands
+use Rattle.spf_feed.specs.declared.follow_error.FollowError.TheVariants as errors
+use Rattle.spiffe_watch.specs.declared.exit_reason.ExitReason.{ExitReason}
+use Rattle.spiffe_watch.specs.declared.arguments.Command.{Command}
+use Rattle.spiffe_watch.specs.declared.arguments.Command.TheVariants as commands
 use Rattle.spiffe_watch.specs.Causes.{HasCauses}
 use Rattle.spiffe_watch.specs.Setting.{Setting}
-use Rattle.spiffe_watch.specs.Headline.{rules_for, Ran, Does, ended_by, status_of_end, IsWholeSession, Completes}
+use Rattle.spiffe_watch.specs.Streams.{Failed, Streams}
+use Rattle.spiffe_watch.specs.Headline.{rules_for, FollowsSession, Does, ended_by, status_of_end, IsWholeSession, Completes}
 
 whole_end : (setting : Setting) (es fs : List Event) (rest other : List ℕ) → es ≡ fs → rest ≡ other → refusal_of (stream (rules_for setting)) [] es ≡ None → has_synced (subject (rules_for setting)) (onto [] es) ≡ true
     → IsTrue (closed_of (stream (rules_for setting)) es || length rest == 0) → end_of (stream (rules_for setting)) setting.max_frames fs other ≡ Whole (length es)
@@ -23,34 +24,34 @@ whole_end setting es fs rest other same left calm accepted whole =
     ∙ (λ i. end_by (record { refusal = calm i; whole = whole i; synced = accepted i; full = length es == setting.max_frames; count = length es }))
 
 -- an answer that is no refusal to read the session whole
-fails_freely : (answer : Result ℕ FollowError) (r : Result (Unit {0}) Fault) (reads reads' writes writes' n : ℕ) → r ≡ ended_by answer → HasCauses reads reads' writes writes' r → (Rose reads reads' → ⊥) → (Rose writes writes' → ⊥)
+fails_freely : (answer : Result ℕ FollowError) (r : Result (Unit {0}) ExitReason) (reads reads' writes writes' n : ℕ) → r ≡ ended_by answer → HasCauses reads reads' writes writes' r → (Rose reads reads' → ⊥) → (Rose writes writes' → ⊥)
     → IsTrue (is_free (end_for answer)) → status_of_end r ≡ 2
 fails_freely (Ok count) r reads reads' writes writes' n is causes calm quiet free = absurd cc
-fails_freely (Err answers.OutOfMemory) r reads reads' writes writes' n is causes calm quiet free = ap status_of_end is
-fails_freely (Err answers.ReadFault) r reads reads' writes writes' n is causes calm quiet free = absurd (calm (causes.read is))
-fails_freely (Err answers.WriteFault) r reads reads' writes writes' n is causes calm quiet free = absurd (quiet (causes.write is))
-fails_freely (Err answers.SessionTooLong) r reads reads' writes writes' n is causes calm quiet free = absurd cc
-fails_freely (Err (answers.BadFrame frame)) r reads reads' writes writes' n is causes calm quiet free = absurd cc
-fails_freely (Err (answers.Source e)) r reads reads' writes writes' n is causes calm quiet free = absurd cc
-fails_freely (Err (answers.UnsupportedRpc e)) r reads reads' writes writes' n is causes calm quiet free = absurd cc
-fails_freely (Err answers.InitialSyncTimeout) r reads reads' writes writes' n is causes calm quiet free = absurd cc
-fails_freely (Err answers.Closed) r reads reads' writes writes' n is causes calm quiet free = absurd cc
-fails_freely (Err answers.NeverSynced) r reads reads' writes writes' n is causes calm quiet free = absurd cc
+fails_freely (Err errors.OutOfMemory) r reads reads' writes writes' n is causes calm quiet free = ap status_of_end is
+fails_freely (Err errors.ReadFault) r reads reads' writes writes' n is causes calm quiet free = absurd (calm (causes.read is))
+fails_freely (Err errors.WriteFault) r reads reads' writes writes' n is causes calm quiet free = absurd (quiet (causes.write is))
+fails_freely (Err errors.SessionTooLong) r reads reads' writes writes' n is causes calm quiet free = absurd cc
+fails_freely (Err (errors.BadFrame frame)) r reads reads' writes writes' n is causes calm quiet free = absurd cc
+fails_freely (Err (errors.Source e)) r reads reads' writes writes' n is causes calm quiet free = absurd cc
+fails_freely (Err (errors.UnsupportedRpc e)) r reads reads' writes writes' n is causes calm quiet free = absurd cc
+fails_freely (Err errors.InitialSyncTimeout) r reads reads' writes writes' n is causes calm quiet free = absurd cc
+fails_freely (Err errors.Closed) r reads reads' writes writes' n is causes calm quiet free = absurd cc
+fails_freely (Err errors.NeverSynced) r reads reads' writes writes' n is causes calm quiet free = absurd cc
 
-ends_whole : (answer : Result ℕ FollowError) (r : Result (Unit {0}) Fault) (m : ℕ) → r ≡ ended_by answer → end_for answer ≡ Whole m → status_of_end r ≡ 0
+ends_whole : (answer : Result ℕ FollowError) (r : Result (Unit {0}) ExitReason) (m : ℕ) → r ≡ ended_by answer → end_for answer ≡ Whole m → status_of_end r ≡ 0
 ends_whole (Ok count) r m is e = ap status_of_end is
-ends_whole (Err answers.OutOfMemory) r m is e = absurd cc
-ends_whole (Err answers.ReadFault) r m is e = absurd cc
-ends_whole (Err answers.WriteFault) r m is e = absurd cc
-ends_whole (Err answers.SessionTooLong) r m is e = absurd cc
-ends_whole (Err (answers.BadFrame frame)) r m is e = absurd cc
-ends_whole (Err (answers.Source x)) r m is e = absurd cc
-ends_whole (Err (answers.UnsupportedRpc x)) r m is e = absurd cc
-ends_whole (Err answers.InitialSyncTimeout) r m is e = absurd cc
-ends_whole (Err answers.Closed) r m is e = absurd cc
-ends_whole (Err answers.NeverSynced) r m is e = absurd cc
+ends_whole (Err errors.OutOfMemory) r m is e = absurd cc
+ends_whole (Err errors.ReadFault) r m is e = absurd cc
+ends_whole (Err errors.WriteFault) r m is e = absurd cc
+ends_whole (Err errors.SessionTooLong) r m is e = absurd cc
+ends_whole (Err (errors.BadFrame frame)) r m is e = absurd cc
+ends_whole (Err (errors.Source x)) r m is e = absurd cc
+ends_whole (Err (errors.UnsupportedRpc x)) r m is e = absurd cc
+ends_whole (Err errors.InitialSyncTimeout) r m is e = absurd cc
+ends_whole (Err errors.Closed) r m is e = absurd cc
+ends_whole (Err errors.NeverSynced) r m is e = absurd cc
 
-completes_by : (setting : Setting) (bytes : List ℕ) (left' held held' : Option (List ℕ)) (r : Result (Unit {0}) Fault) (reads reads' writes writes' : ℕ) → Ran setting (Some bytes) left' held held' r → HasCauses reads reads' writes writes' r
+completes_by : (setting : Setting) (bytes : List ℕ) (left' held held' : Option (List ℕ)) (r : Result (Unit {0}) ExitReason) (reads reads' writes writes' : ℕ) → FollowsSession setting (Some bytes) left' held held' r → HasCauses reads reads' writes writes' r
     → IsWholeSession setting bytes → (Rose reads reads' → ⊥) → (Rose writes writes' → ⊥) → (status_of_end r ≡ 0) ⊎ (status_of_end r ≡ 2)
 completes_by setting bytes left' held held' r reads reads' writes writes' ran causes whole calm quiet = by_answer ran.followed.end
   where
@@ -60,11 +61,16 @@ completes_by setting bytes left' held held' r reads reads' writes writes' ran ca
         let same = reading_same (stream (rules_for setting)) setting.max_frames bytes whole.es ran.followed.es whole.rest ended.rest whole.reading ended.reading in
         inl (ends_whole ran.answer r (length whole.es) ran.is (ended.is ∙ whole_end setting whole.es ran.followed.es whole.rest ended.rest same.0 same.1 whole.calm whole.accepted whole.whole))
 
-pub completes : (command : Option Command) (left left' held held' : Option (List ℕ)) (r : Result (Unit {0}) Fault) (reads reads' writes writes' n : ℕ) → n ≡ status_of_end r → Does command left left' held held' r → HasCauses reads reads' writes writes' r
-    → Completes command left reads reads' writes writes' n
-completes (Some (commands.X509 setting)) (Some bytes) left' held held' r reads reads' writes writes' n is does causes =
-    λ whole calm quiet. subst (λ k. (k ≡ 0) ⊎ (k ≡ 2)) (sym is) (completes_by setting bytes left' held held' r reads reads' writes writes' does causes whole calm quiet)
-completes (Some (commands.X509 setting)) None left' held held' r reads reads' writes writes' n is does causes = tt
-completes (Some (commands.Make words)) left left' held held' r reads reads' writes writes' n is does causes = tt
-completes (Some (commands.Bench words)) left left' held held' r reads reads' writes writes' n is does causes = tt
-completes None left left' held held' r reads reads' writes writes' n is does causes = tt
+pub completes : (command : Option Command) (before after : Streams) (r : Result (Unit {0}) ExitReason) (n : ℕ) → n ≡ status_of_end r → Does command before after r
+    → HasCauses before.input.failures after.input.failures before.output.failures after.output.failures r → Completes command before after n
+completes (Some (commands.X509 setting)) before after r n is does causes = by_bytes before.input.bytes does
+  where
+    by_bytes : (bytes : Option (List ℕ)) → FollowsSession setting bytes after.input.bytes before.output.bytes after.output.bytes r
+        → IfSome bytes (λ bytes. IsWholeSession setting bytes → (Failed before.input after.input → ⊥) → (Failed before.output after.output → ⊥) → (n ≡ 0) ⊎ (n ≡ 2))
+    by_bytes None ran = tt
+    by_bytes (Some bytes) ran =
+        λ whole calm quiet. subst (λ k. (k ≡ 0) ⊎ (k ≡ 2)) (sym is)
+        (completes_by setting bytes after.input.bytes before.output.bytes after.output.bytes r before.input.failures after.input.failures before.output.failures after.output.failures ran causes whole calm quiet)
+completes (Some (commands.Make arguments)) before after r n is does causes = tt
+completes (Some (commands.Bench arguments)) before after r n is does causes = tt
+completes None before after r n is does causes = tt

@@ -98,18 +98,18 @@ certificate_cut spec time size =
     ∙ ap (λ (l : List ℕ). outer (suc (length (length_octets (tbs_size spec)) + tbs_size spec) + 10) ++ l) inner
     ∙ regroup_end (outer (suc (length (length_octets (tbs_size spec)) + tbs_size spec) + 10)) head (tbs_before spec) time (tbs_after spec) algorithm_text no_bits
 
--- the octets before the place, and those behind so many more, of a certificate that expires first
-pub template_cut : (spec : CertSpec) (text : List ℕ) (place : ℕ) → IsCertificateOf spec text → spec.expiry ≡ pos 2000000000 → place ≡ length (before spec)
-    → (min place (length text) ≡ place) × (take place text ≡ before spec) × (min 15 (length (drop place text)) ≡ 15) × (drop 15 (drop place text) ≡ after spec)
-template_cut spec text place is expires at =
+-- the octets before the offset, and those behind so many more, of a certificate that expires first
+pub template_cut : (spec : CertSpec) (text : List ℕ) (offset : ℕ) → IsCertificateOf spec text → spec.expiry ≡ pos 2000000000 → offset ≡ length (before spec)
+    → (min offset (length text) ≡ offset) × (take offset text ≡ before spec) × (min 15 (length (drop offset text)) ≡ 15) × (drop 15 (drop offset text) ≡ after spec)
+template_cut spec text offset is expires at =
     let P : ℤ → Type 0 = λ z. IsTimeText z is.time in
     let size : length is.time ≡ 15 = time_length is.time (subst P expires is.expiry) in
     let cut : text ≡ before spec ++ (is.time ++ after spec) = is.spelled ∙ certificate_cut spec is.time size in
     let long : length text ≡ length (before spec) + (15 + length (after spec)) =
     ap length cut ∙ length-append (before spec) (is.time ++ after spec) ∙ ap (λ (n : ℕ). length (before spec) + n) (length-append is.time (after spec) ∙ ap (λ (n : ℕ). n + length (after spec)) size) in
-    let front : take place text ≡ before spec = ap (take place) cut ∙ ap (λ (n : ℕ). take n (before spec ++ (is.time ++ after spec))) at ∙ take-append_seam (before spec) (is.time ++ after spec) in
-    let rest : drop place text ≡ is.time ++ after spec = ap (drop place) cut ∙ ap (λ (n : ℕ). drop n (before spec ++ (is.time ++ after spec))) at ∙ drop-append_seam (before spec) (is.time ++ after spec) in
-    let room : length (drop place text) ≡ 15 + length (after spec) = ap length rest ∙ length-append is.time (after spec) ∙ ap (λ (n : ℕ). n + length (after spec)) size in
-    let behind : drop 15 (drop place text) ≡ after spec =
+    let front : take offset text ≡ before spec = ap (take offset) cut ∙ ap (λ (n : ℕ). take n (before spec ++ (is.time ++ after spec))) at ∙ take-append_seam (before spec) (is.time ++ after spec) in
+    let rest : drop offset text ≡ is.time ++ after spec = ap (drop offset) cut ∙ ap (λ (n : ℕ). drop n (before spec ++ (is.time ++ after spec))) at ∙ drop-append_seam (before spec) (is.time ++ after spec) in
+    let room : length (drop offset text) ≡ 15 + length (after spec) = ap length rest ∙ length-append is.time (after spec) ∙ ap (λ (n : ℕ). n + length (after spec)) size in
+    let behind : drop 15 (drop offset text) ≡ after spec =
     ap (drop 15) rest ∙ ap (λ (n : ℕ). drop n (is.time ++ after spec)) (sym size) ∙ drop-append_seam is.time (after spec) in
     (omega (arith, at, long), front, omega (arith, room), behind)

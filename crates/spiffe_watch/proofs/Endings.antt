@@ -1,44 +1,44 @@
 -- Status 1 comes exactly with bad words.
 use Rattle.std.proofs.Common.{◌≡◌, ◌∙◌, refl, true, false, Option, None, Some, Result, Ok, Err, arith}
 use Rattle.std.specs.Prelude.{◌↔◌, IfErr}
-use Rattle.spiffe_watch.specs.declared.fault.Fault.{Fault}
-use Rattle.spiffe_watch.specs.declared.fault.Fault.TheVariants as faults
-use Rattle.spiffe_watch.specs.Causes.{is_sink_fault, is_words, status}
+use Rattle.spiffe_watch.specs.declared.exit_reason.ExitReason.{ExitReason}
+use Rattle.spiffe_watch.specs.declared.exit_reason.ExitReason.TheVariants as reasons
+use Rattle.spiffe_watch.specs.Causes.{is_output_failure, is_bad_arguments, status}
 
-pub words_status : (f : Fault) → status f ≡ 1 → f ≡ faults.Words
-words_status faults.Words h = refl
-words_status faults.OutOfMemory h = absurd (omega (arith, h))
-words_status faults.Read h = absurd (omega (arith, h))
-words_status faults.Write h = absurd (omega (arith, h))
-words_status faults.SessionTooLong h = absurd (omega (arith, h))
-words_status (faults.BadFrame frame) h = absurd (omega (arith, h))
-words_status faults.Rejected h = absurd (omega (arith, h))
-words_status faults.Unsupported h = absurd (omega (arith, h))
-words_status faults.TimedOut h = absurd (omega (arith, h))
-words_status faults.Closed h = absurd (omega (arith, h))
-words_status faults.NeverSynced h = absurd (omega (arith, h))
+pub bad_arguments_status : (f : ExitReason) → status f ≡ 1 → f ≡ reasons.BadArguments
+bad_arguments_status reasons.BadArguments h = refl
+bad_arguments_status reasons.OutOfMemory h = absurd (omega (arith, h))
+bad_arguments_status reasons.ReadFailed h = absurd (omega (arith, h))
+bad_arguments_status reasons.WriteFailed h = absurd (omega (arith, h))
+bad_arguments_status reasons.SessionTooLong h = absurd (omega (arith, h))
+bad_arguments_status (reasons.BadFrame frame) h = absurd (omega (arith, h))
+bad_arguments_status reasons.Rejected h = absurd (omega (arith, h))
+bad_arguments_status reasons.Unsupported h = absurd (omega (arith, h))
+bad_arguments_status reasons.TimedOut h = absurd (omega (arith, h))
+bad_arguments_status reasons.Closed h = absurd (omega (arith, h))
+bad_arguments_status reasons.NeverSynced h = absurd (omega (arith, h))
 
 -- an ending of words that are those of the program
-pub words_good : {A : Type 0} (r : Result (Unit {0}) Fault) (o : Option A) (x : A) → IfErr r (λ f. is_words f ≡ false) → Some x ≡ o → (r ≡ Err faults.Words) ↔ (o ≡ None)
-words_good r o x h e = (λ w. absurd (bad (rw w at h)), λ n. absurd (none (e ∙ n)))
+pub arguments_good : {A : Type 0} (r : Result (Unit {0}) ExitReason) (o : Option A) (x : A) → IfErr r (λ f. is_bad_arguments f ≡ false) → Some x ≡ o → (r ≡ Err reasons.BadArguments) ↔ (o ≡ None)
+arguments_good r o x h e = (λ w. absurd (bad (rw w at h)), λ n. absurd (none (e ∙ n)))
   where
-    bad : IfErr {T = Unit {0}} (Err faults.Words) (λ f. is_words f ≡ false) → ⊥
+    bad : IfErr {T = Unit {0}} (Err reasons.BadArguments) (λ f. is_bad_arguments f ≡ false) → ⊥
     bad g = cc
 
     none : Some x ≡ None → ⊥
     none g = cc
 
 -- an ending that is no more than a fault of the sink
-pub no_words : (r : Result (Unit {0}) Fault) → IfErr r (λ f. is_sink_fault f ≡ true) → IfErr r (λ f. is_words f ≡ false)
-no_words (Ok done) h = tt
-no_words (Err faults.Words) h = absurd cc
-no_words (Err faults.OutOfMemory) h = refl
-no_words (Err faults.Read) h = absurd cc
-no_words (Err faults.Write) h = refl
-no_words (Err faults.SessionTooLong) h = absurd cc
-no_words (Err (faults.BadFrame frame)) h = absurd cc
-no_words (Err faults.Rejected) h = absurd cc
-no_words (Err faults.Unsupported) h = absurd cc
-no_words (Err faults.TimedOut) h = absurd cc
-no_words (Err faults.Closed) h = absurd cc
-no_words (Err faults.NeverSynced) h = absurd cc
+pub no_bad_arguments : (r : Result (Unit {0}) ExitReason) → IfErr r (λ f. is_output_failure f ≡ true) → IfErr r (λ f. is_bad_arguments f ≡ false)
+no_bad_arguments (Ok done) h = tt
+no_bad_arguments (Err reasons.BadArguments) h = absurd cc
+no_bad_arguments (Err reasons.OutOfMemory) h = refl
+no_bad_arguments (Err reasons.ReadFailed) h = absurd cc
+no_bad_arguments (Err reasons.WriteFailed) h = refl
+no_bad_arguments (Err reasons.SessionTooLong) h = absurd cc
+no_bad_arguments (Err (reasons.BadFrame frame)) h = absurd cc
+no_bad_arguments (Err reasons.Rejected) h = absurd cc
+no_bad_arguments (Err reasons.Unsupported) h = absurd cc
+no_bad_arguments (Err reasons.TimedOut) h = absurd cc
+no_bad_arguments (Err reasons.Closed) h = absurd cc
+no_bad_arguments (Err reasons.NeverSynced) h = absurd cc

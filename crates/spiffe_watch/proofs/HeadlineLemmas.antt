@@ -1,19 +1,20 @@
 -- From what following a session says to the headline.
 use Rattle.std.proofs.Common.{◌≡◌, ap, ◌∙◌, refl, ℕ, Bool, true, false, List, [], ◌∷◌, ◌++◌, length, take, Option, None, Some, is_some, Result, Ok, Err, inl, inr, arith, subst, take_all}
-use Rattle.std.specs.Prelude.{if◌then◌else◌, IsOk}
+use Rattle.std.specs.Prelude.{if◌then◌else◌, IfSome, IsOk}
 use Rattle.std.specs.Borrow.{Bor}
 use Rattle.std.specs.Option.{option_map}
 use Rattle.spf_view.specs.Sessions.{End, Whole, end_by, IsEndOf, refusal_of, all_of, Grows, GrowsUpTo, Followed}
 use Rattle.spf_feed.specs.Items.{Event, Rules}
 use Rattle.spf_feed.specs.Run.{stream, outputs, end_for}
 use Rattle.spiffe_watch.specs.Setting.{Setting}
+use Rattle.spiffe_watch.specs.Streams.{Streams}
 use Rattle.spf_view.proofs.FollowLemmas.{followed_early}
 use Rattle.spf_feed.specs.declared.follow_error.FollowError.{FollowError}
-use Rattle.spf_feed.specs.declared.follow_error.FollowError.TheVariants as answers
-use Rattle.spiffe_watch.specs.declared.fault.Fault.{Fault}
-use Rattle.spiffe_watch.specs.declared.words.Command.{Command}
-use Rattle.spiffe_watch.specs.declared.words.Command.TheVariants as commands
-use Rattle.spiffe_watch.specs.Headline.{rules_for, ports, FollowedBy, lines_of, Shows, Ran, Does, Headline, ended_by}
+use Rattle.spf_feed.specs.declared.follow_error.FollowError.TheVariants as errors
+use Rattle.spiffe_watch.specs.declared.exit_reason.ExitReason.{ExitReason}
+use Rattle.spiffe_watch.specs.declared.arguments.Command.{Command}
+use Rattle.spiffe_watch.specs.declared.arguments.Command.TheVariants as commands
+use Rattle.spiffe_watch.specs.Headline.{rules_for, ports, FollowedBy, lines_of, PrintsSession, FollowsSession, Does, Headline, ended_by}
 
 -- a whole session is the end of a reading without a refusal, that is whole and has an accepted event
 pub record IsWhole {A : Type 0} (x : Option A) (whole synced : Bool) : Type 0 where
@@ -57,10 +58,10 @@ counted_by None false synced false n m h = absurd cc
 
 -- an answer that is Ok shows a whole session, and counts its events
 pub counted : (setting : Setting) (bytes : List ℕ) (left' held held' : Option (List ℕ)) (count : ℕ) → FollowedBy setting (Some bytes) left' held held' (Ok count)
-    → (s : Shows setting bytes held held') × (count ≡ length s.session.es)
+    → (s : PrintsSession setting bytes held held') × (count ≡ length s.session.es)
 counted setting bytes left' held held' count f = elim f.end [ inl free ↦ absurd cc | inr ended ↦ by_end ended ]
   where
-    by_end : IsEndOf (stream (rules_for setting)) setting.max_frames bytes f.es (Whole count) → (s : Shows setting bytes held held') × (count ≡ length s.session.es)
+    by_end : IsEndOf (stream (rules_for setting)) setting.max_frames bytes f.es (Whole count) → (s : PrintsSession setting bytes held held') × (count ≡ length s.session.es)
     by_end ended =
         let w = whole_by _ _ _ _ (length f.es) count ended.is in (
           record {
@@ -70,12 +71,12 @@ counted setting bytes left' held held' count f = elim f.end [ inl free ↦ absur
           counted_by _ _ _ _ (length f.es) count ended.is,
         )
 
-pub shows : (setting : Setting) (bytes : List ℕ) (left' held held' : Option (List ℕ)) (count : ℕ) → FollowedBy setting (Some bytes) left' held held' (Ok count) → Shows setting bytes held held'
+pub shows : (setting : Setting) (bytes : List ℕ) (left' held held' : Option (List ℕ)) (count : ℕ) → FollowedBy setting (Some bytes) left' held held' (Ok count) → PrintsSession setting bytes held held'
 shows setting bytes left' held held' count f = (counted setting bytes left' held held' count f).0
 
 -- how following ended, and the rules of its picker
-pub ran : (setting : Setting) (left left' held held' : Option (List ℕ)) (answer : Result ℕ FollowError) (r : Result (Unit {0}) Fault) (rules : Rules) → rules ≡ rules_for setting
-    → Followed (stream rules) (outputs rules) setting.max_frames (ports left held) (ports left' held') (end_for answer) → r ≡ ended_by answer → Ran setting left left' held held' r
+pub ran : (setting : Setting) (left left' held held' : Option (List ℕ)) (answer : Result ℕ FollowError) (r : Result (Unit {0}) ExitReason) (rules : Rules) → rules ≡ rules_for setting
+    → Followed (stream rules) (outputs rules) setting.max_frames (ports left held) (ports left' held') (end_for answer) → r ≡ ended_by answer → FollowsSession setting left left' held held' r
 ran setting left left' held held' answer r rules same f is = record {
   answer = answer;
   followed = subst (λ x. Followed (stream x) (outputs x) setting.max_frames (ports left held) (ports left' held') (end_for answer)) same f;
@@ -83,24 +84,27 @@ ran setting left left' held held' answer r rules same f is = record {
 }
 
 -- memory ran out before anything was read
-pub ran_early : (setting : Setting) (left held : Option (List ℕ)) (r : Result (Unit {0}) Fault) → r ≡ ended_by (Err answers.OutOfMemory) → Ran setting left left held held r
-ran_early setting left held r is = record { answer = Err answers.OutOfMemory; followed = followed_early (stream (rules_for setting)) (outputs (rules_for setting)) setting.max_frames (ports left held); is = is }
+pub ran_early : (setting : Setting) (left held : Option (List ℕ)) (r : Result (Unit {0}) ExitReason) → r ≡ ended_by (Err errors.OutOfMemory) → FollowsSession setting left left held held r
+ran_early setting left held r is = record { answer = Err errors.OutOfMemory; followed = followed_early (stream (rules_for setting)) (outputs (rules_for setting)) setting.max_frames (ports left held); is = is }
 
 -- status 0 is an answer that is Ok
-pub ended_well : (answer : Result ℕ FollowError) (end : Result (Unit {0}) Fault) → end ≡ ended_by answer → end ≡ Ok tt → IsOk answer
+pub ended_well : (answer : Result ℕ FollowError) (end : Result (Unit {0}) ExitReason) → end ≡ ended_by answer → end ≡ Ok tt → IsOk answer
 ended_well (Ok count) end is well = refl
 ended_well (Err e) end is well = absurd cc
 
-ran_well : (setting : Setting) (bytes : List ℕ) (left' held held' : Option (List ℕ)) (answer : Result ℕ FollowError) → FollowedBy setting (Some bytes) left' held held' answer → IsOk answer → Shows setting bytes held held'
+ran_well : (setting : Setting) (bytes : List ℕ) (left' held held' : Option (List ℕ)) (answer : Result ℕ FollowError) → FollowedBy setting (Some bytes) left' held held' answer → IsOk answer → PrintsSession setting bytes held held'
 ran_well setting bytes left' held held' (Ok count) f ok = shows setting bytes left' held held' count f
 ran_well setting bytes left' held held' (Err e) f ok = absurd cc
 
-pub headline : (command : Option Command) (left left' held held' : Option (List ℕ)) (end : Result (Unit {0}) Fault) → Does command left left' held held' end → end ≡ Ok tt → Headline command left held held'
-headline (Some (commands.X509 setting)) (Some bytes) left' held held' end does well = ran_well setting bytes left' held held' does.answer does.followed (ended_well does.answer end does.is well)
-headline (Some (commands.X509 setting)) None left' held held' end does well = tt
-headline (Some (commands.Make words)) left left' held held' end does well = tt
-headline (Some (commands.Bench words)) left left' held held' end does well = tt
-headline None left left' held held' end does well = tt
+pub headline : (command : Option Command) (before after : Streams) (end : Result (Unit {0}) ExitReason) → Does command before after end → end ≡ Ok tt → Headline command before after
+headline (Some (commands.X509 setting)) before after end does well = by_bytes before.input.bytes does
+  where
+    by_bytes : (bytes : Option (List ℕ)) → FollowsSession setting bytes after.input.bytes before.output.bytes after.output.bytes end → IfSome bytes (λ bytes. PrintsSession setting bytes before.output.bytes after.output.bytes)
+    by_bytes None ran = tt
+    by_bytes (Some bytes) ran = ran_well setting bytes after.input.bytes before.output.bytes after.output.bytes ran.answer ran.followed (ended_well ran.answer end ran.is well)
+headline (Some (commands.Make arguments)) before after end does well = tt
+headline (Some (commands.Bench arguments)) before after end does well = tt
+headline None before after end does well = tt
 
 -- a function of what a shared optional value holds
 pub shared_map : {A B : Type 0} (f : A → B) (r : Option (Bor A)) (p : Option A) → option_map (λ x. x.now) r ≡ p → option_map (λ x. f x.now) r ≡ option_map f p

@@ -7,13 +7,13 @@ pub mod Settings
 pub mod HeadlineLemmas
 pub mod Said
 pub mod Cut
-pub mod MadeLemmas
+pub mod GeneratedLemmas
 pub mod NumberTexts
 pub mod Searched
 pub mod TallyLemmas
-pub mod WordLemmas
+pub mod LineLemmas
 pub mod RevisionShown
 pub mod Tallied
 pub mod PutLemmas
 pub mod Summed
-pub mod MadeRows
+pub mod MadeSessionRows

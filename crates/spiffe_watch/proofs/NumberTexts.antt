@@ -5,7 +5,7 @@ use Rattle.std.proofs.lemmas.Bool.Decides.{nat_tests}
 use Rattle.std.proofs.lemmas.List.Sums.{AllPass-from_list_all}
 use Rattle.std.proofs.lemmas.Str.{IsUtf8-from_ascii}
 use Rattle.std.proofs.lemmas.Str.Ascii.{IsAscii-from_all}
-use Rattle.spiffe_watch.specs.Words.{is_numeral, number_up_to}
+use Rattle.spiffe_watch.specs.Arguments.{is_numeral, number_up_to}
 use Rattle.spiffe_watch.proofs.Numbers.{digits_of, number_missing}
 
 -- a decimal digit is ASCII
@@ -18,9 +18,9 @@ numeral_text word numeral =
     IsUtf8-from_ascii word (IsAscii-from_all word (λ k d lt. small_digit _ (AllPass-from_list_all is_ascii_digit word (digits_of word numeral).1 k d lt)))
 
 -- what is no text is no number
-pub no_text : {T E : Type 0} (P : T → Type 0) (Q : E → Type 0) (most : ℕ) (word : List ℕ) (r : Result T E) → MatchResult r P (λ e. (IsUtf8 word → ⊥) × Q e) → false ≡ is_ok r → None ≡ number_up_to most word
-no_text P Q most word (Ok s) read failed = absurd cc
-no_text P Q most word (Err e) read failed = number_missing most word (none (is_numeral word) refl)
+pub no_text : {T E : Type 0} (P : T → Type 0) (Q : E → Type 0) (max : ℕ) (word : List ℕ) (r : Result T E) → MatchResult r P (λ e. (IsUtf8 word → ⊥) × Q e) → false ≡ is_ok r → None ≡ number_up_to max word
+no_text P Q max word (Ok s) read failed = absurd cc
+no_text P Q max word (Err e) read failed = number_missing max word (none (is_numeral word) refl)
   where
     none : (b : Bool) → is_numeral word ≡ b → b ≡ false
     none false is = refl

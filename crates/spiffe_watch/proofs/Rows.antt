@@ -2,8 +2,8 @@
 use Rattle.std.proofs.Common.{◌≡◌, refl, [], ◌∷◌, None, Some}
 use Rattle.std.specs.Prelude.{codes}
 use Rattle.spf_feed.specs.declared.ready.Ready.TheVariants as readiness
-use Rattle.spiffe_watch.specs.declared.words.Command.TheVariants as commands
-use Rattle.spiffe_watch.specs.Words.{number_up_to, number_in, limit_in, ready_in, is_numeral, is_option, option_in, x509_setting, made_in, command_in}
+use Rattle.spiffe_watch.specs.declared.arguments.Command.TheVariants as commands
+use Rattle.spiffe_watch.specs.Arguments.{number_up_to, number_in, limit_in, ready_in, is_numeral, is_option, option_in, x509_setting, make_arguments_in, command_in}
 
 zero : number_in (codes "0") ≡ Some 0
 unfolding number_up_to is_numeral
@@ -70,9 +70,9 @@ unfolding command_in x509_setting is_option
 unknown_option = refl
 
 made : command_in (codes "make" ∷ codes "10000" ∷ codes "65535" ∷ []) ≡ Some (commands.Make (record { operations = 10000; seed = 65535 }))
-unfolding command_in made_in number_up_to is_numeral
+unfolding command_in make_arguments_in number_up_to is_numeral
 made = refl
 
 too_many_operations : command_in (codes "bench" ∷ codes "10001" ∷ codes "0" ∷ []) ≡ None
-unfolding command_in made_in number_up_to is_numeral
+unfolding command_in make_arguments_in number_up_to is_numeral
 too_many_operations = refl

@@ -3,7 +3,7 @@ use Rattle.std.proofs.Common.{◌≡◌, ◌≢◌, refl, sym, ap, ◌∙◌, �
 use Rattle.std.proofs.lemmas.List.{take-append-drop, take_more}
 use borrow.Author.Tests.{eqb-true, eq-eqb, ne_eqb}
 use Rattle.memchr.specs.Find.{Nowhere, NoneBefore, Passes, is_byte}
-use Rattle.spiffe_watch.specs.Tallied.{first_word, behind_word}
+use Rattle.spiffe_watch.specs.Tallied.{first_word, after_word}
 
 -- no octet is this one
 abbrev pub Avoids : ℕ → List ℕ → Type 0
@@ -49,9 +49,9 @@ first_word_alone [] avoids = refl
 first_word_alone (c ∷ cs) avoids = rw (avoids_head 32 c cs avoids) (ap (λ l. c ∷ l) (first_word_alone cs (avoids_tail 32 c cs avoids)))
 
 -- nothing stands behind one word
-pub behind_word_alone : (w : List ℕ) → Avoids 32 w → behind_word w ≡ []
-behind_word_alone [] avoids = refl
-behind_word_alone (c ∷ cs) avoids = rw (avoids_head 32 c cs avoids) (behind_word_alone cs (avoids_tail 32 c cs avoids))
+pub after_word_alone : (w : List ℕ) → Avoids 32 w → after_word w ≡ []
+after_word_alone [] avoids = refl
+after_word_alone (c ∷ cs) avoids = rw (avoids_head 32 c cs avoids) (after_word_alone cs (avoids_tail 32 c cs avoids))
 
 -- a word with others behind it
 pub first_word_cut : (w rest : List ℕ) → Avoids 32 w → first_word (w ++ 32 ∷ rest) ≡ w
@@ -59,14 +59,14 @@ first_word_cut [] rest avoids = refl
 first_word_cut (c ∷ cs) rest avoids = rw (avoids_head 32 c cs avoids) (ap (λ l. c ∷ l) (first_word_cut cs rest (avoids_tail 32 c cs avoids)))
 
 -- the others stand behind it
-pub behind_word_cut : (w rest : List ℕ) → Avoids 32 w → behind_word (w ++ 32 ∷ rest) ≡ rest
-behind_word_cut [] rest avoids = refl
-behind_word_cut (c ∷ cs) rest avoids = rw (avoids_head 32 c cs avoids) (behind_word_cut cs rest (avoids_tail 32 c cs avoids))
+pub after_word_cut : (w rest : List ℕ) → Avoids 32 w → after_word (w ++ 32 ∷ rest) ≡ rest
+after_word_cut [] rest avoids = refl
+after_word_cut (c ∷ cs) rest avoids = rw (avoids_head 32 c cs avoids) (after_word_cut cs rest (avoids_tail 32 c cs avoids))
 
 -- the words of a line that is cut at its first space
 pub first_word_of : (l front behind : List ℕ) → Cut 32 l front behind → first_word l ≡ front
 first_word_of l front behind cut = ap first_word cut.text ∙ first_word_cut front behind cut.avoids
 
 -- what stands behind the first word of such a line
-pub behind_word_of : (l front behind : List ℕ) → Cut 32 l front behind → behind_word l ≡ behind
-behind_word_of l front behind cut = ap behind_word cut.text ∙ behind_word_cut front behind cut.avoids
+pub after_word_of : (l front behind : List ℕ) → Cut 32 l front behind → after_word l ≡ behind
+after_word_of l front behind cut = ap after_word cut.text ∙ after_word_cut front behind cut.avoids

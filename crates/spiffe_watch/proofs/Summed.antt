@@ -7,20 +7,21 @@ use Rattle.spf_feed.specs.declared.ready.Ready.TheVariants as readiness
 use Rattle.spf_feed.specs.Items.{rules_with, subject}
 use Rattle.spf_feed.specs.Run.{outputs, stream}
 use Rattle.spf_feed.proofs.PlainLines.{line_is_line}
-use Rattle.spiffe_watch.specs.declared.words.MadeWords.{MadeWords}
+use Rattle.spiffe_watch.specs.declared.arguments.MakeArguments.{MakeArguments}
 use Rattle.spiffe_watch.specs.Headline.{ports, FollowedBy, IsSummary, rules_for}
-use Rattle.spiffe_watch.specs.Made.{made_session}
-use Rattle.spiffe_watch.specs.Summary.{default_setting, summary_line, withdrawn_of}
+use Rattle.spiffe_watch.specs.MadeSession.{made_session}
+use Rattle.spiffe_watch.specs.Setting.{default_setting}
+use Rattle.spiffe_watch.specs.Summary.{summary_line, withdrawn_of}
 use Rattle.spiffe_watch.specs.Tallied.{tally_of}
 use Rattle.spiffe_watch.proofs.HeadlineLemmas.{counted}
 use Rattle.spiffe_watch.proofs.Tallied.{tally_said}
 
--- the line of what a tally says of the lines of a made session
-pub summed : (words : MadeWords) (left' : Option (List ℕ)) (held : List ℕ) (count revision withdrawn : ℕ) → FollowedBy default_setting (Some (made_session words)) left' (Some []) (Some held) (Ok count)
+-- the line of what a tally says of the lines of a generated session
+pub summed : (arguments : MakeArguments) (left' : Option (List ℕ)) (held : List ℕ) (count revision withdrawn : ℕ) → FollowedBy default_setting (Some (made_session arguments)) left' (Some []) (Some held) (Ok count)
     → revision ≡ (tally_of held).revision → withdrawn ≡ (tally_of held).withdrawn
-    → IsSummary words (summary_line count revision withdrawn)
-summed words left' held count revision withdrawn f r w =
-    let shown = counted default_setting (made_session words) left' (Some []) (Some held) count f in
+    → IsSummary arguments (summary_line count revision withdrawn)
+summed arguments left' held count revision withdrawn f r w =
+    let shown = counted default_setting (made_session arguments) left' (Some []) (Some held) count f in
     let session = shown.0.session in
     let rules = rules_for default_setting in
     let few : length session.es < 2 ^ 64 - 1 = omega (arith, session.reading.reads.bound) in
@@ -33,14 +34,14 @@ summed words left' held count revision withdrawn f r w =
     }
 
 -- the same of what a run with the limits of the setting starts with and leaves
-pub summed_by : (words : MadeWords) (left left' held : Option (List ℕ)) (held' : List ℕ) (limits : ResourceLimits) (count revision withdrawn : ℕ)
-    → left ≡ Some (made_session words) → held ≡ Some [] → limits ≡ default_setting.limits
+pub summed_by : (arguments : MakeArguments) (left left' held : Option (List ℕ)) (held' : List ℕ) (limits : ResourceLimits) (count revision withdrawn : ℕ)
+    → left ≡ Some (made_session arguments) → held ≡ Some [] → limits ≡ default_setting.limits
     → Followed (stream (rules_with limits None readiness.Usable None)) (outputs (rules_with limits None readiness.Usable None)) 1000000 (ports left held) (ports left' (Some held')) (Whole count)
     → revision ≡ (tally_of held').revision → withdrawn ≡ (tally_of held').withdrawn
-    → IsSummary words (summary_line count revision withdrawn)
-summed_by words left left' held held' limits count revision withdrawn made none same f r w =
+    → IsSummary arguments (summary_line count revision withdrawn)
+summed_by arguments left left' held held' limits count revision withdrawn made none same f r w =
     let F : Option (List ℕ) → Option (List ℕ) → ResourceLimits → Type 0 =
     λ l h x. Followed (stream (rules_with x None readiness.Usable None)) (outputs (rules_with x None readiness.Usable None)) 1000000 (ports l h) (ports left' (Some held')) (Whole count) in
     let first = subst (λ l. F l held limits) made f in
-    let second = subst (λ h. F (Some (made_session words)) h limits) none first in
-    summed words left' held' count revision withdrawn (subst (λ x. F (Some (made_session words)) (Some []) x) same second) r w
+    let second = subst (λ h. F (Some (made_session arguments)) h limits) none first in
+    summed arguments left' held' count revision withdrawn (subst (λ x. F (Some (made_session arguments)) (Some []) x) same second) r w

@@ -15,7 +15,7 @@ use Rattle.spiffe_watch.specs.Summary.{is_withdrawn, withdrawn_of}
 use Rattle.spiffe_watch.specs.Tallied.{Tallied, revision_in, withdrawn_in, tally_from, tally_of}
 use Rattle.spiffe_watch.proofs.Searched.{Avoids}
 use Rattle.spiffe_watch.proofs.TallyLemmas.{counted, tally_append, tally_line, tally_nothing}
-use Rattle.spiffe_watch.proofs.WordLemmas.{waiting_unread, waiting_uncounted, revision_read, third_read}
+use Rattle.spiffe_watch.proofs.LineLemmas.{waiting_unread, waiting_uncounted, revision_read, third_read}
 use Rattle.spiffe_watch.proofs.RevisionShown.{revision_unseen}
 
 -- ---- one line

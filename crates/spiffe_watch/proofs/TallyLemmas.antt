@@ -3,8 +3,8 @@ use Rattle.std.proofs.Common.{◌≡◌, refl, sym, ap, ◌∙◌, ℕ, ◌+◌,
 use Rattle.std.proofs.lemmas.List.{append-nil}
 use Rattle.std.specs.Option.{unwrap_or, option_map_or}
 use Rattle.std.specs.Str.{bytes_eq}
-use Rattle.spiffe_watch.specs.Words.{number_up_to}
-use Rattle.spiffe_watch.specs.Tallied.{Tallied, first_word, behind_word, revision_in, withdrawn_in, with_line, with_octet, tally_from, none_tallied, tally_of}
+use Rattle.spiffe_watch.specs.Arguments.{number_up_to}
+use Rattle.spiffe_watch.specs.Tallied.{Tallied, first_word, after_word, revision_in, withdrawn_in, with_line, with_octet, tally_from, none_tallied, tally_of}
 use borrow.Author.Tests.{eqb-true}
 use Rattle.spiffe_watch.proofs.Searched.{Avoids, avoids_tail, avoids_head}
 
@@ -41,18 +41,18 @@ pub tally_line : (t : Tallied) (piece : List ℕ) → Avoids 10 piece → tally_
 tally_line t piece avoids = tally_append t piece (10 ∷ []) ∙ ap (λ u. tally_from u (10 ∷ [])) (tally_piece t piece avoids) ∙ feed (longer t piece)
 
 -- a tally of octets takes a piece that finishes nothing
-pub piece_told : (before after piece : List ℕ) (revision withdrawn : ℕ) (unfinished longer : List ℕ) → tally_of before ≡ record { revision = revision; withdrawn = withdrawn; unfinished = unfinished } → Avoids 10 piece
+pub piece_written : (before after piece : List ℕ) (revision withdrawn : ℕ) (unfinished longer : List ℕ) → tally_of before ≡ record { revision = revision; withdrawn = withdrawn; unfinished = unfinished } → Avoids 10 piece
     → after ≡ before ++ piece → longer ≡ unfinished ++ piece → tally_of after ≡ record { revision = revision; withdrawn = withdrawn; unfinished = longer }
-piece_told before after piece revision withdrawn unfinished longer_is so_far avoids told is =
+piece_written before after piece revision withdrawn unfinished longer_is so_far avoids told is =
     let t : Tallied = record { revision = revision; withdrawn = withdrawn; unfinished = unfinished } in
     ap tally_of told ∙ tally_append none_tallied before piece ∙ ap (λ u. tally_from u piece) so_far ∙ tally_piece t piece avoids
     ∙ ap (λ l. record { revision = revision; withdrawn = withdrawn; unfinished = l }) (sym is)
 
 -- a tally of octets takes the end of a line
-pub line_told : (before after end : List ℕ) (revision withdrawn revision' withdrawn' : ℕ) (unfinished line unfinished' : List ℕ) → tally_of before ≡ record { revision = revision; withdrawn = withdrawn; unfinished = unfinished }
+pub line_written : (before after end : List ℕ) (revision withdrawn revision' withdrawn' : ℕ) (unfinished line unfinished' : List ℕ) → tally_of before ≡ record { revision = revision; withdrawn = withdrawn; unfinished = unfinished }
     → Avoids 10 end → after ≡ before ++ (end ++ 10 ∷ []) → line ≡ unfinished ++ end → revision' ≡ revision_in revision line → withdrawn' ≡ withdrawn_in withdrawn line → unfinished' ≡ []
     → tally_of after ≡ record { revision = revision'; withdrawn = withdrawn'; unfinished = unfinished' }
-line_told before after end revision withdrawn revision' withdrawn' unfinished line unfinished' so_far avoids told is shown counts empty =
+line_written before after end revision withdrawn revision' withdrawn' unfinished line unfinished' so_far avoids told is shown counts empty =
     let t : Tallied = record { revision = revision; withdrawn = withdrawn; unfinished = unfinished } in
     ap tally_of told ∙ tally_append none_tallied before (end ++ 10 ∷ []) ∙ ap (λ u. tally_from u (end ++ 10 ∷ [])) so_far ∙ tally_line t end avoids
     ∙ ap (λ l. with_line (record { revision = revision; withdrawn = withdrawn; unfinished = l })) (sym is)
@@ -64,7 +64,7 @@ nothing_kept [] n is zero = refl
 nothing_kept (c ∷ cs) n is zero = absurd (let no : n ≡ 0 = eqb-true n 0 (sym zero) in omega arith)
 
 -- the revision of a line whose second word is found
-pub revision_found : (before : ℕ) (line behind word : List ℕ) (number : Option ℕ) (after : ℕ) → behind ≡ behind_word line → word ≡ first_word behind → number ≡ number_up_to (2 ^ 64 - 1) word
+pub revision_found : (before : ℕ) (line behind word : List ℕ) (number : Option ℕ) (after : ℕ) → behind ≡ after_word line → word ≡ first_word behind → number ≡ number_up_to (2 ^ 64 - 1) word
     → after ≡ unwrap_or number before → after ≡ revision_in before line
 unfolding revision_in
 revision_found before line behind word number after behind_is word_is number_is after_is =
@@ -79,8 +79,8 @@ abbrev pub counted : Bool → ℕ → ℕ
 counted b before = if b then min (before + 1) (2 ^ 64 - 1) else before
 
 -- the count behind a line whose third word is found
-pub withdrawn_found : (before : ℕ) (line behind further word : List ℕ) (b : Bool) (after : ℕ) → behind ≡ behind_word line → further ≡ behind_word behind → word ≡ first_word further → bytes_eq word (codes "withdrawn") ≡ b
+pub withdrawn_found : (before : ℕ) (line behind further word : List ℕ) (b : Bool) (after : ℕ) → behind ≡ after_word line → further ≡ after_word behind → word ≡ first_word further → bytes_eq word (codes "withdrawn") ≡ b
     → after ≡ counted b before → after ≡ withdrawn_in before line
 unfolding withdrawn_in
 withdrawn_found before line behind further word b after behind_is further_is word_is same after_is =
-    after_is ∙ ap (λ t. counted t before) (sym same ∙ ap (λ w. bytes_eq w (codes "withdrawn")) (word_is ∙ ap first_word (further_is ∙ ap behind_word behind_is)))
+    after_is ∙ ap (λ t. counted t before) (sym same ∙ ap (λ w. bytes_eq w (codes "withdrawn")) (word_is ∙ ap first_word (further_is ∙ ap after_word behind_is)))

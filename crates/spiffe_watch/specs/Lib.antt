@@ -1,9 +1,10 @@
+pub mod Streams
 pub mod Causes
 pub mod Setting
-pub mod Words
+pub mod Arguments
 pub mod Headline
 pub mod Template
-pub mod Made
-pub mod MadeParts
+pub mod MadeSession
+pub mod GeneratedParts
 pub mod Tallied
 pub mod Summary

@@ -1,26 +1,26 @@
--- What lines say in sum: the revision of the last one that shows one, and how many say that the view is withdrawn.
+-- What lines say in sum: the revision of the last line that shows one, and how many lines say that the view is withdrawn.
 use Rattle.std.specs.Prelude.{ℕ, ◌+◌, ◌-◌, ◌^◌, min, List, [], ◌∷◌, ◌++◌, ◌==◌, if◌then◌else◌, codes}
 use Rattle.std.specs.Option.{option_map_or}
 use Rattle.std.specs.Str.{bytes_eq}
-use Rattle.spiffe_watch.specs.Words.{number_up_to}
+use Rattle.spiffe_watch.specs.Arguments.{number_up_to}
 
 -- the octets before the first space
 abbrev pub first_word : List ℕ → List ℕ
 first_word [] = []
 first_word (c ∷ cs) = if c == 32 then [] else c ∷ first_word cs
 
--- the octets behind the first space
-abbrev pub behind_word : List ℕ → List ℕ
-behind_word [] = []
-behind_word (c ∷ cs) = if c == 32 then cs else behind_word cs
+-- the octets after the first space
+abbrev pub after_word : List ℕ → List ℕ
+after_word [] = []
+after_word (c ∷ cs) = if c == 32 then cs else after_word cs
 
 -- the second word of a line, where it is a number; otherwise what the revision was before
 unfoldable pub revision_in : ℕ → List ℕ → ℕ
-revision_in before line = option_map_or (λ n. n) (number_up_to (2 ^ 64 - 1) (first_word (behind_word line))) before
+revision_in before line = option_map_or (λ n. n) (number_up_to (2 ^ 64 - 1) (first_word (after_word line))) before
 
 -- one more where the third word of a line is `withdrawn`; the count stops at the end of its type
 unfoldable pub withdrawn_in : ℕ → List ℕ → ℕ
-withdrawn_in before line = if bytes_eq (first_word (behind_word (behind_word line))) (codes "withdrawn") then min (before + 1) (2 ^ 64 - 1) else before
+withdrawn_in before line = if bytes_eq (first_word (after_word (after_word line))) (codes "withdrawn") then min (before + 1) (2 ^ 64 - 1) else before
 
 -- the revision, how many lines say withdrawn, and the line that is not finished
 pub record Tallied : Type 0 where
@@ -52,4 +52,4 @@ tally_of octets = tally_from none_tallied octets
 -- a tally as callers see it: the octets that it took, and how often it failed
 pub record TallyValue : Type 0 where
   pub held : List ℕ
-  pub faults : ℕ
+  pub failures : ℕ

@@ -5,7 +5,7 @@ use Rattle.spf_der.specs.Value.{length_octets, value_text}
 use Rattle.spf_der.specs.Written.{algorithm_text, certificate_text, extensions_part, extensions_text, no_bits, no_name, public_key_text, version_text}
 use Rattle.spiffe_watch.specs.declared.template.Template.{Template}
 
--- what stands in tbsCertificate before and behind a notAfter of 15 octets
+-- what stands in tbsCertificate before and after a notAfter of 15 octets
 unfoldable pub tbs_before : CertSpec → List ℕ
 tbs_before spec =
     version_text (extensions_text spec) ++ value_text 2 (spec.serial ∷ []) ++ algorithm_text ++ no_name
@@ -14,11 +14,11 @@ tbs_before spec =
 unfoldable pub tbs_after : CertSpec → List ℕ
 tbs_after spec = no_name ++ public_key_text ++ extensions_part (extensions_text spec)
 
--- the contents of tbsCertificate have so many octets
+-- how many octets the contents of tbsCertificate have
 unfoldable pub tbs_size : CertSpec → ℕ
 tbs_size spec = length (tbs_before spec) + (15 + length (tbs_after spec))
 
--- what stands in a certificate before and behind a notAfter of 15 octets
+-- what stands in a certificate before and after a notAfter of 15 octets
 unfoldable pub before : CertSpec → List ℕ
 before spec =
     48 ∷ length_octets (suc (length (length_octets (tbs_size spec)) + tbs_size spec) + 10)
@@ -27,7 +27,7 @@ before spec =
 unfoldable pub after : CertSpec → List ℕ
 after spec = tbs_after spec ++ algorithm_text ++ no_bits
 
--- with that notAfter in its place
+-- with this notAfter put in
 abbrev pub dated : Template → List ℕ → List ℕ
 dated t time = t.before.items ++ (time ++ t.after.items)
 

@@ -1,32 +1,36 @@
-//! The summary of a made session: it is followed in memory, and its lines are counted.
+//! The summary of a generated session: it is followed in memory, and its lines are counted.
 
 ghost use Rattle.std.specs.Prelude.{◌≡◌, IfOk, string_bytes};
 ghost use Rattle.spiffe_watch.specs.Causes.{HasCauses};
 ghost use Rattle.spiffe_watch.specs.Headline.{IsSummary, Puts};
 ghost use Rattle.spiffe_watch.specs.Summary.{summary_line};
 
-use crate::fault::Fault;
-use crate::made_source::MadeSource;
+use crate::arguments::{DEFAULT_MAX_FRAMES, MakeArguments};
+use crate::exit_reason::ExitReason;
+use crate::generated_source::GeneratedSource;
+use crate::no_publisher::NoPublisher;
+use crate::output::put;
 use crate::tally::Tally;
-use crate::unkept::Unkept;
-use crate::watch::put;
-use crate::words::{DEFAULT_MAX_FRAMES, MadeWords};
 use spf_feed::{NoPicker, NoRecorder, Ready, ResourceLimits, follow_x509};
 use spf_io::{OutOfMemory, Sink};
 use std::alloc::Global;
 
-/// Puts the summary of the session that `make` writes, followed with default settings.
-pub(crate) fn bench<K: Sink>(alloc: Global, words: MadeWords, out: &mut K) -> Result<(), Fault>
-    ensures text { Puts (IsSummary words) (K.held out.old) (K.held out.new) result }
+/// Writes the summary of the session that `make` writes, followed with the default settings.
+pub(crate) fn bench<K: Sink>(
+    alloc: Global,
+    arguments: MakeArguments,
+    out: &mut K,
+) -> Result<(), ExitReason>
+    ensures text { Puts (IsSummary arguments) (K.held out.old) (K.held out.new) result }
     ensures cause { HasCauses 0 0 (K.faults out.old) (K.faults out.new) result }
 {
-    let mut source = MadeSource::new(alloc, words)?;
+    let mut source = GeneratedSource::new(alloc, arguments)?;
     let mut tally = Tally::new(alloc);
     let followed = follow_x509(
         alloc,
         &mut source,
         &mut tally,
-        &mut Unkept,
+        &mut NoPublisher,
         &mut NoRecorder::new(),
         ResourceLimits::default_limits(),
         None,
@@ -35,7 +39,7 @@ pub(crate) fn bench<K: Sink>(alloc: Global, words: MadeWords, out: &mut K) -> Re
         Ready::Usable,
     );
     let Ok(events) = followed else {
-        return Err(Fault::OutOfMemory);
+        return Err(ExitReason::OutOfMemory);
     };
     let line = line_of(alloc, events, tally.revision(), tally.withdrawn())?;
     put(out, line.as_bytes())

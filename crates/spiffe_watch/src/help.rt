@@ -1,6 +1,6 @@
-//! What the program says of itself.
+//! The texts of `--help` and `--version`.
 
-/// The answer to `--help`.
+/// The text of `--help`.
 pub(crate) const HELP: &str = "\
 spiffe_watch - follow a stream of SPIFFE Workload API updates
 
@@ -30,5 +30,5 @@ Status: 0 ended well, 1 bad words, 2 out of memory, 3 read failed,
 10 source closed, 11 no update accepted.
 ";
 
-/// The answer to `--version`.
+/// The text of `--version`.
 pub(crate) const VERSION: &str = "spiffe_watch 0.19.0\n";

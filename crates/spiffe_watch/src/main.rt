@@ -2,21 +2,23 @@
 //! trust bundles a workload then holds.
 #![tactic(auto)]
 
+mod arguments;
 mod bench;
-mod fault;
+mod exit_reason;
+mod generated;
+mod generated_source;
+mod ghost_bytes;
 mod help;
-mod made;
-mod made_source;
+mod no_publisher;
+mod output;
 mod tally;
 mod template;
-mod told;
-mod unkept;
 mod watch;
-mod words;
 
-use fault::{Fault, tell};
+use exit_reason::{ExitReason, report};
 use help::{HELP, VERSION};
-use spf_io::{Sink, Source, StdSink, StdSource};
+use output::put;
+use spf_io::{Sink, StdSink, StdSource};
 use std::alloc::Global;
 use std::io::BufReader;
 use std::process::ExitCode;
@@ -28,48 +30,54 @@ pub use watch::watch;
 const INPUT_BUFFER: usize = 1 << 16;
 
 fn main(rt: HostRuntime) -> ExitCode {
-    let mut faults = StdSink::new(rt.stderr());
-    match run(&rt, &mut faults) {
+    let mut errors = StdSink::new(rt.stderr());
+    match run(&rt, &mut errors) {
         Ok(status) => ExitCode::from(status),
-        Err(fault) => ExitCode::from(tell(&mut faults, fault)),
+        Err(reason) => ExitCode::from(report(&mut errors, reason)),
     }
 }
 
-/// Hands the real input and output to the call that the words ask for, and answers its status.
-fn run<E: Sink>(rt: &HostRuntime, faults: &mut E) -> Result<u8, Fault> {
-    let words = words_of(rt)?;
+/// Calls `watch` with the standard streams, and returns its exit status. `--help` and `--version`, alone, are answered here.
+fn run<E: Sink>(rt: &HostRuntime, errors: &mut E) -> Result<u8, ExitReason> {
+    let arguments = arguments_of(rt)?;
     let mut out = StdSink::new(rt.stdout());
-    if let [word] = words.as_slice() {
-        match word.as_str() {
+    if let [argument] = arguments.as_slice() {
+        match argument.as_str() {
             "--help" => return put_text(&mut out, HELP),
             "--version" => return put_text(&mut out, VERSION),
             _ => {}
         }
     }
     let input = BufReader::with_capacity(rt.alloc(), INPUT_BUFFER, rt.stdin());
-    let mut source = StdSource::new(input.map_err(|_| Fault::OutOfMemory)?);
-    Ok(watch(rt.alloc(), words.as_slice(), &mut source, &mut out, faults))
+    let mut source = StdSource::new(input.map_err(|_| ExitReason::OutOfMemory)?);
+    Ok(watch(
+        rt.alloc(),
+        arguments.as_slice(),
+        &mut source,
+        &mut out,
+        errors,
+    ))
 }
 
-/// The words behind the name of the program.
-fn words_of(rt: &(impl Env + AllocGlobal)) -> Result<Vec<String>, Fault> {
+/// The arguments after the name of the program.
+fn arguments_of(rt: &(impl Env + AllocGlobal)) -> Result<Vec<String>, ExitReason> {
     let all = match env::args(rt) {
         Ok(all) => all,
-        Err(error) if error.kind() == io::ErrorKind::OutOfMemory => return Err(Fault::OutOfMemory),
-        Err(_) => return Err(Fault::Words),
+        Err(error) if error.kind() == io::ErrorKind::OutOfMemory => {
+            return Err(ExitReason::OutOfMemory);
+        }
+        Err(_) => return Err(ExitReason::BadArguments),
     };
-    let mut words = Vec::new(rt.alloc());
-    for word in all.skip(1) {
-        words.push(word)?;
+    let mut arguments = Vec::new(rt.alloc());
+    for argument in all.skip(1) {
+        arguments.push(argument)?;
     }
-    Ok(words)
+    Ok(arguments)
 }
 
-fn put_text<K: Sink>(out: &mut K, text: &str) -> Result<u8, Fault> {
-    match out.put(text.as_bytes()) {
-        Ok(()) => Ok(0),
-        Err(_) => Err(Fault::Write),
-    }
+fn put_text<K: Sink>(out: &mut K, text: &str) -> Result<u8, ExitReason> {
+    put(out, text.as_bytes())?;
+    Ok(0)
 }
 
 #[cfg(test)]

@@ -1,23 +1,23 @@
-//! A sink that counts the lines that are put to it.
+//! A sink that keeps a summary of the lines that are put to it.
 
 ghost use Rattle.std.specs.Prelude.{◌≡◌, ◌≤◌, ◌<◌, ◌-◌, ◌^◌, ◌++◌, [], Some, length, take, IfOk, OnErr};
-ghost use Rattle.spiffe_watch.specs.Tallied.{first_word, behind_word, revision_in, withdrawn_in, tally_of};
-ghost use Rattle.spiffe_watch.specs.Words.{number_up_to as number_in_up_to};
+ghost use Rattle.spiffe_watch.specs.Tallied.{first_word, after_word, revision_in, withdrawn_in, tally_of};
+ghost use Rattle.spiffe_watch.specs.Arguments.{number_up_to as number_in_up_to};
 
-use crate::told::Told;
-use crate::words::number_up_to;
+use crate::arguments::number_up_to;
+use crate::ghost_bytes::GhostBytes;
 use memchr::memchr;
 use spf_io::{Failed, Sink};
 use std::alloc::{AllocError, Global};
 use std::marker::Model;
 
-/// A sink of lines that keeps of them what a summary says: the last revision, and how many are withdrawn.
+/// A sink that keeps the last revision of the lines, and how many of them are withdrawn.
 #[derive(Drop)]
 pub(crate) struct Tally {
     counts: Counts,
     unfinished: Vec<u8>,
     failed: u64,
-    told: Told,
+    written: GhostBytes,
 }
 
 impl Model for Tally {
@@ -26,15 +26,15 @@ impl Model for Tally {
 
     ghost Value = { TallyValue };
 
-    ghost view = { λ t. record { held = t.told.octets; faults = t.failed } };
+    ghost view = { λ t. record { held = t.written.bytes; failures = t.failed } };
 
-    ghost invariant = { λ t. tally_of t.told.octets ≡ record { revision = t.counts.revision; withdrawn = t.counts.withdrawn; unfinished = t.unfinished.items } };
+    ghost invariant = { λ t. tally_of t.written.bytes ≡ record { revision = t.counts.revision; withdrawn = t.counts.withdrawn; unfinished = t.unfinished.items } };
 }
 
 impl Tally {
     pub(crate) fn new(alloc: Global) -> Tally
         ensures held { ⟦<Tally as Sink>⟧.held result ≡ Some [] }
-        ensures faults { ⟦<Tally as Sink>⟧.faults result ≡ 0 }
+        ensures failures { ⟦<Tally as Sink>⟧.faults result ≡ 0 }
     {
         Tally {
             counts: Counts {
@@ -43,37 +43,37 @@ impl Tally {
             },
             unfinished: Vec::new(alloc),
             failed: 0,
-            told: Told::new(),
+            written: GhostBytes::new(),
         }
     }
 
-    /// The second word of the last finished line in which it is a number, or 0.
+    /// The second word of the last finished line where it is a number; 0 where there is none.
     pub(crate) fn revision(&self) -> u64
         ensures { result ≡ (tally_of self.now.held).revision }
     {
         self.counts.revision
     }
 
-    /// How many finished lines have the third word `withdrawn`, at most the greatest number.
+    /// How many finished lines have the third word `withdrawn`, at most `u64::MAX`.
     pub(crate) fn withdrawn(&self) -> u64
         ensures { result ≡ (tally_of self.now.held).withdrawn }
     {
         self.counts.withdrawn
     }
 
-    /// Takes a piece up to its first line feed, or all of it, and says how many octets these are.
+    /// Takes a piece up to its first line feed, or all of it, and returns how many bytes it took.
     fn take_line(&mut self, piece: &[u8]) -> Result<usize, AllocError>
         ensures some { IfOk result (λ n. (n ≤ length piece.now) × (0 < length piece.now → 0 < n)) }
         ensures held { IfOk result (λ n. self.new.held ≡ self.old.held ++ take n piece.now) }
         ensures nothing { OnErr result (self.new.held ≡ self.old.held) }
-        ensures faults { self.new.faults ≡ self.old.faults }
+        ensures failures { self.new.failures ≡ self.old.failures }
     {
-        let Some(place) = memchr(b'\n', piece) else {
+        let Some(index) = memchr(b'\n', piece) else {
             self.unfinished.extend_from_slice(piece)?;
-            self.told.append(piece);
+            self.written.append(piece);
             return Ok(piece.len());
         };
-        let end = &piece[..place];
+        let end = &piece[..index];
         if self.unfinished.is_empty() {
             self.counts.add(end);
         } else {
@@ -81,15 +81,15 @@ impl Tally {
             self.counts.add(self.unfinished.as_slice());
             self.unfinished.clear();
         }
-        self.told.append(&piece[..place + 1]);
-        Ok(place + 1)
+        self.written.append(&piece[..index + 1]);
+        Ok(index + 1)
     }
 }
 
 impl Sink for Tally {
     ghost held = { λ t. Some t.held };
 
-    ghost faults = { λ t. t.faults };
+    ghost faults = { λ t. t.failures };
 
     fn put(&mut self, piece: &[u8]) -> Result<(), Failed> {
         let mut at = 0;
@@ -106,7 +106,7 @@ impl Sink for Tally {
     }
 }
 
-/// What finished lines say.
+/// What the finished lines say.
 #[derive(Drop)]
 struct Counts {
     revision: u64,
@@ -114,7 +114,7 @@ struct Counts {
 }
 
 impl Counts {
-    /// Counts a line, which is given without its line feed.
+    /// Counts a line, without its line feed.
     fn add(&mut self, line: &[u8])
         ensures revision { self.new.revision ≡ revision_in self.old.revision line.now }
         ensures withdrawn { self.new.withdrawn ≡ withdrawn_in self.old.withdrawn line.now }
@@ -129,18 +129,18 @@ impl Counts {
     }
 }
 
-/// The octets before the first space, and those behind it.
+/// The bytes before the first space, and those after it.
 fn split_word(line: &[u8]) -> (&[u8], &[u8])
     ensures word { result.0.now ≡ first_word line.now }
-    ensures rest { result.1.now ≡ behind_word line.now }
+    ensures rest { result.1.now ≡ after_word line.now }
 {
     match memchr(b' ', line) {
         None => (line, &[]),
-        Some(place) => (&line[..place], &line[place + 1..]),
+        Some(index) => (&line[..index], &line[index + 1..]),
     }
 }
 
-/// The number that a word is.
+/// The number that a word spells.
 fn number_in(word: &[u8]) -> Option<u64>
     ensures { result ≡ number_in_up_to (2 ^ 64 - 1) word.now }
 {

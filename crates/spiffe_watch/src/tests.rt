@@ -1,6 +1,6 @@
 //! The named rows of the program.
 
 mod fixtures;
-mod made;
+mod generated;
 mod refusals;
 mod sessions;

@@ -207,42 +207,42 @@ pub(crate) fn session(alloc: Global, frames: &[Frames<'_>]) -> Result<Vec<u8>, F
     Ok(bytes)
 }
 
-/// What a run answered and wrote.
+/// The status of a run, and what it wrote.
 #[derive(Drop)]
 pub(crate) struct Ran {
     pub(crate) status: u8,
     pub(crate) out: MemSink,
-    pub(crate) faults: MemSink,
+    pub(crate) errors: MemSink,
 }
 
-/// A run of these words over these bytes, with reads cut and reads and puts failing as the lists say.
+/// A run with these arguments over these bytes, with reads cut and reads and puts failing as the lists say.
 pub(crate) fn run(
     alloc: Global,
-    words: &[&str],
+    arguments: &[&str],
     bytes: Vec<u8>,
     cuts: Vec<usize>,
     failing_reads: Vec<u64>,
     failing_puts: Vec<u64>,
 ) -> Result<Ran, Fail> {
     let mut texts = Vec::new(alloc);
-    for word in words {
-        texts.push(String::from_str(alloc, *word)?)?;
+    for argument in arguments {
+        texts.push(String::from_str(alloc, *argument)?)?;
     }
     let mut source = MemSource::new(bytes, cuts, failing_reads);
     let mut out = MemSink::new(alloc, 1 << 24, failing_puts)?;
-    let mut faults = MemSink::new(alloc, 1 << 10, Vec::new(alloc))?;
-    let status = crate::watch(alloc, texts.as_slice(), &mut source, &mut out, &mut faults);
+    let mut errors = MemSink::new(alloc, 1 << 10, Vec::new(alloc))?;
+    let status = crate::watch(alloc, texts.as_slice(), &mut source, &mut out, &mut errors);
     Ok(Ran {
         status,
         out,
-        faults,
+        errors,
     })
 }
 
-/// Runs the words over the session, whole and with one-byte cuts, and compares what it answers and writes.
+/// Runs the program over the session, whole and with one-byte cuts, and compares its status and what it writes.
 pub(crate) fn row(
     rt: &(impl Abort + AllocGlobal),
-    words: &[&str],
+    arguments: &[&str],
     frames: &[Frames<'_>],
     lines: &str,
     status: u8,
@@ -253,10 +253,17 @@ pub(crate) fn row(
     let ones = vec![in alloc; 1; bytes.len()]?;
     for cuts in [Vec::new(alloc), ones] {
         let bytes = Vec::from_slice(alloc, bytes.as_slice())?;
-        let ran = run(alloc, words, bytes, cuts, Vec::new(alloc), Vec::new(alloc))?;
+        let ran = run(
+            alloc,
+            arguments,
+            bytes,
+            cuts,
+            Vec::new(alloc),
+            Vec::new(alloc),
+        )?;
         assert_eq!(rt; str::from_utf8(ran.out.bytes()), Ok(lines));
         assert_eq!(rt; ran.status, status);
-        assert_eq!(rt; str::from_utf8(ran.faults.bytes()), Ok(fault));
+        assert_eq!(rt; str::from_utf8(ran.errors.bytes()), Ok(fault));
     }
     Ok(())
 }

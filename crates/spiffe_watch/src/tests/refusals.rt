@@ -40,13 +40,20 @@ fn expired_at_first(rt: HostRuntime) -> Result<(), Fail> {
 
 #[test]
 fn frame_bound(rt: HostRuntime) -> Result<(), Fail> {
-    let words = ["x509", "--max-frames", "3"];
+    let arguments = ["x509", "--max-frames", "3"];
     let frames = [Frames::Connected, Frames::Close];
-    row(&rt, &words, &frames, "1 waiting\n2 waiting\n", 10, CLOSED)?;
+    row(
+        &rt,
+        &arguments,
+        &frames,
+        "1 waiting\n2 waiting\n",
+        10,
+        CLOSED,
+    )?;
     let frames = [Frames::Moment(0), Frames::Connected, Frames::Octets("05")];
     row(
         &rt,
-        &words,
+        &arguments,
         &frames,
         THREE,
         5,
@@ -155,7 +162,7 @@ fn request_rejected(rt: HostRuntime) -> Result<(), Fail> {
 }
 
 #[test]
-fn bad_words(rt: HostRuntime) -> Result<(), Fail> {
+fn bad_arguments(rt: HostRuntime) -> Result<(), Fail> {
     let table: [&[&str]; 13] = [
         &[],
         &["x509", "--hint"],
@@ -171,8 +178,8 @@ fn bad_words(rt: HostRuntime) -> Result<(), Fail> {
         &["make", "1", "65536"],
         &["bench", "1"],
     ];
-    for words in table {
-        row(&rt, words, &[], "", 1, "spiffe_watch: bad words\n")?;
+    for arguments in table {
+        row(&rt, arguments, &[], "", 1, "spiffe_watch: bad words\n")?;
     }
     Ok(())
 }
@@ -237,7 +244,7 @@ fn failing_io_reads(rt: HostRuntime) -> Result<(), Fail> {
         }
         assert_eq!(rt; ran.status, 3);
         assert_eq!(rt;
-            str::from_utf8(ran.faults.bytes()),
+            str::from_utf8(ran.errors.bytes()),
             Ok("spiffe_watch: read failed\n")
         );
     }
@@ -276,7 +283,7 @@ fn failing_io_puts(rt: HostRuntime) -> Result<(), Fail> {
         }
         assert_eq!(rt; ran.status, 4);
         assert_eq!(rt;
-            str::from_utf8(ran.faults.bytes()),
+            str::from_utf8(ran.errors.bytes()),
             Ok("spiffe_watch: write failed\n")
         );
     }

@@ -267,17 +267,17 @@ fn crls(rt: HostRuntime) -> Result<(), Fail> {
 
 #[test]
 fn ready_any(rt: HostRuntime) -> Result<(), Fail> {
-    let words = ["x509", "--ready", "any"];
+    let arguments = ["x509", "--ready", "any"];
     let lines = format!(in rt.alloc();
         "1 waiting\n2 waiting\n3 waiting\n4 0 permitted - - - example.org={ROOT1}\n"
     )?;
     let frames = [Frames::Moment(1000), Frames::Connected, Frames::Item(&I1)];
-    row(&rt, &words, &frames, lines.as_str(), 0, "")?;
+    row(&rt, &arguments, &frames, lines.as_str(), 0, "")?;
     let lines = format!(in rt.alloc();
         "1 waiting\n2 waiting\n3 0 permitted - - - example.org={ROOT1}\n"
     )?;
     let frames = [Frames::Connected, Frames::Item(&I1)];
-    row(&rt, &words, &frames, lines.as_str(), 0, "")
+    row(&rt, &arguments, &frames, lines.as_str(), 0, "")
 }
 
 #[test]
@@ -297,7 +297,7 @@ fn after_the_first_accepted_item(rt: HostRuntime) -> Result<(), Fail> {
 
 #[test]
 fn an_item_over_a_limit_restores_nothing(rt: HostRuntime) -> Result<(), Fail> {
-    let words = ["x509", "--max-bundle-bytes", "72"];
+    let arguments = ["x509", "--max-bundle-bytes", "72"];
     let mut lines = format!(in rt.alloc();
         "1 waiting\n2 waiting\n3 waiting\n4 0 permitted {P1}\n5 0 permitted {P1}\n6 0 permitted {P1}\n"
     )?;
@@ -318,5 +318,5 @@ fn an_item_over_a_limit_restores_nothing(rt: HostRuntime) -> Result<(), Fail> {
         Frames::Item(&item(&large)),
         Frames::Item(&I1),
     ];
-    row(&rt, &words, &frames, lines.as_str(), 0, "")
+    row(&rt, &arguments, &frames, lines.as_str(), 0, "")
 }

@@ -14,5 +14,5 @@ loop-at-preserved c =
       omega (arith, c.in-Ok.ensures.some, length-take (length piece - at) (drop at piece), length-drop at piece),
       c.in-Ok.ensures.held ∙ ap (λ (h : List ℕ). h ++ take n (take (length piece - at) (drop at piece))) c.loop-at.invariant.1 ∙ append_assoc held (take at piece) (take n (take (length piece - at) (drop at piece)))
           ∙ ap (λ (l : List ℕ). held ++ l) more,
-      c.take_line.ensures.faults ∙ c.loop-at.invariant.2,
+      c.take_line.ensures.failures ∙ c.loop-at.invariant.2,
     )

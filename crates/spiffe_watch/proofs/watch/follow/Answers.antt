@@ -1,0 +1,15 @@
+use Rattle.std.proofs.Common.{ap, ◌∙◌, Err}
+use Rattle.std.proofs.lemmas.Result.{err_from_is_err_and}
+use Rattle.spf_feed.specs.Items.{rules_with}
+use Rattle.spiffe_watch.proofs.HeadlineLemmas.{ran, ran_early, shared_map}
+use Rattle.spiffe_watch.proofs.watch.follow.Goals as goal
+
+pub returns-in_err-picker-clause-session : goal.returns-in_err-picker-clause-session
+returns-in_err-picker-clause-session g c =
+    let p = err_from_is_err_and c.from_residual.result c.from_residual.ensures.1 in
+    ran_early _ _ _ _ (p.1 ∙ ap Err p.2)
+
+pub returns-clause-session : goal.returns-clause-session
+returns-clause-session g c =
+    let setting = c.args.arguments in
+    ran setting _ _ _ _ c.follow_x509-followed.result _ _ (ap (rules_with setting.limits setting.deadline setting.ready) (shared_map _ _ _ c.as_ref.ensures.value ∙ c.in_ok-picker.ensures)) c.follow_x509-followed.ensures.followed c.end_of.ensures

@@ -1,0 +1,293 @@
+//! The arguments of the command line.
+
+ghost use Rattle.std.specs.Prelude.{◌≡◌, ◌≤◌, None, Some, map, string_bytes};
+ghost use Rattle.std.specs.Char.{is_ascii_digit};
+ghost use Rattle.std.specs.List.{list_all};
+ghost use Rattle.std.specs.Option.{option_map, option_copied, ForSome};
+ghost use Rattle.spiffe_watch.specs.Arguments.{
+  command_in,
+  make_arguments_in,
+  x509_setting,
+  is_option as is_option_name,
+  are_options as are_pairs,
+  values_of,
+  at_most_one,
+  option_in,
+  limit_in,
+  moment_in,
+  number_in,
+  ready_in,
+  is_numeral as numeral_rule,
+  number_up_to as number_in_up_to,
+};
+
+use spf_feed::{Ready, ResourceLimits};
+use std::marker::Model;
+
+/// The default of `--max-frames`.
+pub(crate) const DEFAULT_MAX_FRAMES: u64 = 1_000_000;
+
+/// The greatest number that an argument may spell.
+const MAX_NUMBER: u64 = i64::MAX as u64;
+
+/// The max number of operations of a generated session.
+const MAX_OPERATIONS: u64 = 10_000;
+
+/// The max seed of a generated session.
+const MAX_SEED: u64 = 65_535;
+
+/// What the arguments ask for.
+#[derive(Drop)]
+pub(crate) enum Command<'a> {
+    X509(X509Arguments<'a>),
+    Make(MakeArguments),
+    Bench(MakeArguments),
+}
+
+/// The settings of a session of X.509 updates.
+#[derive(Drop)]
+pub(crate) struct X509Arguments<'a> {
+    pub(crate) limits: ResourceLimits,
+    pub(crate) deadline: Option<i64>,
+    pub(crate) max_frames: u64,
+    pub(crate) hint: Option<&'a str>,
+    pub(crate) ready: Ready,
+}
+
+impl<'a> Model for X509Arguments<'a> {
+    ghost use Rattle.spiffe_watch.specs.Setting.{Setting};
+
+    ghost Value = { Setting };
+
+    ghost use Rattle.std.specs.Option.{option_copied};
+
+    ghost view = { λ w. record { limits = w.limits; deadline = w.deadline; max_frames = w.max_frames; hint = option_copied w.hint; ready = w.ready } };
+}
+
+/// The arguments of `make` and `bench`: the size and the seed of a generated session.
+#[derive(Clone, Copy)]
+pub(crate) struct MakeArguments {
+    pub(crate) operations: u16,
+    pub(crate) seed: u16,
+}
+
+/// What the arguments ask for; `None` where they are not those of the program.
+#[tactic(auto, unfolding(crate::specs::Arguments::command_in))]
+pub(crate) fn parse_command(arguments: &[String]) -> Option<Command<'_>>
+    ensures { result ≡ command_in (map string_bytes arguments.now) }
+{
+    let [first, rest @ ..] = arguments else {
+        return None;
+    };
+    match first.as_str() {
+        "x509" => Some(Command::X509(x509_arguments(rest)?)),
+        "make" => Some(Command::Make(make_arguments(rest)?)),
+        "bench" => Some(Command::Bench(make_arguments(rest)?)),
+        _ => None,
+    }
+}
+
+/// The arguments of `make` and `bench`.
+#[tactic(auto, unfolding(crate::specs::Arguments::make_arguments_in))]
+fn make_arguments(arguments: &[String]) -> Option<MakeArguments>
+    ensures { result ≡ make_arguments_in (map string_bytes arguments.now) }
+{
+    let [operations, seed] = arguments else {
+        return None;
+    };
+    Some(MakeArguments {
+        operations: number_up_to(MAX_OPERATIONS, operations.as_str())? as u16,
+        seed: number_up_to(MAX_SEED, seed.as_str())? as u16,
+    })
+}
+
+/// The setting of a session, whose options come each at max once.
+#[tactic(auto, unfolding(crate::specs::Arguments::x509_setting))]
+fn x509_arguments(arguments: &[String]) -> Option<X509Arguments<'_>>
+    ensures { result ≡ x509_setting (map string_bytes arguments.now) }
+{
+    if !are_options(arguments) {
+        return None;
+    }
+    let limits = ResourceLimits::default_limits();
+    Some(X509Arguments {
+        limits: ResourceLimits::new(
+            limit_option(arguments, "--max-svids", limits.max_svids)?,
+            limit_option(arguments, "--max-bundles", limits.max_bundles)?,
+            limit_option(arguments, "--max-bundle-bytes", limits.max_bundle_der_bytes)?,
+            limit_option(arguments, "--max-crl-bytes", limits.max_crl_bytes)?,
+        ),
+        deadline: moment_option(arguments, "--deadline")?,
+        max_frames: number_option(arguments, "--max-frames", DEFAULT_MAX_FRAMES)?,
+        hint: hint_option(arguments, "--hint")?,
+        ready: ready_option(arguments, "--ready", Ready::Usable)?,
+    })
+}
+
+/// Whether this is the name of an option of `x509`.
+#[tactic(auto, unfolding(crate::specs::Arguments::is_option))]
+fn is_option(name: &str) -> bool
+    ensures { result ≡ is_option_name name.now }
+{
+    matches!(
+        name,
+        "--max-svids"
+            | "--max-bundles"
+            | "--max-bundle-bytes"
+            | "--max-crl-bytes"
+            | "--deadline"
+            | "--max-frames"
+            | "--hint"
+            | "--ready"
+    )
+}
+
+/// Whether the arguments are pairs of an option and its value.
+fn are_options(arguments: &[String]) -> bool
+    ensures { result ≡ are_pairs (map string_bytes arguments.now) }
+{
+    let mut rest = arguments;
+    while let [name, _, after @ ..] = rest {
+        if !is_option(name.as_str()) {
+            return false;
+        }
+        rest = after;
+    }
+    rest.is_empty()
+}
+
+/// The value of an option, if it is set; `None` where it is set twice.
+fn value_of<'a>(arguments: &'a [String], option: &str) -> Option<Option<&'a str>>
+    ensures { option_map option_copied result ≡ at_most_one (values_of option.now (map string_bytes arguments.now)) }
+{
+    let mut found = None;
+    let mut rest = arguments;
+    while let [name, value, after @ ..] = rest {
+        if name.as_str() == option {
+            if found.is_some() {
+                return None;
+            }
+            found = Some(value.as_str());
+        }
+        rest = after;
+    }
+    Some(found)
+}
+
+/// The limit that an option sets, by default `absent`.
+#[tactic(auto, unfolding(crate::specs::Arguments::option_in))]
+fn limit_option(arguments: &[String], option: &str, absent: Option<usize>) -> Option<Option<usize>>
+    ensures { result ≡ option_in limit_in absent option.now (map string_bytes arguments.now) }
+{
+    match value_of(arguments, option)? {
+        None => Some(absent),
+        Some(value) => limit(value),
+    }
+}
+
+/// The moment that an option sets, if it is set.
+#[tactic(auto, unfolding(crate::specs::Arguments::option_in))]
+fn moment_option(arguments: &[String], option: &str) -> Option<Option<i64>>
+    ensures { result ≡ option_in (λ value. option_map Some (moment_in value)) None option.now (map string_bytes arguments.now) }
+{
+    match value_of(arguments, option)? {
+        None => Some(None),
+        Some(value) => Some(Some(moment(value)?)),
+    }
+}
+
+/// The number that an option sets, by default `absent`.
+#[tactic(auto, unfolding(crate::specs::Arguments::option_in))]
+fn number_option(arguments: &[String], option: &str, absent: u64) -> Option<u64>
+    ensures { result ≡ option_in number_in absent option.now (map string_bytes arguments.now) }
+{
+    match value_of(arguments, option)? {
+        None => Some(absent),
+        Some(value) => number_up_to(MAX_NUMBER, value),
+    }
+}
+
+/// The text that an option sets, if it is set.
+#[tactic(auto, unfolding(crate::specs::Arguments::option_in))]
+fn hint_option<'a>(arguments: &'a [String], option: &str) -> Option<Option<&'a str>>
+    ensures { option_map option_copied result ≡ option_in (λ value. Some (Some value)) None option.now (map string_bytes arguments.now) }
+{
+    match value_of(arguments, option)? {
+        None => Some(None),
+        Some(value) => Some(Some(value)),
+    }
+}
+
+/// What the first update must hold, by default `absent`.
+#[tactic(auto, unfolding(crate::specs::Arguments::option_in))]
+fn ready_option(arguments: &[String], option: &str, absent: Ready) -> Option<Ready>
+    ensures { result ≡ option_in ready_in absent option.now (map string_bytes arguments.now) }
+{
+    match value_of(arguments, option)? {
+        None => Some(absent),
+        Some(value) => ready(value),
+    }
+}
+
+/// Whether all bytes are decimal digits.
+fn all_digits(text: &[u8]) -> bool
+    ensures { result ≡ list_all is_ascii_digit text.now }
+{
+    text.iter().all(|digit| digit.is_ascii_digit())
+}
+
+/// Whether a text is decimal digits, at least one, without a leading zero.
+#[tactic(auto, unfolding(crate::specs::Arguments::is_numeral))]
+fn is_numeral(text: &[u8]) -> bool
+    ensures { result ≡ numeral_rule text.now }
+{
+    match text {
+        [] => false,
+        [b'0', _, ..] => false,
+        _ => all_digits(text),
+    }
+}
+
+/// The number that a text spells, where it is at most `max`.
+pub(crate) fn number_up_to(max: u64, text: &str) -> Option<u64>
+    ensures value { result ≡ number_in_up_to max text.now }
+    ensures bound { ForSome result (λ n. n ≤ max) }
+{
+    if !is_numeral(text.as_bytes()) {
+        return None;
+    }
+    match text.parse::<u64>() {
+        Ok(number) if number <= max => Some(number),
+        _ => None,
+    }
+}
+
+/// A moment, in Unix seconds.
+fn moment(text: &str) -> Option<i64>
+    ensures { result ≡ moment_in text.now }
+{
+    Some(number_up_to(MAX_NUMBER, text)? as i64)
+}
+
+/// A limit: a number, or `none`.
+#[tactic(auto, unfolding(crate::specs::Arguments::limit_in))]
+fn limit(text: &str) -> Option<Option<usize>>
+    ensures { result ≡ limit_in text.now }
+{
+    if text == "none" {
+        return Some(None);
+    }
+    Some(Some(number_up_to(MAX_NUMBER, text)? as usize))
+}
+
+/// What the first update must hold.
+#[tactic(auto, unfolding(crate::specs::Arguments::ready_in))]
+fn ready(text: &str) -> Option<Ready>
+    ensures { result ≡ ready_in text.now }
+{
+    match text {
+        "usable" => Some(Ready::Usable),
+        "any" => Some(Ready::Any),
+        _ => None,
+    }
+}
