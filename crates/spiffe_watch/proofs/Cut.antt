@@ -1,8 +1,7 @@
 -- A certificate of a template is cut round its expiry.
-use Rattle.std.proofs.Common.{◌≡◌, ℕ, suc, ◌+◌, min, List, [], ◌∷◌, ◌++◌, length, take, drop, Option, Some, None, refl, sym, ap, ◌∙◌, subst, append_assoc, length-append, arith}
+use Rattle.std.proofs.Common.{◌≡◌, ℕ, suc, ◌+◌, min, List, [], ◌∷◌, ◌++◌, length, take, drop, Some, refl, sym, ap, ◌∙◌, subst, append_assoc, length-append, arith}
 use Rattle.std.specs.Prelude.{ℤ, pos, codes, nat_le, if◌then◌else◌}
 use Rattle.std.proofs.Math.Seq.{drop-append_seam, take-append_seam}
-use Rattle.spf_io.specs.Option.{◌>>=◌}
 use Rattle.spf_der.specs.declared.writer.CertSpec.{CertSpec}
 use Rattle.spf_der.specs.Time.{clock_of, pair_of, utc_time}
 use Rattle.spf_der.specs.Value.{length_octets, value_text}

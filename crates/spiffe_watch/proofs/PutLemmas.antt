@@ -1,5 +1,5 @@
 -- Texts that are put and no more.
-use Rattle.std.proofs.Common.{◌≡◌, sym, subst, ℕ, true, List, ◌++◌, Option, Result, Ok, Err}
+use Rattle.std.proofs.Common.{◌≡◌, sym, subst, ℕ, true, List, ◌++◌, Option, Result, Err}
 use Rattle.spf_view.specs.Sessions.{Grows}
 use Rattle.spf_view.proofs.FollowLemmas.{grows_trans}
 use Rattle.spiffe_watch.specs.declared.exit_reason.ExitReason.{ExitReason}
@@ -8,7 +8,7 @@ use Rattle.spiffe_watch.specs.Headline.{Puts}
 
 -- a run that ended with a fault of its sink, or without memory
 pub puts_err : (IsText : List ℕ → Type 0) (held held' : Option (List ℕ)) (r : Result (Unit {0}) ExitReason) (x : ExitReason) → r ≡ Err x → is_output_failure x ≡ true → Puts IsText held held' r
-puts_err IsText held held' r x is fault = subst (Puts IsText held held') (sym is) (record { text = λ ok. absurd cc; failure = failure })
+puts_err IsText held held' r x is fault = subst (Puts IsText held held') (sym is) (record { text = λ ok. absurd cc; failure = fault })
 
 -- a piece that was put, with what the rest puts
 pub puts_then : (P Q : List ℕ → Type 0) (a b c : Option (List ℕ)) (x : List ℕ) (r : Result (Unit {0}) ExitReason) → Grows a b x → ((y : List ℕ) → P y → Q (x ++ y)) → Puts P b c r → Puts Q a c r

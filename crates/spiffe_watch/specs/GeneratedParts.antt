@@ -1,5 +1,5 @@
 -- What the program keeps of a generated session while it runs.
-use Rattle.std.specs.Prelude.{◌≡◌, ℕ, ◌+◌, ◌≤◌, ◌<◌, Bool, true, false, List, [], ◌++◌, length, Option, None, Some, Result, IsOk, IsErr, min}
+use Rattle.std.specs.Prelude.{◌≡◌, ℕ, ◌+◌, ◌≤◌, ◌<◌, Bool, true, false, List, [], ◌++◌, length, Option, IfSome, Result, IsOk, IsErr, min}
 use Rattle.spf_io.specs.Outside.{Rose}
 use Rattle.spf_io.specs.declared.memory.Failed.{Failed}
 use Rattle.spf_der.specs.Written.{key_text}

@@ -2,11 +2,11 @@ use Rattle.std.proofs.Common.{◌≡◌, ◌∙◌, sym, ap, subst, IfOk, length
 use Rattle.spf_der.specs.declared.writer.CertSpec.{CertSpec}
 use Rattle.spiffe_watch.specs.MadeSession.{intermediate_spec}
 use Rattle.spiffe_watch.specs.Template.{IsTemplate, before}
-use Rattle.spiffe_watch.proofs.GeneratedLemmas.{intermediate_place}
+use Rattle.spiffe_watch.proofs.GeneratedLemmas.{intermediate_offset}
 use Rattle.spiffe_watch.proofs.generated.intermediate.Goals as goal
 
 pub returns : goal.returns
 returns c =
     let same : c.spec-spec.result ≡ intermediate_spec 0 = rw (← c.new.ensures.items) c.spec-spec.ensures in
-    let at = intermediate_place ∙ ap (λ (s : CertSpec). length (before s)) (sym same) in
+    let at = intermediate_offset ∙ ap (λ (s : CertSpec). length (before s)) (sym same) in
     subst (λ (s : CertSpec). IfOk c.new-2.result (IsTemplate s)) same (c.new-2.ensures (ap (λ (s : CertSpec). s.expiry) same) at)
