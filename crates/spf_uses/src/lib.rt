@@ -1,0 +1,14 @@
+//! Short examples of the library: each module is one thing that a user of it would write.
+#![tactic(auto)]
+
+mod authority;
+mod member;
+mod replay;
+mod session;
+mod svid;
+
+pub use authority::authorities_for;
+pub use member::is_member;
+pub use replay::{replay, revision_after};
+pub use session::{LastPicker, StepCounter, follow};
+pub use svid::is_valid_at;

@@ -1,0 +1,79 @@
+//! Following a session with a picker and a publisher of one's own.
+
+ghost use Rattle.std.specs.Prelude.{None, Some, map, length};
+ghost use Rattle.std.specs.Option.{option_map};
+ghost use Rattle.spf_view.specs.Sessions.{Followed};
+ghost use Rattle.spf_feed.specs.Items.{rules_with};
+ghost use Rattle.spf_feed.specs.Run.{end_for, outputs, stream, told};
+
+use spf_feed::{
+    FollowError, NoRecorder, Publisher, Ready, ResourceLimits, Step, SvidPicker, follow_x509,
+};
+use spf_io::{OutOfMemory, Sink, Source};
+use spf_x509::X509Svid;
+use std::alloc::Global;
+use std::sync::Arc;
+
+/// Picks the last SVID of an update.
+#[derive(Debug, Drop)]
+pub struct LastPicker;
+
+impl SvidPicker for LastPicker {
+    ghost use Rattle.std.specs.Prelude.{◌-◌, ◌==◌, None, Some, length, if◌then◌else◌};
+
+    ghost picks = { λ _ svids. if length svids == 0 then None else Some (length svids - 1) };
+
+    fn pick_svid(&self, svids: &[Arc<X509Svid>]) -> Option<usize> {
+        if svids.is_empty() { None } else { Some(svids.len() - 1) }
+    }
+}
+
+/// Counts the accepted updates and the denials of a session.
+#[derive(Debug, Drop)]
+pub struct StepCounter {
+    pub accepted: u64,
+    pub denied: u64,
+}
+
+impl Publisher for StepCounter {
+    ghost use Rattle.std.specs.Prelude.{None};
+
+    ghost steps = { λ _. None };
+
+    fn publish(&mut self, step: Step) -> Result<(), OutOfMemory> {
+        match step {
+            Step::Accept { .. } => self.accepted = self.accepted.saturating_add(1),
+            Step::Deny { .. } => self.denied = self.denied.saturating_add(1),
+        }
+        Ok(())
+    }
+}
+
+/// Follows a session of at most 1,000 frames, writes a line for each event, and counts the steps.
+pub fn follow<S: Source, K: Sink>(
+    alloc: Global,
+    source: &mut S,
+    out: &mut K,
+    steps: &mut StepCounter,
+    limits: ResourceLimits,
+) -> Result<u64, FollowError>
+    ensures {
+      let picker = ⟦<LastPicker as SvidPicker>⟧.picks LastPicker in
+      let rules = rules_with limits None Usable (Some picker) in
+      Followed (stream rules) (outputs rules) 1000 (S.left source.old) (S.left source.new)
+      (told (K.held out.old) None None) (told (K.held out.new) None None) (end_for result)
+    }
+{
+    follow_x509(
+        alloc,
+        source,
+        out,
+        steps,
+        &mut NoRecorder::new(),
+        limits,
+        None,
+        1000,
+        Some(&LastPicker),
+        Ready::Usable,
+    )
+}
