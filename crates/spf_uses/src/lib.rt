@@ -3,12 +3,12 @@
 
 mod authority;
 mod member;
-mod replay;
 mod session;
+mod steps;
 mod svid;
 
 pub use authority::authorities_for;
 pub use member::is_member;
-pub use replay::{replay, revision_after};
 pub use session::{LastPicker, StepCounter, follow};
+pub use steps::{replay, revision_after};
 pub use svid::is_valid_at;

@@ -1,10 +1,11 @@
 //! Following a session with a picker and a publisher of one's own.
 
-ghost use Rattle.std.specs.Prelude.{None, Some, map, length};
-ghost use Rattle.std.specs.Option.{option_map};
+ghost use Rattle.std.specs.Prelude.{None, Some};
 ghost use Rattle.spf_view.specs.Sessions.{Followed};
 ghost use Rattle.spf_feed.specs.Items.{rules_with};
 ghost use Rattle.spf_feed.specs.Run.{end_for, outputs, stream, told};
+ghost use Rattle.spf_feed.specs.declared.ready.Ready.TheVariants.{Usable};
+ghost use Rattle.spf_uses.specs.Rules.{last_index};
 
 use spf_feed::{
     FollowError, NoRecorder, Publisher, Ready, ResourceLimits, Step, SvidPicker, follow_x509,
@@ -19,12 +20,16 @@ use std::sync::Arc;
 pub struct LastPicker;
 
 impl SvidPicker for LastPicker {
-    ghost use Rattle.std.specs.Prelude.{◌-◌, ◌==◌, None, Some, length, if◌then◌else◌};
+    ghost use Rattle.spf_uses.specs.Rules.{last_index};
 
-    ghost picks = { λ _ svids. if length svids == 0 then None else Some (length svids - 1) };
+    ghost picks = { λ _ svids. last_index svids };
 
     fn pick_svid(&self, svids: &[Arc<X509Svid>]) -> Option<usize> {
-        if svids.is_empty() { None } else { Some(svids.len() - 1) }
+        if svids.is_empty() {
+            None
+        } else {
+            Some(svids.len() - 1)
+        }
     }
 }
 
@@ -57,12 +62,10 @@ pub fn follow<S: Source, K: Sink>(
     steps: &mut StepCounter,
     limits: ResourceLimits,
 ) -> Result<u64, FollowError>
-    ensures {
-      let picker = ⟦<LastPicker as SvidPicker>⟧.picks LastPicker in
-      let rules = rules_with limits None Usable (Some picker) in
-      Followed (stream rules) (outputs rules) 1000 (S.left source.old) (S.left source.new)
-      (told (K.held out.old) None None) (told (K.held out.new) None None) (end_for result)
-    }
+    // What is read and written belongs to one list of events, of which the picker chooses by `last_index`.
+    ensures { let rules = rules_with limits None Usable (Some last_index) in
+        Followed (stream rules) (outputs rules) 1000 (S.left source.old) (S.left source.new)
+        (told (K.held out.old) None None) (told (K.held out.new) None None) (end_for result) }
 {
     follow_x509(
         alloc,
