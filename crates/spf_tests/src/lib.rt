@@ -20,4 +20,6 @@ mod pace;
 #[cfg(test)]
 mod system;
 #[cfg(test)]
+mod uses;
+#[cfg(test)]
 mod x509;

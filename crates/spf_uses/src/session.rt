@@ -3,7 +3,7 @@
 ghost use Rattle.std.specs.Prelude.{None, Some};
 ghost use Rattle.spf_view.specs.Sessions.{Followed};
 ghost use Rattle.spf_feed.specs.Items.{rules_with};
-ghost use Rattle.spf_feed.specs.Run.{end_for, outputs, stream, told};
+ghost use Rattle.spf_feed.specs.Run.{end_for, outputs, stream};
 ghost use Rattle.spf_feed.specs.declared.ready.Ready.TheVariants.{Usable};
 ghost use Rattle.spf_uses.specs.Rules.{last_index};
 
@@ -64,8 +64,10 @@ pub fn follow<S: Source, K: Sink>(
 ) -> Result<u64, FollowError>
     // What is read and written belongs to one list of events, of which the picker chooses by `last_index`.
     ensures { let rules = rules_with limits None Usable (Some last_index) in
-        Followed (stream rules) (outputs rules) 1000 (S.left source.old) (S.left source.new)
-        (told (K.held out.old) None None) (told (K.held out.new) None None) (end_for result) }
+        Followed (stream rules) (outputs rules) 1000
+        (record { left = S.left source.old; held = K.held out.old; steps = None; records = None })
+        (record { left = S.left source.new; held = K.held out.new; steps = None; records = None })
+        (end_for result) }
 {
     follow_x509(
         alloc,
