@@ -3,6 +3,7 @@ pub mod Steps
 pub mod Shorter
 pub mod NameWalk
 pub mod Unique
+pub mod Scans
 pub mod WrittenTimes
 pub mod CivilDays
 pub mod Values

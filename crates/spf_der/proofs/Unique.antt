@@ -43,13 +43,13 @@ indices_with-append oid n (x ∷ xs) ys =
     ∙ picked (bytes_eq x.oid oid) n (indices_with oid (n + 1) xs) (indices_with oid (n + 1 + length xs) ys)
     ∙ ap (λ (m : ℕ). cond (bytes_eq x.oid oid) (n ∷ indices_with oid (n + 1) xs) (indices_with oid (n + 1) xs) ++ indices_with oid m ys) at
 
-contents_hit : (oid : List ℕ) (xs : List ExtensionPart) (e : ExtensionPart) (ys : List ExtensionPart) → bytes_eq e.oid oid ≡ true
+pub contents_hit : (oid : List ℕ) (xs : List ExtensionPart) (e : ExtensionPart) (ys : List ExtensionPart) → bytes_eq e.oid oid ≡ true
     → contents_with oid (xs ++ e ∷ ys) ≡ contents_with oid xs ++ e.contents ∷ contents_with oid ys
 contents_hit oid xs e ys hit =
     contents_with-append oid xs (e ∷ ys)
     ∙ ap (λ (b : Bool). contents_with oid xs ++ cond b (e.contents ∷ contents_with oid ys) (contents_with oid ys)) hit
 
-contents_miss : (oid : List ℕ) (xs : List ExtensionPart) (e : ExtensionPart) → bytes_eq e.oid oid ≡ false
+pub contents_miss : (oid : List ℕ) (xs : List ExtensionPart) (e : ExtensionPart) → bytes_eq e.oid oid ≡ false
     → contents_with oid (xs ++ e ∷ []) ≡ contents_with oid xs
 contents_miss oid xs e miss =
     contents_with-append oid xs (e ∷ [])

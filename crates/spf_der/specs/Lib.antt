@@ -6,6 +6,7 @@ pub mod Part
 pub mod Error
 pub mod Certificate
 pub mod Read
+pub mod Scan
 pub mod Extensions
 pub mod Names
 pub mod Key

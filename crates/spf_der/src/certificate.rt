@@ -141,7 +141,7 @@ fn tbs_certificate(bytes: &[u8]) -> Option<(i64, &[u8])>
 /// The expiry and the text of the extensions of the certificate at the front, and what follows it.
 #[inline(always)]
 #[tactic(auto, unfolding(crate::specs::Certificate::certificate_at))]
-fn certificate(der: &[u8]) -> Option<(i64, &[u8], &[u8])>
+pub fn certificate(der: &[u8]) -> Option<(i64, &[u8], &[u8])>
     ensures exact { option_map (λ x. (x.0, x.1.now, x.2.now)) result ≡ certificate_at der.now }
     ensures front { IfSome result (λ x. length x.2.now < length der.now) }
 {
@@ -174,7 +174,7 @@ pub struct ExtensionPart {
 /// The extension at the front, and what follows it (section 4.2).
 #[inline(always)]
 #[tactic(auto, unfolding(crate::specs::Certificate::extension_at))]
-fn extension<'a>(bytes: &'a [u8]) -> Option<(ExtensionView<'a>, &'a [u8])>
+pub fn extension<'a>(bytes: &'a [u8]) -> Option<(ExtensionView<'a>, &'a [u8])>
     ensures exact { option_map (λ x. (plain x.0, x.1.now)) result ≡ extension_at bytes.now }
     ensures shorter { IfSome result (λ x. length x.1.now < length bytes.now) }
 {

@@ -10,6 +10,7 @@ mod error;
 mod extensions;
 mod key;
 pub mod laws;
+mod scan;
 mod time;
 mod types;
 mod value;
@@ -25,4 +26,5 @@ pub use extensions::{
     read_key_usage, read_san_uri_views, read_san_uris,
 };
 pub use key::read_key;
+pub use scan::{CertScan, scan_certificate};
 pub use writer::{CertSpec, write_certificate, write_key};
