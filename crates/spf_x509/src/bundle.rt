@@ -134,7 +134,7 @@ fn cut_authority(alloc: Global, der: &[u8]) -> Result<(Certificate, &[u8]), Cert
     ensures gives { Gives is_memory_certificate (λ x. (x.0, x.1.now)) result (authority_at der.now) }
     ensures shorter { IfOk result (λ x. length x.1.now < length der.now) }
 {
-    let (part, rest) = cut_certificate(alloc, der)?;
+    let (part, rest) = cut_certificate(der)?;
     let certificate = part.certificate(alloc)?;
     Ok((certificate, rest))
 }

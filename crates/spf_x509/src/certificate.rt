@@ -3,15 +3,16 @@
 ghost use Rattle.std.specs.Prelude.{◌≡◌, IfOk, codes};
 ghost use Rattle.spf_der.specs.Grammar.{CertText};
 ghost use Rattle.spf_der.specs.Part.{Parts};
+ghost use Rattle.spf_der.specs.Read.{never, unique_rule};
+ghost use Rattle.spf_der.specs.Value.{seen};
 ghost use Rattle.spf_io.specs.Rule.{Gives};
-ghost use Rattle.spf_x509.specs.Certificate.{IsCertificate, certificate_of, extension_rule, san_rule, spiffe_id_rule, uri_rule, uris_rule, whole_rule};
+ghost use Rattle.spf_x509.specs.Certificate.{IsCertificate, certificate_of, extension_rule, oid_of, san_rule, spiffe_id_rule, uri_rule, uris_rule, whole_rule};
 ghost use Rattle.spf_x509.specs.Errors.{is_memory_certificate};
 
 use crate::error::CertificateError;
 use crate::extension::X509ExtensionId;
 use spf_der::{
-    CertView, SUBJECT_ALT_NAME, SanUris, X509ParseError, X509ParseKind, read_certificate_view,
-    read_san_uri_views,
+    CertScan, SanUris, X509ParseError, X509ParseKind, read_san_uri_views, scan_certificate,
 };
 use spf_id::{SpiffeId, uri_has_spiffe_scheme};
 use spf_io::{Bytes, OutOfMemory, Text};
@@ -48,7 +49,7 @@ impl Certificate {
         ensures text { IfOk result (λ c. c ≡ der.now) }
         ensures gives { Gives is_memory_certificate (λ c. c) result (certificate_of der.now) }
     {
-        read_whole(alloc, der)?;
+        read_whole(der)?;
         Ok(Certificate::of_text(alloc, der)?)
     }
 
@@ -58,7 +59,7 @@ impl Certificate {
         ensures text { IfOk result (λ c. c ≡ der.items) }
         ensures gives { Gives is_memory_certificate (λ c. c) result (certificate_of der.items) }
     {
-        read_whole(alloc, der.as_slice())?;
+        read_whole(der.as_slice())?;
         Ok(Certificate {
             der: Bytes::new(der),
         })
@@ -115,17 +116,17 @@ pub(crate) fn copies(alloc: Global, chain: &[Certificate]) -> Result<Vec<Certifi
 pub fn spiffe_id_from_der(alloc: Global, der: &[u8]) -> Result<SpiffeId, CertificateError>
     ensures { Gives is_memory_certificate (λ id. id) result (spiffe_id_rule der.now) }
 {
-    let certificate = read_whole(alloc, der)?;
+    let certificate = read_whole(der)?;
     subject_id(alloc, &certificate)
 }
 
 /// The view of the certificate that the bytes are, with nothing after it.
 #[tactic(auto, unfolding(crate::specs::Certificate::whole_rule))]
-fn read_whole<'a>(alloc: Global, der: &'a [u8]) -> Result<CertView<'a>, CertificateError>
+fn read_whole<'a>(der: &'a [u8]) -> Result<CertScan<'a>, CertificateError>
     ensures gives { Gives is_memory_certificate (λ c. c) result (whole_rule der.now) }
     ensures text { IfOk result (λ c. CertText der.now c) }
 {
-    let (certificate, length) = read_certificate_view(alloc, der)?;
+    let (certificate, length) = scan_certificate(der)?;
     if length != der.len() {
         return Err(CertificateError::ParseX509Certificate(X509ParseError::new(
             X509ParseKind::InvalidCertificate,
@@ -134,16 +135,29 @@ fn read_whole<'a>(alloc: Global, der: &'a [u8]) -> Result<CertView<'a>, Certific
     Ok(certificate)
 }
 
-/// The contents of the one extension with that identifier.
+/// The contents of an extension, if there is one.
+fn look_up<'a>(
+    certificate: &CertScan<'a>,
+    extension: X509ExtensionId,
+) -> Result<Option<&'a [u8]>, X509ParseError>
+    ensures { Gives never seen result (unique_rule (oid_of extension) certificate.now.extensions) }
+{
+    match extension {
+        X509ExtensionId::KeyUsage => certificate.key_usage(),
+        X509ExtensionId::SubjectAlternativeName => certificate.subject_alt_name(),
+        X509ExtensionId::BasicConstraints => certificate.basic_constraints(),
+    }
+}
+
+/// The contents of the one extension of that kind.
 #[tactic(auto, unfolding(crate::specs::Certificate::extension_rule))]
 pub(crate) fn extension_contents<'a>(
-    certificate: &CertView<'a>,
-    identifier: &[u8],
+    certificate: &CertScan<'a>,
     extension: X509ExtensionId,
 ) -> Result<&'a [u8], CertificateError>
-    ensures { Gives is_memory_certificate (λ b. b.now) result (extension_rule identifier.now extension certificate.now) }
+    ensures { Gives is_memory_certificate (λ b. b.now) result (extension_rule (oid_of extension) extension certificate.now) }
 {
-    match certificate.extension_unique(identifier)? {
+    match look_up(certificate, extension)? {
         None => Err(CertificateError::MissingX509Extension(extension)),
         Some(contents) => Ok(contents),
     }
@@ -191,15 +205,11 @@ fn id_of_uris(alloc: Global, mut uris: SanUris<'_>) -> Result<SpiffeId, Certific
 #[tactic(auto, unfolding(crate::specs::Certificate::san_rule))]
 pub(crate) fn subject_id(
     alloc: Global,
-    certificate: &CertView<'_>,
+    certificate: &CertScan<'_>,
 ) -> Result<SpiffeId, CertificateError>
     ensures { Gives is_memory_certificate (λ id. id) result (san_rule certificate.now) }
 {
-    let contents = extension_contents(
-        certificate,
-        &SUBJECT_ALT_NAME,
-        X509ExtensionId::SubjectAlternativeName,
-    )?;
+    let contents = extension_contents(certificate, X509ExtensionId::SubjectAlternativeName)?;
     match read_san_uri_views(contents) {
         None => Err(unexpected_names(alloc)?),
         Some(uris) => id_of_uris(alloc, uris),

@@ -8,7 +8,7 @@ ghost use Rattle.spf_x509.specs.Errors.{is_memory_certificate};
 
 use crate::certificate::Certificate;
 use crate::error::CertificateError;
-use spf_der::{CertView, read_certificate_view};
+use spf_der::{CertScan, scan_certificate};
 use spf_io::OutOfMemory;
 use std::alloc::Global;
 use std::marker::Model;
@@ -19,7 +19,7 @@ pub(crate) const MAX_CERTIFICATES: usize = 16;
 /// A certificate of a chain, which contracts see as what is read of it and its bytes.
 #[derive(Debug, Drop)]
 pub(crate) struct ChainPart<'a> {
-    view: CertView<'a>,
+    scan: CertScan<'a>,
     der: &'a [u8],
 }
 
@@ -30,16 +30,17 @@ impl<'a> Model for ChainPart<'a> {
 
     ghost Value = { Parts × List ℕ };
 
-    ghost view = { λ p. (p.view, p.der.now) };
+    ghost view = { λ p. (p.scan, p.der.now) };
 
-    ghost invariant = { λ p. CertText p.der.now p.view };
+    ghost invariant = { λ p. CertText p.der.now p.scan };
 }
 
 impl<'a> ChainPart<'a> {
-    pub(crate) fn view(&self) -> &CertView<'a>
+    /// What its rules look up.
+    pub(crate) fn scan(&self) -> &CertScan<'a>
         ensures { result.now ≡ self.now.0 }
     {
-        &self.view
+        &self.scan
     }
 
     /// A copy of the certificate.
@@ -52,16 +53,13 @@ impl<'a> ChainPart<'a> {
 
 /// The certificate at the start of `bytes`, and what follows it.
 #[tactic(auto, unfolding(crate::specs::Chain::certificate_text_at))]
-pub(crate) fn cut_certificate(
-    alloc: Global,
-    bytes: &[u8],
-) -> Result<(ChainPart<'_>, &[u8]), CertificateError>
+pub(crate) fn cut_certificate(bytes: &[u8]) -> Result<(ChainPart<'_>, &[u8]), CertificateError>
     ensures gives { Gives is_memory_certificate (λ x. (x.0, x.1.now)) result (certificate_text_at bytes.now) }
     ensures shorter { IfOk result (λ x. length x.1.now < length bytes.now) }
 {
-    let (view, length) = read_certificate_view(alloc, bytes)?;
+    let (scan, length) = scan_certificate(bytes)?;
     let (der, after) = bytes.split_at(length);
-    Ok((ChainPart { view, der }, after))
+    Ok((ChainPart { scan, der }, after))
 }
 
 /// The certificates whose concatenation `chain` is.
@@ -76,7 +74,7 @@ pub(crate) fn cut_chain(alloc: Global, chain: &[u8]) -> Result<Vec<ChainPart<'_>
                 max: MAX_CERTIFICATES,
             });
         }
-        let (part, after) = cut_certificate(alloc, rest)?;
+        let (part, after) = cut_certificate(rest)?;
         parts.push(part)?;
         rest = after;
     }

@@ -90,7 +90,7 @@ impl X509Svid {
         let Some((leaf, intermediates)) = parts.split_first() else {
             return Err(X509SvidError::EmptyChain);
         };
-        let (spiffe_id, expiry) = leaf_rule(alloc, leaf.view())?;
+        let (spiffe_id, expiry) = leaf_rule(alloc, leaf.scan())?;
         intermediate_rules(alloc, intermediates)?;
         let private_key = PrivateKey::try_from(alloc, key)?;
         let certificates = certificates_of(alloc, parts.as_slice())?;

@@ -10,9 +10,7 @@ use crate::certificate::{extension_contents, subject_id};
 use crate::chain::ChainPart;
 use crate::extension::X509ExtensionId;
 use crate::svid_error::X509SvidError;
-use spf_der::{
-    BASIC_CONSTRAINTS, CertView, KEY_USAGE, KeyUsageBits, read_basic_constraints, read_key_usage,
-};
+use spf_der::{CertScan, KeyUsageBits, read_basic_constraints, read_key_usage};
 use spf_id::SpiffeId;
 use spf_io::{OutOfMemory, Text};
 use std::alloc::Global;
@@ -26,10 +24,10 @@ fn unparseable(alloc: Global, extension: &str) -> Result<X509SvidError, OutOfMem
 
 /// The key usage of a certificate (RFC 5280 section 4.2.1.3).
 #[tactic(auto, unfolding(crate::specs::Rule::usage_rule))]
-fn key_usage_of(alloc: Global, certificate: &CertView<'_>) -> Result<KeyUsageBits, X509SvidError>
+fn key_usage_of(alloc: Global, certificate: &CertScan<'_>) -> Result<KeyUsageBits, X509SvidError>
     ensures { Gives is_memory_svid (λ usage. usage) result (usage_rule certificate.now) }
 {
-    let contents = extension_contents(certificate, &KEY_USAGE, X509ExtensionId::KeyUsage)?;
+    let contents = extension_contents(certificate, X509ExtensionId::KeyUsage)?;
     match read_key_usage(contents) {
         None => Err(unparseable(alloc, "KeyUsage")?),
         Some(usage) => Ok(usage),
@@ -38,14 +36,10 @@ fn key_usage_of(alloc: Global, certificate: &CertView<'_>) -> Result<KeyUsageBit
 
 /// The CA flag of a certificate (RFC 5280 section 4.2.1.9).
 #[tactic(auto, unfolding(crate::specs::Rule::ca_rule))]
-fn ca_flag_of(alloc: Global, certificate: &CertView<'_>) -> Result<bool, X509SvidError>
+fn ca_flag_of(alloc: Global, certificate: &CertScan<'_>) -> Result<bool, X509SvidError>
     ensures { Gives is_memory_svid (λ flag. flag) result (ca_rule certificate.now) }
 {
-    let contents = extension_contents(
-        certificate,
-        &BASIC_CONSTRAINTS,
-        X509ExtensionId::BasicConstraints,
-    )?;
+    let contents = extension_contents(certificate, X509ExtensionId::BasicConstraints)?;
     match read_basic_constraints(contents) {
         None => Err(unparseable(alloc, "BasicConstraints")?),
         Some(flag) => Ok(flag),
@@ -72,7 +66,7 @@ fn leaf_usage_rule(usage: KeyUsageBits) -> Result<(), X509SvidError>
 #[tactic(auto, unfolding(crate::specs::Rule::leaf_rule))]
 pub(crate) fn leaf_rule(
     alloc: Global,
-    leaf: &CertView<'_>,
+    leaf: &CertScan<'_>,
 ) -> Result<(SpiffeId, i64), X509SvidError>
     ensures { Gives is_memory_svid (λ x. (x.0, x.1)) result (leaf_rule leaf.now) }
 {
@@ -90,7 +84,7 @@ pub(crate) fn leaf_rule(
 
 /// The rule of an intermediate: it may sign certificates.
 #[tactic(auto, unfolding(crate::specs::Rule::intermediate_rule))]
-fn intermediate_certificate(alloc: Global, certificate: &CertView<'_>) -> Result<(), X509SvidError>
+fn intermediate_certificate(alloc: Global, certificate: &CertScan<'_>) -> Result<(), X509SvidError>
     ensures { Gives is_memory_svid (λ u. u) result (intermediate_rule certificate.now) }
 {
     if !ca_flag_of(alloc, certificate)? {
@@ -110,7 +104,7 @@ pub(crate) fn intermediate_rules(
     ensures { Gives is_memory_svid (λ u. u) result (intermediates_rule certificates.now) }
 {
     for certificate in certificates {
-        intermediate_certificate(alloc, certificate.view())?;
+        intermediate_certificate(alloc, certificate.scan())?;
     }
     Ok(())
 }
