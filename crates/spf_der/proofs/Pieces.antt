@@ -84,7 +84,7 @@ integer_taken bytes number rest o is =
 
 pub small_again : (most : ℕ) (b : List ℕ) (n : ℕ) (rest : List ℕ) → SmallText most b n → small_integer_at most (b ++ rest) ≡ Some (n, rest)
 unfolding small_integer_at
-small_again most b n rest text = rw (tagged_again b 2 (n ∷ []) rest text.value, le-leb n most text.most_is) refl
+small_again most b n rest text = rw (tagged_again b 2 (n ∷ []) rest text.value, le-leb n most text.within) refl
 
 small_is : (most : ℕ) (contents : List ℕ) (n : ℕ) → small_of most contents ≡ Some n → (contents ≡ n ∷ []) × (n ≤ most)
 small_is most [] n is = cc
@@ -102,7 +102,7 @@ small_taken most bytes n rest o is =
     let number : (m : ℕ) × (small_of most v.0 ≡ Some m) × (Some (m, v.1) ≡ Some (n, rest)) = bind_some {B = ℕ × List ℕ} (small_of most v.0) (λ m. Some (m, v.1)) (n, rest) found.2 in
     let one = small_is most v.0 number.0 number.1 in
     subst (λ (y : ℕ × List ℕ). Piece (λ b. SmallText most b y.0) bytes y.1) (some_is (number.0, v.1) (n, rest) number.2)
-    (record { text = taken.text; is = record { value = subst (λ (c : List ℕ). Value taken.text 2 c) one.0 taken.value; most_is = one.1 }; cut = taken.cut; outer = taken.outer })
+    (record { text = taken.text; is = record { value = subst (λ (c : List ℕ). Value taken.text 2 c) one.0 taken.value; within = one.1 }; cut = taken.cut; outer = taken.outer })
 
 -- ---- bit strings and algorithms
 

@@ -108,7 +108,7 @@ version_is (x ∷ extensions) =
       inner = value_text 2 (2 ∷ []);
       number = 2;
       value = made 160 (value_text 2 (2 ∷ [])) refl (tag_of 160 refl) (few (value_text 2 (2 ∷ [])) (omega arith));
-      number_is = record { value = made 2 (2 ∷ []) refl (tag_of 2 refl) (few (2 ∷ []) (omega arith)); most_is = omega arith };
+      number_is = record { value = made 2 (2 ∷ []) refl (tag_of 2 refl) (few (2 ∷ []) (omega arith)); within = omega arith };
     })
 
 serial_is : (serial : ℕ) → IntegerText (value_text 2 (serial ∷ [])) (serial ∷ [])

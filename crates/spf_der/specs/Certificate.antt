@@ -1,10 +1,11 @@
--- Certificates, in the order of RFC 5280 section 4.1: what is read at the front of the bytes.
+-- Certificates, in the order of RFC 5280 section 4.1: what is read at the start of the bytes.
 use Rattle.std.specs.Prelude.{ℕ, ℤ, ◌+◌, List, [], ◌∷◌, length, Option, Some, None, Bool, true, false, ◌==◌, ◌||◌, if◌then◌else◌}
 use Rattle.spf_io.specs.Option.{◌>>=◌}
 use Rattle.spf_der.specs.Value.{contents_at, tagged_at, whole_at, optional_at}
 use Rattle.spf_der.specs.Types.{object_identifier_at, integer_at, small_integer_at, default_false_at, after_bit_string_at, after_algorithm_at}
 use Rattle.spf_der.specs.Time.{time_at}
 use Rattle.spf_der.specs.declared.certificate.ExtensionPart.{ExtensionPart}
+use Rattle.spf_der.specs.declared.value.TheConstants.{OCTET_STRING, SEQUENCE}
 
 -- nothing stands after what was read
 abbrev pub ends : {A : Type 0} → Option (A × List ℕ) → Bool
@@ -25,7 +26,7 @@ after_version_at bytes = do
 -- the second of two times, and what follows the validity (section 4.1.2.5)
 unfoldable pub validity_at : List ℕ → Option (ℤ × List ℕ)
 validity_at bytes = do
-  times ← tagged_at 48 bytes
+  times ← tagged_at SEQUENCE bytes
   start ← time_at times.0
   expiry ← time_at start.1
   if length expiry.1 == 0 then Some (expiry.0, times.1) else None
@@ -33,7 +34,7 @@ validity_at bytes = do
 -- what follows a public key: an algorithm and a BIT STRING (section 4.1.2.7)
 unfoldable pub after_public_key_at : List ℕ → Option (List ℕ)
 after_public_key_at bytes = do
-  whole ← tagged_at 48 bytes
+  whole ← tagged_at SEQUENCE bytes
   key ← after_algorithm_at whole.0
   end ← after_bit_string_at key
   if length end == 0 then Some whole.1 else None
@@ -50,7 +51,7 @@ after_unique_id_at number (tag ∷ bytes) =
 -- the text of the extensions that end the bytes, which is empty where they are left out (section 4.1.2.9)
 abbrev pub extension_text_of : Option (List ℕ) → Option (List ℕ)
 extension_text_of None = Some []
-extension_text_of (Some inner) = whole_at 48 inner
+extension_text_of (Some inner) = whole_at SEQUENCE inner
 
 unfoldable pub extension_text_at : List ℕ → Option (List ℕ)
 extension_text_at bytes = do
@@ -63,7 +64,7 @@ after_issuer_at bytes = do
   serial ← after_version_at bytes
   signature ← integer_at serial
   issuer ← after_algorithm_at signature.1
-  validity ← tagged_at 48 issuer
+  validity ← tagged_at SEQUENCE issuer
   Some validity.1
 
 -- the expiry and the text of the extensions of the tbsCertificate that the bytes are (section 4.1.2)
@@ -71,28 +72,28 @@ unfoldable pub tbs_of : List ℕ → Option (ℤ × List ℕ)
 tbs_of bytes = do
   validity ← after_issuer_at bytes
   subject ← validity_at validity
-  key ← tagged_at 48 subject.1
+  key ← tagged_at SEQUENCE subject.1
   issuer_id ← after_public_key_at key.1
   subject_id ← after_unique_id_at 1 issuer_id
   extensions ← after_unique_id_at 2 subject_id
   text ← extension_text_at extensions
   Some (subject.0, text)
 
--- the expiry and the text of the extensions of the certificate at the front, and what follows it (section 4.1.1)
+-- the expiry and the text of the extensions of the certificate at the start, and what follows it (section 4.1.1)
 unfoldable pub certificate_at : List ℕ → Option (ℤ × List ℕ × List ℕ)
 certificate_at bytes = do
-  whole ← tagged_at 48 bytes
-  tbs ← tagged_at 48 whole.0
+  whole ← tagged_at SEQUENCE bytes
+  tbs ← tagged_at SEQUENCE whole.0
   kept ← tbs_of tbs.0
   signature ← after_algorithm_at tbs.1
   end ← after_bit_string_at signature
   if length end == 0 then Some (kept.0, kept.1, whole.1) else None
 
--- the extension at the front, and what follows it (section 4.2)
+-- the extension at the start, and what follows it (section 4.2)
 unfoldable pub extension_at : List ℕ → Option (ExtensionPart × List ℕ)
 extension_at bytes = do
-  whole ← tagged_at 48 bytes
+  whole ← tagged_at SEQUENCE bytes
   oid ← object_identifier_at whole.0
   critical ← default_false_at oid.1
-  contents ← whole_at 4 critical.1
+  contents ← whole_at OCTET_STRING critical.1
   Some (record { oid = oid.0; contents = contents }, whole.1)

@@ -6,11 +6,12 @@ use Rattle.spf_der.specs.Extensions.{usage_bits}
 use Rattle.spf_der.specs.Names.{name_of, with_name}
 use Rattle.spf_der.specs.Grammar.{joined, IntegerText, FlagText}
 use Rattle.spf_der.specs.declared.extensions.KeyUsageBits.{KeyUsageBits}
+use Rattle.spf_der.specs.declared.value.TheConstants.{BIT_STRING, SEQUENCE}
 
 -- KeyUsage (section 4.2.1.3): exactly one BIT STRING
 pub record UsageText (b : List ℕ) (usage : KeyUsageBits) : Type 0 where
   pub bits : List ℕ
-  pub value : Value b 3 bits
+  pub value : Value b BIT_STRING bits
   pub is_bits : is_bit_string bits ≡ true
   pub means : usage_bits (drop 1 bits) ≡ usage
 
@@ -23,7 +24,7 @@ pub record NumberText (b : List ℕ) : Type 0 where
 pub record ConstraintsText (b : List ℕ) (ca : Bool) : Type 0 where
   pub flag : List ℕ
   pub path : List ℕ
-  pub value : Value b 48 (joined (flag ∷ path ∷ []))
+  pub value : Value b SEQUENCE (joined (flag ∷ path ∷ []))
   pub flag_is : FlagText flag ca
   pub path_is : (path ≡ []) ⊎ NumberText path
 
@@ -47,6 +48,6 @@ uris_among (name ∷ names) = with_name name (uris_among names)
 pub record NamesText (b : List ℕ) (uris : List (List ℕ)) : Type 0 where
   pub inner : List ℕ
   pub names : List (Option (List ℕ))
-  pub value : Value b 48 inner
+  pub value : Value b SEQUENCE inner
   pub names_are : NameTexts inner names
   pub means : uris_among names ≡ uris

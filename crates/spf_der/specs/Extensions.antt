@@ -4,6 +4,7 @@ use Rattle.spf_io.specs.Option.{◌>>=◌}
 use Rattle.spf_der.specs.Value.{whole_at, optional_at}
 use Rattle.spf_der.specs.Types.{is_bit_string, default_false_at}
 use Rattle.spf_der.specs.declared.extensions.KeyUsageBits.{KeyUsageBits}
+use Rattle.spf_der.specs.declared.value.TheConstants.{BIT_STRING, INTEGER, SEQUENCE}
 
 -- bit i of the octets of a BIT STRING, the first being the highest of its octet; a missing octet has no bits
 abbrev pub bit_of : List ℕ → ℕ → Bool
@@ -15,7 +16,7 @@ usage_bits octets = record { digital_signature = bit_of octets 0; key_cert_sign 
 
 unfoldable pub key_usage_of : List ℕ → Option KeyUsageBits
 key_usage_of contents = do
-  bits ← whole_at 3 contents
+  bits ← whole_at BIT_STRING contents
   if is_bit_string bits then Some (usage_bits (drop 1 bits)) else None
 
 -- an INTEGER that may be left out and ends the bytes: its contents octets, of which there is at least one
@@ -26,7 +27,7 @@ is_path_length (Some number, end) = not (length number == 0) && (length end == 0
 -- the CA flag of basic constraints (section 4.2.1.9)
 unfoldable pub basic_constraints_of : List ℕ → Option Bool
 basic_constraints_of contents = do
-  inner ← whole_at 48 contents
+  inner ← whole_at SEQUENCE contents
   ca ← default_false_at inner
-  number ← optional_at 2 ca.1
+  number ← optional_at INTEGER ca.1
   if is_path_length number then Some ca.0 else None

@@ -5,6 +5,7 @@ use Rattle.spf_der.specs.Types.{is_bit_string}
 use Rattle.spf_der.specs.Time.{unix_of}
 use Rattle.spf_der.specs.Part.{Parts}
 use Rattle.spf_der.specs.declared.certificate.ExtensionPart.{ExtensionPart}
+use Rattle.spf_der.specs.declared.value.TheConstants.{BIT_STRING, BOOLEAN, INTEGER, OBJECT_IDENTIFIER, OCTET_STRING, SEQUENCE}
 
 -- the pieces, one after another
 abbrev pub joined : List (List ℕ) → List ℕ
@@ -13,18 +14,18 @@ joined (piece ∷ pieces) = piece ++ joined pieces
 
 -- OBJECT IDENTIFIER (X.690 section 8.19), with at least one contents octet
 pub record IdentifierText (b oid : List ℕ) : Type 0 where
-  pub value : Value b 6 oid
+  pub value : Value b OBJECT_IDENTIFIER oid
   pub some : oid ≢ []
 
 -- INTEGER (X.690 section 8.3), with at least one contents octet
 pub record IntegerText (b number : List ℕ) : Type 0 where
-  pub value : Value b 2 number
+  pub value : Value b INTEGER number
   pub some : number ≢ []
 
--- an INTEGER of one contents octet, at most so much
-pub record SmallText (most : ℕ) (b : List ℕ) (number : ℕ) : Type 0 where
-  pub value : Value b 2 (number ∷ [])
-  pub most_is : number ≤ most
+-- an INTEGER of one contents octet, at most `max`
+pub record SmallText (max : ℕ) (b : List ℕ) (number : ℕ) : Type 0 where
+  pub value : Value b INTEGER (number ∷ [])
+  pub within : number ≤ max
 
 -- BIT STRING (X.690 section 8.6), also under another tag
 pub record BitsText (tag : ℕ) (b : List ℕ) : Type 0 where
@@ -43,7 +44,7 @@ pub record AlgorithmText (b : List ℕ) : Type 0 where
   pub oid : List ℕ
   pub identifier : List ℕ
   pub parameters : List ℕ
-  pub value : Value b 48 (joined (identifier ∷ parameters ∷ []))
+  pub value : Value b SEQUENCE (joined (identifier ∷ parameters ∷ []))
   pub identifier_is : IdentifierText identifier oid
   pub parameters_are : (parameters ≡ []) ⊎ AnyText parameters
 
@@ -72,7 +73,7 @@ pub record ValidityText (b : List ℕ) (expiry : ℤ) : Type 0 where
   pub moment : ℤ
   pub start : List ℕ
   pub end : List ℕ
-  pub value : Value b 48 (joined (start ∷ end ∷ []))
+  pub value : Value b SEQUENCE (joined (start ∷ end ∷ []))
   pub start_is : TimeText start moment
   pub end_is : TimeText end expiry
 
@@ -80,9 +81,9 @@ pub record ValidityText (b : List ℕ) (expiry : ℤ) : Type 0 where
 pub record PublicKeyText (b : List ℕ) : Type 0 where
   pub algorithm : List ℕ
   pub key : List ℕ
-  pub value : Value b 48 (joined (algorithm ∷ key ∷ []))
+  pub value : Value b SEQUENCE (joined (algorithm ∷ key ∷ []))
   pub algorithm_is : AlgorithmText algorithm
-  pub key_is : BitsText 3 key
+  pub key_is : BitsText BIT_STRING key
 
 -- a unique identifier of that number, primitive or constructed (section 4.1.2.8)
 pub record NamedText (number : ℕ) (b : List ℕ) : Type 0 where
@@ -95,8 +96,8 @@ UniqueIdText number b = (b ≡ []) ⊎ NamedText number b
 
 -- a BOOLEAN (X.690 sections 8.2 and 11.1) that may be left out, which is false then
 abbrev pub FlagText : List ℕ → Bool → Type 0
-FlagText b true = Value b 1 (255 ∷ [])
-FlagText b false = (b ≡ []) ⊎ Value b 1 (0 ∷ [])
+FlagText b true = Value b BOOLEAN (255 ∷ [])
+FlagText b false = (b ≡ []) ⊎ Value b BOOLEAN (0 ∷ [])
 
 -- Extension (section 4.2)
 pub record ExtensionText (b : List ℕ) (extension : ExtensionPart) : Type 0 where
@@ -104,10 +105,10 @@ pub record ExtensionText (b : List ℕ) (extension : ExtensionPart) : Type 0 whe
   pub is_critical : Bool
   pub critical : List ℕ
   pub octets : List ℕ
-  pub value : Value b 48 (joined (identifier ∷ critical ∷ octets ∷ []))
+  pub value : Value b SEQUENCE (joined (identifier ∷ critical ∷ octets ∷ []))
   pub identifier_is : IdentifierText identifier extension.oid
   pub critical_is : FlagText critical is_critical
-  pub octets_are : Value octets 4 extension.contents
+  pub octets_are : Value octets OCTET_STRING extension.contents
 
 -- a concatenation of extensions
 abbrev pub ExtensionTexts : List ℕ → List ExtensionPart → Type 0
@@ -119,7 +120,7 @@ ExtensionTexts b (extension ∷ extensions) =
 pub record ListedText (b list : List ℕ) : Type 0 where
   pub inner : List ℕ
   pub value : Value b 163 inner
-  pub list_is : Value inner 48 list
+  pub list_is : Value inner SEQUENCE list
 
 -- which may be left out, and then are none
 abbrev pub ExtensionsText : List ℕ → List ℕ → Type 0
@@ -144,9 +145,9 @@ pub record TbsText (b : List ℕ) (expiry : ℤ) (list : List ℕ) : Type 0 wher
   pub version_is : VersionText version
   pub serial_is : IntegerText serial number
   pub signature_is : AlgorithmText signature
-  pub issuer_is : Value issuer 48 issuer_name
+  pub issuer_is : Value issuer SEQUENCE issuer_name
   pub validity_is : ValidityText validity expiry
-  pub subject_is : Value subject 48 subject_name
+  pub subject_is : Value subject SEQUENCE subject_name
   pub public_key_is : PublicKeyText public_key
   pub issuer_id_is : UniqueIdText 1 issuer_id
   pub subject_id_is : UniqueIdText 2 subject_id
@@ -158,11 +159,11 @@ pub record SignedText (b : List ℕ) (expiry : ℤ) (list : List ℕ) : Type 0 w
   pub tbs : List ℕ
   pub algorithm : List ℕ
   pub signature : List ℕ
-  pub value : Value b 48 (joined (tbs ∷ algorithm ∷ signature ∷ []))
-  pub tbs_is : Value tbs 48 inner
+  pub value : Value b SEQUENCE (joined (tbs ∷ algorithm ∷ signature ∷ []))
+  pub tbs_is : Value tbs SEQUENCE inner
   pub inner_is : TbsText inner expiry list
   pub algorithm_is : AlgorithmText algorithm
-  pub signature_is : BitsText 3 signature
+  pub signature_is : BitsText BIT_STRING signature
 
 -- a certificate with its expiry and its extensions
 pub record CertText (b : List ℕ) (parts : Parts) : Type 0 where
@@ -189,9 +190,9 @@ pub record KeyText (b : List ℕ) : Type 0 where
   pub octets : List ℕ
   pub attributes : List ℕ
   pub public_key : List ℕ
-  pub value : Value b 48 (joined (number ∷ algorithm ∷ octets ∷ attributes ∷ public_key ∷ []))
+  pub value : Value b SEQUENCE (joined (number ∷ algorithm ∷ octets ∷ attributes ∷ public_key ∷ []))
   pub number_is : SmallText 1 number version
   pub algorithm_is : AlgorithmText algorithm
-  pub octets_are : Value octets 4 key
+  pub octets_are : Value octets OCTET_STRING key
   pub attributes_are : (attributes ≡ []) ⊎ AttributesText attributes
   pub public_key_is : ((version ≡ 0) × (public_key ≡ [])) ⊎ ((version ≡ 1) × BitsText 129 public_key)

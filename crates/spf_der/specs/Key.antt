@@ -3,6 +3,7 @@ use Rattle.std.specs.Prelude.{ℕ, List, length, Option, Some, None, Bool, false
 use Rattle.spf_io.specs.Option.{◌>>=◌}
 use Rattle.spf_der.specs.Value.{tagged_at, whole_at, optional_at}
 use Rattle.spf_der.specs.Types.{small_integer_at, is_bit_string, after_algorithm_at}
+use Rattle.spf_der.specs.declared.value.TheConstants.{OCTET_STRING, SEQUENCE}
 
 -- a public key that ends the bytes, which is there exactly where the version is 1
 abbrev pub is_public_key : ℕ → Option (List ℕ) × List ℕ → Bool
@@ -12,10 +13,10 @@ is_public_key version (Some bits, end) = (version == 1) && is_bit_string bits &&
 -- the whole of the bytes is a key
 unfoldable pub key_at : List ℕ → Option Bool
 key_at der = do
-  inner ← whole_at 48 der
+  inner ← whole_at SEQUENCE der
   version ← small_integer_at 1 inner
   key ← after_algorithm_at version.1
-  attributes ← tagged_at 4 key
+  attributes ← tagged_at OCTET_STRING key
   public ← optional_at 160 attributes.1
   end ← optional_at 129 public.1
   Some (is_public_key version.0 end)

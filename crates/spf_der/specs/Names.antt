@@ -4,6 +4,7 @@ use Rattle.std.specs.List.{list_all}
 use Rattle.std.specs.Option.{option_map_or}
 use Rattle.spf_io.specs.Option.{◌>>=◌}
 use Rattle.spf_der.specs.Value.{value_at, whole_at}
+use Rattle.spf_der.specs.declared.value.TheConstants.{SEQUENCE}
 
 -- a tag of the context class with a number from 0 to 8
 abbrev pub is_name_tag : ℕ → Bool
@@ -24,7 +25,7 @@ abbrev pub name_of : ℕ → List ℕ → Option (Option (List ℕ))
 name_of tag contents =
     if not (is_name_tag tag) then None else (if bit_and tag 31 == 6 then uri_of tag contents else Some None)
 
--- the name at the front, and what follows it
+-- the name at the start, and what follows it
 unfoldable pub name_at : List ℕ → Option (Option (List ℕ) × List ℕ)
 name_at bytes = do
   v ← value_at bytes
@@ -36,7 +37,7 @@ abbrev pub with_name : Option (List ℕ) → List (List ℕ) → List (List ℕ)
 with_name None uris = uris
 with_name (Some uri) uris = uri ∷ uris
 
--- the URIs of the names, at most so many, of which the bytes are the concatenation
+-- the URIs of the names, at most `n`, of which the bytes are the concatenation
 abbrev pub uris_within : ℕ → List ℕ → Option (List (List ℕ))
 uris_within n [] = Some []
 uris_within zero (b ∷ bytes) = None
@@ -52,10 +53,10 @@ uris_of names = uris_within (length names) names
 -- the URIs of a subject alternative name
 unfoldable pub san_uris_of : List ℕ → Option (List (List ℕ))
 san_uris_of contents = do
-  names ← whole_at 48 contents
+  names ← whole_at SEQUENCE contents
   uris_of names
 
--- the URIs of the names before the first that is unreadable, of at most so many
+-- the URIs of the names before the first that is unreadable, of at most `n`
 abbrev pub uris_before : ℕ → List ℕ → List (List ℕ)
 uris_before n [] = []
 uris_before zero (b ∷ bytes) = []

@@ -11,7 +11,7 @@ use Rattle.spf_der.specs.declared.error.CertReadError.TheVariants.{Parse}
 use Rattle.spf_der.specs.declared.error.X509ParseKind.{X509ParseKind}
 use Rattle.spf_der.specs.declared.error.X509ParseKind.TheVariants.{InvalidCertificate, DuplicateExtensions}
 
--- the extension at the front, and what follows it
+-- the extension at the start, and what follows it
 abbrev pub part_at : List ℕ → Result (ExtensionPart × List ℕ) CertReadError
 part_at bytes = here (extension_at bytes)
 
@@ -19,7 +19,7 @@ part_at bytes = here (extension_at bytes)
 abbrev pub extensions_rule : List ℕ → Result (List ExtensionPart) CertReadError
 extensions_rule text = many part_at (Parse InvalidCertificate) (length text) text
 
--- the certificate that is a front of the bytes, and its length
+-- the certificate at the start of the bytes, and its length
 unfoldable pub certificate_rule : List ℕ → Result (Parts × ℕ) CertReadError
 certificate_rule der = do
   kept ← here (certificate_at der)

@@ -1,5 +1,5 @@
 -- What is found of the three extensions that the rules of an SVID look up (RFC 5280 section 4.2.1).
-use Rattle.std.specs.Prelude.{◌≡◌, ℕ, List, [], ◌∷◌, Option, None, Some, Result, Ok, Err, Bool, ◌&&◌, ◌==◌, if◌then◌else◌}
+use Rattle.std.specs.Prelude.{◌≡◌, ℕ, List, [], ◌∷◌, Option, None, Some, Result, Ok, Err, ◌&&◌, ◌==◌, if◌then◌else◌}
 use Rattle.std.specs.Str.{bytes_eq}
 use Rattle.spf_der.specs.Read.{extensions_rule, unique_rule}
 use Rattle.spf_der.specs.declared.certificate.ExtensionPart.{ExtensionPart}
@@ -25,7 +25,7 @@ abbrev pub last_arc_of : List ℕ → Option ℕ
 last_arc_of (a ∷ b ∷ arc ∷ []) = if a == 85 && b == 29 then Some arc else None
 last_arc_of _ = None
 
--- what was found, as the look-up of one extension answers
+-- what was found, as the look-up of one extension returns it
 abbrev pub found_of : Found → Result (Option (List ℕ)) X509ParseKind
 found_of Missing = Ok None
 found_of (Once contents) = Ok (Some contents.now)
@@ -46,7 +46,7 @@ pub record FoundWith (new old : Extensions) (extension : ExtensionPart) : Type 0
   pub subject_alt_name : found_of new.subject_alt_name ≡ found_next subject_alt_name_identifier (found_of old.subject_alt_name) extension
   pub basic_constraints : found_of new.basic_constraints ≡ found_next basic_constraints_identifier (found_of old.basic_constraints) extension
 
--- what is found is what each look-up answers
+-- what is found is what each look-up returns
 pub record HasFound (found : Extensions) (extensions : List ExtensionPart) : Type 0 where
   pub key_usage : found_of found.key_usage ≡ unique_rule key_usage_identifier extensions
   pub subject_alt_name : found_of found.subject_alt_name ≡ unique_rule subject_alt_name_identifier extensions

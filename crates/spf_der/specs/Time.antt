@@ -4,6 +4,7 @@ use Rattle.std.specs.Char.{is_ascii_digit}
 use Rattle.jiff_core.specs.Calendar.{days_from_civil, days_in_month}
 use Rattle.spf_io.specs.Option.{◌>>=◌}
 use Rattle.spf_der.specs.Value.{value_at}
+use Rattle.spf_der.specs.declared.value.TheConstants.{GENERALIZED_TIME, UTC_TIME}
 
 -- the number that two digits spell
 abbrev pub pair_of : ℕ → ℕ → Option ℕ
@@ -52,9 +53,9 @@ generalized_time _ = None
 
 -- a time, by its tag and its contents octets
 abbrev pub unix_of : ℕ → List ℕ → Option ℤ
-unix_of tag bytes = if tag == 23 then utc_time bytes else (if tag == 24 then generalized_time bytes else None)
+unix_of tag bytes = if tag == UTC_TIME then utc_time bytes else (if tag == GENERALIZED_TIME then generalized_time bytes else None)
 
--- the time at the front, and what follows it
+-- the time at the start, and what follows it
 unfoldable pub time_at : List ℕ → Option (ℤ × List ℕ)
 time_at bytes = do
   v ← value_at bytes

@@ -2,29 +2,30 @@
 use Rattle.std.specs.Prelude.{ℕ, List, [], ◌∷◌, length, Option, Some, None, Bool, true, false, not, ◌&&◌, ◌||◌, nat_le, ◌==◌, if◌then◌else◌}
 use Rattle.spf_io.specs.Option.{◌>>=◌}
 use Rattle.spf_der.specs.Value.{value_at, tagged_at, optional_at}
+use Rattle.spf_der.specs.declared.value.TheConstants.{BIT_STRING, BOOLEAN, INTEGER, OBJECT_IDENTIFIER, SEQUENCE}
 
 -- OBJECT IDENTIFIER (X.690 section 8.19): its contents octets, of which there is at least one
 unfoldable pub object_identifier_at : List ℕ → Option (List ℕ × List ℕ)
 object_identifier_at bytes = do
-  v ← tagged_at 6 bytes
+  v ← tagged_at OBJECT_IDENTIFIER bytes
   if length v.0 == 0 then None else Some v
 
 -- INTEGER (X.690 section 8.3): its contents octets, of which there is at least one
 unfoldable pub integer_at : List ℕ → Option (List ℕ × List ℕ)
 integer_at bytes = do
-  v ← tagged_at 2 bytes
+  v ← tagged_at INTEGER bytes
   if length v.0 == 0 then None else Some v
 
--- one octet, which is at most so much
+-- one octet, at max `max`
 abbrev pub small_of : ℕ → List ℕ → Option ℕ
-small_of most (n ∷ []) = if nat_le n most then Some n else None
-small_of most _ = None
+small_of max (n ∷ []) = if nat_le n max then Some n else None
+small_of max _ = None
 
--- an INTEGER of one octet, at most so much, and what follows it
+-- an INTEGER of one octet, at max `max`, and what follows it
 unfoldable pub small_integer_at : ℕ → List ℕ → Option (ℕ × List ℕ)
-small_integer_at most bytes = do
-  v ← tagged_at 2 bytes
-  n ← small_of most v.0
+small_integer_at max bytes = do
+  v ← tagged_at INTEGER bytes
+  n ← small_of max v.0
   Some (n, v.1)
 
 -- the contents octets of a BOOLEAN (X.690 sections 8.2 and 11.1)
@@ -40,7 +41,7 @@ flag_of (Some contents) = boolean_of contents
 -- an optional BOOLEAN whose default is false, and what follows it
 unfoldable pub default_false_at : List ℕ → Option (Bool × List ℕ)
 default_false_at bytes = do
-  v ← optional_at 1 bytes
+  v ← optional_at BOOLEAN bytes
   flag ← flag_of v.0
   Some (flag, v.1)
 
@@ -52,13 +53,13 @@ is_bit_string (unused ∷ octets) = nat_le unused 7 && (unused == 0 || not (leng
 -- what follows a BIT STRING
 unfoldable pub after_bit_string_at : List ℕ → Option (List ℕ)
 after_bit_string_at bytes = do
-  v ← tagged_at 3 bytes
+  v ← tagged_at BIT_STRING bytes
   if is_bit_string v.0 then Some v.1 else None
 
--- what follows an AlgorithmIdentifier (RFC 5280 section 4.1.1.2): an identifier and at most one value of parameters
+-- what follows an AlgorithmIdentifier (RFC 5280 section 4.1.1.2): an identifier and at max one value of parameters
 unfoldable pub after_algorithm_at : List ℕ → Option (List ℕ)
 after_algorithm_at bytes = do
-  whole ← tagged_at 48 bytes
+  whole ← tagged_at SEQUENCE bytes
   oid ← object_identifier_at whole.0
   if length oid.1 == 0 then Some whole.1 else (do
     parameters ← value_at oid.1

@@ -63,7 +63,7 @@ long_length_at n rest =
     else (if n == 132 then four_octets rest
     else None)))
 
--- a length at the front, and what follows it
+-- a length at the start, and what follows it
 unfoldable pub length_at : List ℕ → Option (ℕ × List ℕ)
 length_at [] = None
 length_at (n ∷ rest) = if nat_lt n 128 then Some (n, rest) else long_length_at n rest
@@ -74,7 +74,7 @@ contents_at bytes = do
   n ← length_at bytes
   if nat_lt (length n.1) n.0 then None else Some (take n.0 n.1, drop n.0 n.1)
 
--- the value at the front: its tag, its contents, and what follows it
+-- the value at the start: its tag, its contents, and what follows it
 unfoldable pub value_at : List ℕ → Option (ℕ × List ℕ × List ℕ)
 value_at [] = None
 value_at (tag ∷ bytes) =
@@ -82,7 +82,7 @@ value_at (tag ∷ bytes) =
       v ← contents_at bytes
       Some (tag, v.0, v.1))
 
--- the contents of the value of that tag at the front, and what follows it
+-- the contents of the value of that tag at the start, and what follows it
 unfoldable pub tagged_at : ℕ → List ℕ → Option (List ℕ × List ℕ)
 tagged_at tag [] = None
 tagged_at tag (first ∷ bytes) = if first == tag then contents_at bytes else None
@@ -93,7 +93,7 @@ whole_at tag bytes = do
   v ← tagged_at tag bytes
   if length v.1 == 0 then Some v.0 else None
 
--- the contents of the value of that tag, if one stands at the front, and what follows it
+-- the contents of the value of that tag, if one stands at the start, and what follows it
 unfoldable pub optional_at : ℕ → List ℕ → Option (Option (List ℕ) × List ℕ)
 optional_at tag [] = Some (None, [])
 optional_at tag (first ∷ bytes) =
@@ -102,7 +102,7 @@ optional_at tag (first ∷ bytes) =
       Some (Some v.0, v.1))
     else Some (None, first ∷ bytes)
 
--- a number that was read of so many octets, and what is left after them
+-- a number that was read of `count` octets, and what is left after them
 abbrev pub MeetsRest : ℕ → Option ℕ → Option (ℕ × List ℕ) → List ℕ → Type 0
 MeetsRest count result found bytes =
     MatchOption result (found ≡ None) (λ n. (count ≤ length bytes) × (found ≡ Some (n, drop count bytes)))

@@ -4,18 +4,19 @@ use Rattle.spf_der.specs.Value.{value_text}
 use Rattle.spf_der.specs.WrittenTime.{IsTimeText}
 use Rattle.spf_der.specs.declared.extensions.KeyUsageBits.{KeyUsageBits}
 use Rattle.spf_der.specs.declared.writer.CertSpec.{CertSpec}
+use Rattle.spf_der.specs.declared.value.TheConstants.{BIT_STRING, BOOLEAN, INTEGER, OBJECT_IDENTIFIER, OCTET_STRING, SEQUENCE, UTC_TIME}
 
 -- an AlgorithmIdentifier of 1.3.101.112 (RFC 8410 section 3)
 abbrev pub algorithm_text : List ℕ
-algorithm_text = value_text 48 (value_text 6 (43 ∷ 101 ∷ 112 ∷ []))
+algorithm_text = value_text SEQUENCE (value_text OBJECT_IDENTIFIER (43 ∷ 101 ∷ 112 ∷ []))
 
 -- a BIT STRING of no bits
 abbrev pub no_bits : List ℕ
-no_bits = value_text 3 (0 ∷ [])
+no_bits = value_text BIT_STRING (0 ∷ [])
 
 -- an empty Name
 abbrev pub no_name : List ℕ
-no_name = value_text 48 []
+no_name = value_text SEQUENCE []
 
 -- the octet of a key usage that holds all its bits
 abbrev pub usage_octet : KeyUsageBits → ℕ
@@ -30,17 +31,17 @@ usage_octets bits =
     else 0 ∷ []))
 
 abbrev pub usage_text : KeyUsageBits → List ℕ
-usage_text bits = value_text 3 (usage_octets bits)
+usage_text bits = value_text BIT_STRING (usage_octets bits)
 
 abbrev pub constraints_text : Bool → List ℕ
-constraints_text ca = value_text 48 (if ca then value_text 1 (255 ∷ []) else [])
+constraints_text ca = value_text SEQUENCE (if ca then value_text BOOLEAN (255 ∷ []) else [])
 
 abbrev pub names_text : List (List ℕ) → List ℕ
-names_text uris = value_text 48 (flat_map (value_text 134) uris)
+names_text uris = value_text SEQUENCE (flat_map (value_text 134) uris)
 
 -- an Extension without a BOOLEAN
 abbrev pub extension_text : List ℕ → List ℕ → List ℕ
-extension_text oid contents = value_text 48 (value_text 6 oid ++ value_text 4 contents)
+extension_text oid contents = value_text SEQUENCE (value_text OBJECT_IDENTIFIER oid ++ value_text OCTET_STRING contents)
 
 abbrev pub usage_part : Option KeyUsageBits → List ℕ
 usage_part None = []
@@ -61,28 +62,28 @@ extensions_text spec = usage_part spec.key_usage ++ constraints_part spec.ca ++ 
 -- a version of 2 exactly where there are extensions
 abbrev pub version_text : List ℕ → List ℕ
 version_text [] = []
-version_text (x ∷ extensions) = value_text 160 (value_text 2 (2 ∷ []))
+version_text (x ∷ extensions) = value_text 160 (value_text INTEGER (2 ∷ []))
 
 abbrev pub extensions_part : List ℕ → List ℕ
 extensions_part [] = []
-extensions_part (x ∷ extensions) = value_text 163 (value_text 48 (x ∷ extensions))
+extensions_part (x ∷ extensions) = value_text 163 (value_text SEQUENCE (x ∷ extensions))
 
 -- from the first second of 1970 to that time
 abbrev pub validity_text : List ℕ → List ℕ
-validity_text time = value_text 48 (value_text 23 (codes "700101000000Z") ++ time)
+validity_text time = value_text SEQUENCE (value_text UTC_TIME (codes "700101000000Z") ++ time)
 
 abbrev pub public_key_text : List ℕ
-public_key_text = value_text 48 (algorithm_text ++ no_bits)
+public_key_text = value_text SEQUENCE (algorithm_text ++ no_bits)
 
 -- the contents of tbsCertificate, with that text of the expiry
 abbrev pub tbs_text : CertSpec → List ℕ → List ℕ
 tbs_text spec time =
-    version_text (extensions_text spec) ++ value_text 2 (spec.serial ∷ []) ++ algorithm_text ++ no_name
+    version_text (extensions_text spec) ++ value_text INTEGER (spec.serial ∷ []) ++ algorithm_text ++ no_name
     ++ validity_text time ++ no_name ++ public_key_text ++ extensions_part (extensions_text spec)
 
 -- the certificate, with that text of the expiry
 abbrev pub certificate_text : CertSpec → List ℕ → List ℕ
-certificate_text spec time = value_text 48 (value_text 48 (tbs_text spec time) ++ algorithm_text ++ no_bits)
+certificate_text spec time = value_text SEQUENCE (value_text SEQUENCE (tbs_text spec time) ++ algorithm_text ++ no_bits)
 
 -- the certificate of the spec
 pub record IsCertificateOf (spec : CertSpec) (text : List ℕ) : Type 0 where
@@ -92,4 +93,4 @@ pub record IsCertificateOf (spec : CertSpec) (text : List ℕ) : Type 0 where
 
 -- a key of one octet
 abbrev pub key_text : ℕ → List ℕ
-key_text serial = value_text 48 (value_text 2 (0 ∷ []) ++ algorithm_text ++ value_text 4 (serial ∷ []))
+key_text serial = value_text SEQUENCE (value_text INTEGER (0 ∷ []) ++ algorithm_text ++ value_text OCTET_STRING (serial ∷ []))

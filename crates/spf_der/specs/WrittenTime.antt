@@ -3,6 +3,7 @@ use Rattle.std.specs.Prelude.{◌≡◌, ℕ, zero, suc, ◌+◌, ◌-◌, ◌/�
 use Rattle.jiff_core.specs.Calendar.{days_in_month, days_in_year}
 use Rattle.spf_der.specs.Value.{value_text}
 use Rattle.spf_der.specs.Time.{unix_of}
+use Rattle.spf_der.specs.declared.value.TheConstants.{GENERALIZED_TIME, UTC_TIME}
 
 -- a second of the years 1970 to 9999
 abbrev pub IsWritable : ℤ → Type 0
@@ -20,15 +21,15 @@ generalized_text year month day hour minute second = two (year / 100) (utc_text 
 
 -- UTCTime for years up to 2049, GeneralizedTime after
 abbrev pub time_tag : ℤ → ℕ
-time_tag moment = if nat_lt (unsigned_abs moment) 2524608000 then 23 else 24
+time_tag moment = if nat_lt (unsigned_abs moment) 2524608000 then UTC_TIME else GENERALIZED_TIME
 
--- the year of a day, of at most so many after that one, and the number of the day in it, from 0
+-- the year of a day, of at most `n` after `year`, and the number of the day in it, from 0
 abbrev pub year_of : ℕ → ℕ → ℕ → ℕ × ℕ
 year_of zero year day = (year, day)
 year_of (suc n) year day =
     if nat_lt day (days_in_year (pos year)) then (year, day) else year_of n (year + 1) (day - days_in_year (pos year))
 
--- the month of a day of a year, of at most so many after that one, and the day of the month, from 1
+-- the month of a day of a year, of at most `n` after `month`, and the day of the month, from 1
 abbrev pub month_of : ℕ → ℕ → ℕ → ℕ → ℕ × ℕ
 month_of zero year month day = (month, day + 1)
 month_of (suc n) year month day =
@@ -54,8 +55,8 @@ second_text n =
     let date = civil_day (n / 86400) in
     let second = n % 86400 in
     if nat_lt n 2524608000
-    then value_text 23 (utc_text date.year date.month date.day (second / 3600) (second / 60 % 60) (second % 60))
-    else value_text 24 (generalized_text date.year date.month date.day (second / 3600) (second / 60 % 60) (second % 60))
+    then value_text UTC_TIME (utc_text date.year date.month date.day (second / 3600) (second / 60 % 60) (second % 60))
+    else value_text GENERALIZED_TIME (generalized_text date.year date.month date.day (second / 3600) (second / 60 % 60) (second % 60))
 
 -- what is written of an expiry of the years 1970 to 9999
 abbrev pub expiry_text : ℤ → List ℕ

@@ -138,7 +138,7 @@ fn tbs_certificate(bytes: &[u8]) -> Option<(i64, &[u8])>
     Some((expiry, text))
 }
 
-/// The expiry and the text of the extensions of the certificate at the front, and what follows it.
+/// The expiry and the text of the extensions of the certificate at the start, and what follows it.
 #[inline(always)]
 #[tactic(auto, unfolding(crate::specs::Certificate::certificate_at))]
 pub fn certificate(der: &[u8]) -> Option<(i64, &[u8], &[u8])>
@@ -171,7 +171,7 @@ pub struct ExtensionPart {
     pub contents: Bytes,
 }
 
-/// The extension at the front, and what follows it (section 4.2).
+/// The extension at the start, and what follows it (section 4.2).
 #[inline(always)]
 #[tactic(auto, unfolding(crate::specs::Certificate::extension_at))]
 pub fn extension<'a>(bytes: &'a [u8]) -> Option<(ExtensionView<'a>, &'a [u8])>

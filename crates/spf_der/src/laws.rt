@@ -21,14 +21,14 @@ use crate::error::CertReadError;
 use crate::key::read_key;
 use std::alloc::Global;
 
-/// A value is read exactly where one stands in front of the bytes, and none is a proper prefix of another.
+/// A value is read exactly where one stands at the start of the bytes, and none is a proper prefix of another.
 pub fn one_value()
     ensures read { (bytes : List ℕ) (tag : ℕ) (contents rest : List ℕ) → IsBytes bytes → (value_at bytes ≡ Some (tag, contents, rest)) ↔ ((text : List ℕ) × Value text tag contents × (bytes ≡ text ++ rest)) }
     ensures one { (a b x y : List ℕ) (t u : ℕ) (c d : List ℕ) → Value a t c → Value b u d → a ++ x ≡ b ++ y → (a ≡ b) × (t ≡ u) × (c ≡ d) × (x ≡ y) }
 {}
 
-/// A certificate is read with its parts and its length exactly where it is the first so many octets, and is refused
-/// exactly where no first octets are one. What follows it changes nothing.
+/// A certificate is read with its parts and its length exactly where one stands at the start of the bytes, and is refused
+/// exactly where none does. What follows it changes nothing.
 pub fn certificate_is_text()
     ensures found { (bytes : List ℕ) (parts : Parts) (n : ℕ) → IsBytes bytes → (certificate_rule bytes ≡ Ok (parts, n)) ↔ ((n ≤ length bytes) × CertText (take n bytes) parts) }
     ensures refused { (bytes : List ℕ) → IsBytes bytes → (certificate_rule bytes ≡ Err (errors.Parse kinds.InvalidCertificate)) ↔ ((n : ℕ) (parts : Parts) → CertText (take n bytes) parts → ⊥) }
@@ -67,7 +67,7 @@ pub fn written_key()
     ensures { (serial : ℕ) → is_key (key_text serial) ≡ true }
 {}
 
-/// What is answered of bytes is the certificate in front of them, and none stands there where they are refused.
+/// What is read of bytes is the certificate at their start, and none stands there where they are refused.
 pub fn certificate_in_front<'a>(
     alloc: Global,
     der: &'a [u8],

@@ -36,25 +36,25 @@ pub fn integer(bytes: &[u8]) -> Option<(&[u8], &[u8])>
     }
 }
 
-/// One octet, which is at most so much.
+/// One octet, at most `max`.
 #[inline(always)]
-fn small(most: u8, contents: &[u8]) -> Option<u8>
-    ensures { result ≡ small_of most contents.now }
+fn small(max: u8, contents: &[u8]) -> Option<u8>
+    ensures { result ≡ small_of max contents.now }
 {
     match contents {
-        [number] if *number <= most => Some(*number),
+        [number] if *number <= max => Some(*number),
         _ => None,
     }
 }
 
-/// An INTEGER of one octet, at most so much, and what follows it.
+/// An INTEGER of one octet, at most `max`, and what follows it.
 #[inline(always)]
 #[tactic(auto, unfolding(crate::specs::Types::small_integer_at))]
-pub fn small_integer(most: u8, bytes: &[u8]) -> Option<(u8, &[u8])>
-    ensures { option_map (λ x. (x.0, x.1.now)) result ≡ small_integer_at most bytes.now }
+pub fn small_integer(max: u8, bytes: &[u8]) -> Option<(u8, &[u8])>
+    ensures { option_map (λ x. (x.0, x.1.now)) result ≡ small_integer_at max bytes.now }
 {
     let (contents, rest) = tagged(INTEGER, bytes)?;
-    let number = small(most, contents)?;
+    let number = small(max, contents)?;
     Some((number, rest))
 }
 

@@ -78,7 +78,7 @@ fn long_length(first: u8, rest: &[u8]) -> Option<usize>
     }
 }
 
-/// A length at the front, and what follows it.
+/// A length at the start, and what follows it.
 #[inline(always)]
 #[tactic(auto, unfolding(crate::specs::Value::length_at))]
 fn length_prefix(bytes: &[u8]) -> Option<(usize, &[u8])>
@@ -108,7 +108,7 @@ pub fn contents(bytes: &[u8]) -> Option<(&[u8], &[u8])>
     Some((contents, rest))
 }
 
-/// The value at the front: its tag, its contents, and what follows it.
+/// The value at the start: its tag, its contents, and what follows it.
 #[inline(always)]
 #[tactic(auto, unfolding(crate::specs::Value::value_at))]
 pub fn value(bytes: &[u8]) -> Option<(u8, &[u8], &[u8])>
@@ -123,7 +123,7 @@ pub fn value(bytes: &[u8]) -> Option<(u8, &[u8], &[u8])>
     Some((*tag, contents, rest))
 }
 
-/// The contents of the value of that tag at the front, and what follows it.
+/// The contents of the value of that tag at the start, and what follows it.
 #[inline(always)]
 #[tactic(auto, unfolding(crate::specs::Value::tagged_at))]
 pub fn tagged(tag: u8, bytes: &[u8]) -> Option<(&[u8], &[u8])>
@@ -151,7 +151,7 @@ pub fn whole(tag: u8, bytes: &[u8]) -> Option<&[u8]>
     }
 }
 
-/// The contents of the value of that tag, if one stands at the front, and what follows it.
+/// The contents of the value of that tag, if one stands at the start, and what follows it.
 #[inline(always)]
 #[tactic(auto, unfolding(crate::specs::Value::optional_at))]
 pub fn optional(tag: u8, bytes: &[u8]) -> Option<(Option<&[u8]>, &[u8])>

@@ -94,7 +94,7 @@ impl SpiffeId {
         self.text.as_str()
     }
 
-    /// The same ID again.
+    /// A copy of the ID.
     pub fn try_clone(&self, alloc: Global) -> Result<SpiffeId, OutOfMemory>
         ensures { IfOk result (λ id. id ≡ self.now) }
     {

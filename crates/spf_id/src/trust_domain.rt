@@ -120,7 +120,7 @@ impl TrustDomain {
         self.name.as_str()
     }
 
-    /// The same trust domain again.
+    /// A copy of the trust domain.
     pub fn try_clone(&self, alloc: Global) -> Result<TrustDomain, OutOfMemory>
         ensures { IfOk result (λ t. t ≡ self.now) }
     {

@@ -47,7 +47,7 @@ impl Bytes {
         self.bytes
     }
 
-    /// The same bytes again.
+    /// A copy of the bytes.
     pub fn try_clone(&self, alloc: Global) -> Result<Bytes, OutOfMemory>
         ensures { IfOk result (λ b. b ≡ self.now) }
     {

@@ -11,7 +11,7 @@ use std::marker::Model;
 
 /// A sink of bytes, which counts how often it failed.
 pub trait Sink {
-    // The bytes that the sink holds, where it tells.
+    // The bytes that the sink holds, where they are known.
     ghost held: { Self → Option (List ℕ) };
     // How often the sink has failed.
     ghost faults: { Self → ℕ };
@@ -22,7 +22,7 @@ pub trait Sink {
         ensures cause { HasCause (faults self.old) (faults self.new) result };
 }
 
-/// A sink with room for so many bytes, which tells what it holds, and how it will answer.
+/// A sink in memory with room for a number of bytes, whose puts fail where they are told to.
 #[derive(Debug, Drop)]
 pub struct MemSink {
     held: Vec<u8>,

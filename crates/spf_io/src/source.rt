@@ -12,19 +12,19 @@ use std::marker::Model;
 
 /// A source of bytes, which counts how often it failed.
 pub trait Source {
-    // The bytes that reads will give from here on, where the source tells.
+    // The bytes that reads return from here on, where they are known.
     ghost left: { Self → Option (List ℕ) };
     // How often the source has failed.
     ghost faults: { Self → ℕ };
 
-    /// Gives the first of the bytes left. 0 into a buffer with room is the end of input.
+    /// Reads the first of the bytes left. 0 into a buffer with room is the end of input.
     fn read(&mut self, buf: &mut [u8]) -> Result<usize, Failed>
         ensures bound { ReadsAtMost result buf.new }
         ensures bytes { ReadConsumes (left self.old) (left self.new) result buf.new }
         ensures cause { HasCause (faults self.old) (faults self.new) result };
 }
 
-/// A source of these bytes, which tells them, and how it will answer.
+/// A source of bytes in memory, whose reads are cut and fail where they are told to.
 #[derive(Debug, Drop)]
 pub struct MemSource {
     bytes: Vec<u8>,
@@ -47,7 +47,7 @@ impl Model for MemSource {
 }
 
 impl MemSource {
-    /// Read number k, from 1, fails if k is in `failing`. Otherwise it gives at most `cuts[k - 1]` bytes, a cut of 0
+    /// Read number k, from 1, fails if k is in `failing`. Otherwise it returns at most `cuts[k - 1]` bytes, a cut of 0
     /// counting as 1, and as many as fit after the cuts are used.
     pub fn new(bytes: Vec<u8>, cuts: Vec<usize>, failing: Vec<u64>) -> MemSource
         ensures left { ⟦<MemSource as Source>⟧.left result ≡ Some bytes.items }
@@ -65,7 +65,7 @@ impl MemSource {
     }
 }
 
-/// So many bytes, or the cut of a read where that is less.
+/// `n` bytes, or the cut of a read where that is less.
 fn within(cut: Option<&usize>, n: usize) -> usize
     ensures { result ≡ cut_to (option_map (λ c. c.now) cut.entry) n }
 {

@@ -48,7 +48,7 @@ impl Text {
         self.string
     }
 
-    /// The same text again.
+    /// A copy of the text.
     pub fn try_clone(&self, alloc: Global) -> Result<Text, OutOfMemory>
         ensures { IfOk result (λ t. t ≡ self.now) }
     {

@@ -1,5 +1,5 @@
 -- What is refused as certificates, and as a key.
-use Rattle.std.proofs.Common.{◌≡◌, ◌⊎◌, inl, inr, ⊎_elim, ℕ, zero, suc, ◌+◌, ◌<◌, ◌≤◌, ◌↔◌, Bool, true, false, List, [], ◌∷◌, ◌++◌, length, take, drop, Result, Ok, Err, refl, sym, ap, ◌∙◌, subst, append_assoc, length-append, arith}
+use Rattle.std.proofs.Common.{◌≡◌, ◌⊎◌, inl, inr, ⊎_elim, ℕ, zero, suc, ◌<◌, ◌↔◌, Bool, true, false, List, [], ◌∷◌, ◌++◌, length, take, drop, Result, Ok, Err, refl, sym, ap, ◌∙◌, subst, append_assoc, arith}
 use Rattle.std.specs.Prelude.{if◌then◌else◌, ◌==◌}
 use Rattle.spf_io.specs.Rule.{◌>>=◌, broken_as, many}
 use Rattle.spf_der.specs.Grammar.{CertText, CertsOf, KeyText, joined}
@@ -8,7 +8,6 @@ use Rattle.spf_der.specs.Part.{Parts}
 use Rattle.spf_der.specs.Read.{certificate_rule}
 use Rattle.spf_der.specs.Value.{IsBytes}
 use Rattle.spf_der.specs.declared.error.CertReadError.{CertReadError}
-use Rattle.spf_der.specs.declared.error.CertReadError.TheVariants.{Parse}
 use Rattle.spf_der.specs.declared.error.X509ParseKind.TheVariants.{InvalidCertificate}
 use Rattle.spf_der.proofs.Exact.{certificate_found, rule_fails}
 use Rattle.spf_der.proofs.Keys.{key_exact}
@@ -19,10 +18,10 @@ use Rattle.spf_x509.specs.declared.error.CertificateError.TheVariants.{ParseX509
 use Rattle.spf_x509.specs.declared.error.PrivateKeyError.{PrivateKeyError}
 use Rattle.spf_x509.specs.declared.error.PrivateKeyError.TheVariants.{DecodePkcs8}
 use Rattle.spf_x509.specs.Certificate.{IsCertificate, certificate_of, whole_rule}
-use Rattle.spf_x509.specs.Chain.{IsTooLong, authorities_rule, authority_at, certificate_text_at, chain_rule, texts}
+use Rattle.spf_x509.specs.Chain.{IsTooLong, authorities_rule, authority_at, certificate_text_at, chain_rule}
 use Rattle.spf_x509.specs.Errors.{of_read}
 use Rattle.spf_x509.specs.Key.{key_rule}
-use Rattle.spf_x509.proofs.Cuts.{authorities_exact, bytes_after, certs_joined, longer, ok_as, ok_bind, ok_is, text_cut, text_reads, whole_reads}
+use Rattle.spf_x509.proofs.Cuts.{authorities_exact, bytes_after, longer, ok_as, ok_bind, text_cut, text_reads, whole_reads}
 
 abbrev pub not_one : CertificateError
 not_one = ParseX509Certificate InvalidCertificate

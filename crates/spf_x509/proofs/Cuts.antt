@@ -1,5 +1,5 @@
 -- Certificates one after another: how they are read, and that there is no other way.
-use Rattle.std.proofs.Common.{◌≡◌, ℕ, zero, suc, ◌<◌, ◌≤◌, ◌↔◌, Bool, true, false, List, [], ◌∷◌, ◌++◌, length, take, drop, drop-cons, get_or, ◌+◌, Option, Result, Ok, Err, ℤ, nat_eq, refl, sym, ap, ◌∙◌, subst, append_assoc, length-append, arith}
+use Rattle.std.proofs.Common.{◌≡◌, ℕ, zero, suc, ◌<◌, ◌≤◌, ◌↔◌, Bool, true, false, List, [], ◌∷◌, ◌++◌, length, take, drop, drop-cons, get_or, ◌+◌, Option, Result, Ok, Err, ℤ, refl, sym, ap, ◌∙◌, subst, append_assoc, length-append, arith}
 use Rattle.std.specs.Prelude.{if◌then◌else◌, ◌==◌}
 use Rattle.std.proofs.lemmas.List.{append-nil, append_cancel_left, take_all, take_at, take_more, drop_at, take-append-drop}
 use Rattle.std.proofs.lemmas.List.Elements.{All-drop}
@@ -17,7 +17,7 @@ use Rattle.spf_x509.specs.declared.error.X509BundleError.{X509BundleError}
 use Rattle.spf_x509.specs.declared.svid_error.X509SvidError.{X509SvidError}
 use Rattle.spf_x509.specs.Bundle.{Bundle}
 use Rattle.spf_x509.specs.BundleRule.{bundle_of}
-use Rattle.spf_x509.specs.Certificate.{IsCertificate, certificate_of, san_rule, spiffe_id_rule, whole_rule}
+use Rattle.spf_x509.specs.Certificate.{IsCertificate, san_rule, spiffe_id_rule, whole_rule}
 use Rattle.spf_x509.specs.Chain.{IsSvid, ReadAs, authorities_rule, authority_at, certificate_text_at, chain_rule, intermediates_rule, svid_of, svid_of_parts, texts}
 use Rattle.spf_x509.specs.Errors.{bundle_of_certificate, of_read, svid_of_certificate, svid_of_key}
 use Rattle.spf_x509.specs.Key.{key_rule}

@@ -83,7 +83,7 @@ impl X509Bundle {
         Ok(())
     }
 
-    /// The same bundle again.
+    /// A copy of the bundle.
     pub fn try_clone(&self, alloc: Global) -> Result<X509Bundle, OutOfMemory>
         ensures { IfOk result (λ b. b ≡ self.now) }
     {
@@ -128,7 +128,7 @@ fn certificates_from(
     Ok(certificates)
 }
 
-/// A copy of the certificate at the front, and what follows it.
+/// A copy of the certificate at the start of `der`, and what follows it.
 #[tactic(auto, unfolding(crate::specs::Chain::authority_at))]
 fn cut_authority(alloc: Global, der: &[u8]) -> Result<(Certificate, &[u8]), CertificateError>
     ensures gives { Gives is_memory_certificate (λ x. (x.0, x.1.now)) result (authority_at der.now) }

@@ -83,7 +83,7 @@ impl X509BundleSet {
         Ok(set)
     }
 
-    /// The same set again, which shares its bundles.
+    /// A copy of the set, which shares its bundles.
     pub fn try_clone(&self, alloc: Global) -> Result<X509BundleSet, OutOfMemory>
         ensures { IfOk result (λ s. s ≡ self.now) }
     {

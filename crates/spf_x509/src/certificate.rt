@@ -82,7 +82,7 @@ impl Certificate {
         self.der.as_slice()
     }
 
-    /// The same certificate again.
+    /// A copy of the certificate.
     pub fn try_clone(&self, alloc: Global) -> Result<Certificate, OutOfMemory>
         ensures { IfOk result (λ c. c ≡ self.now) }
     {
@@ -100,7 +100,7 @@ impl Certificate {
     }
 }
 
-/// The same certificates again.
+/// Copies of the certificates.
 pub(crate) fn copies(alloc: Global, chain: &[Certificate]) -> Result<Vec<Certificate>, OutOfMemory>
     ensures { IfOk result (λ v. v.items ≡ chain.now) }
 {

@@ -40,7 +40,7 @@ fn shared_svids(alloc: Global, svids: &[Arc<X509Svid>]) -> Result<Vec<Arc<X509Sv
     Ok(shared)
 }
 
-/// The same CRLs again.
+/// Copies of the CRLs.
 fn copied_crls(alloc: Global, crls: &[Bytes]) -> Result<Vec<Bytes>, OutOfMemory>
     ensures { IfOk result (λ v. v.items ≡ crls.now) }
 {
@@ -66,7 +66,7 @@ impl X509Context {
         }
     }
 
-    /// The same context again, which shares its SVIDs and bundles.
+    /// A copy of the context, which shares its SVIDs and bundles.
     pub fn try_clone(&self, alloc: Global) -> Result<X509Context, OutOfMemory>
         ensures { IfOk result (λ c. c ≡ self.now) }
     {

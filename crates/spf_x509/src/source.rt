@@ -17,7 +17,7 @@ pub trait BundleSource {
 
     // What a reader has seen fits the source: it is of this source, and of no other.
     ghost fits: { Self → Self.Seen → Type 0 };
-    // What the source answers for the name of a trust domain to a reader that has now seen so much of it.
+    // What the source returns for the name of a trust domain to a reader that has seen this much of it.
     ghost answers: { Self → Self.Seen → List ℕ → Option Self.Item → Type 0 };
 
     /// A share of the bundle of that trust domain.
@@ -41,7 +41,7 @@ pub trait SvidSource {
 
     // What a reader has seen fits the source: it is of this source, and of no other.
     ghost fits: { Self → Self.Seen → Type 0 };
-    // What the source answers for a moment to a reader that has now seen so much of it.
+    // What the source returns for a moment to a reader that has seen this much of it.
     ghost answers: { Self → Self.Seen → Option ℤ → Self.Item → Type 0 };
 
     /// A share of the SVID that is current at that moment, in Unix seconds.

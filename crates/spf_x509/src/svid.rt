@@ -103,7 +103,7 @@ impl X509Svid {
         })
     }
 
-    /// The same SVID again.
+    /// A copy of the SVID.
     pub fn try_clone(&self, alloc: Global) -> Result<X509Svid, OutOfMemory>
         ensures { IfOk result (λ s. s ≡ self.now) }
     {

@@ -1,8 +1,7 @@
-use Rattle.std.proofs.Common.{◌≡◌, ℕ, ℤ, ◌-◌, ◌<◌, List, Ok, length, take, refl, sym, subst, ap, ◌∙◌, arith, rules, w64}
+use Rattle.std.proofs.Common.{◌≡◌, ℕ, ℤ, ◌-◌, ◌<◌, List, Ok, length, take, refl, sym, subst, ap, arith, rules, w64}
 use mir.Val.{to_z, of_z}
 use Rattle.std.proofs.lemmas.List.Elements.{All-from_get_or}
 use Rattle.spf_der.specs.Grammar.{CertText}
-use Rattle.spf_der.specs.Part.{Parts}
 use Rattle.spf_der.specs.Read.{certificate_rule}
 use Rattle.spf_der.specs.Scan.{extensions_in, read_extensions}
 use Rattle.spf_der.specs.declared.certificate.ExtensionPart.{ExtensionPart}

@@ -3,7 +3,6 @@ use Rattle.std.specs.Prelude.{unsigned_abs}
 use Rattle.std.proofs.lemmas.Int.{to_z_pos, to_z-of_z}
 use Rattle.std.proofs.lemmas.Result.{IfOk-weaker}
 use Rattle.spf_der.specs.WrittenTime.{IsTimeText}
-use Rattle.spf_der.specs.WrittenTime.{expiry_text}
 use Rattle.spf_der.proofs.CivilDays.{expiry_early, expiry_late}
 use Rattle.spf_der.proofs.WrittenTimes.{early_time, late_time, day_fits}
 use Rattle.spf_der.proofs.writer.time_value.Goals as goal

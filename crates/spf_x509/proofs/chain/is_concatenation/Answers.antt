@@ -1,7 +1,6 @@
-use Rattle.std.proofs.Common.{◌≡◌, ◌≤◌, ◌∙◌, List, ℕ, length, take, drop, sym, ap, arith}
+use Rattle.std.proofs.Common.{◌≡◌, length, take, arith}
 use Rattle.std.proofs.lemmas.Bool.Decides.{nat_tests}
 use Rattle.spf_io.proofs.Exact.{bytes_exact}
-use Rattle.spf_x509.specs.Certificate.{IsCertificate}
 use Rattle.spf_x509.proofs.Cuts.{begun_done, begun_more, begun_not}
 use Rattle.spf_x509.proofs.chain.is_concatenation.Goals as goal
 

@@ -1,11 +1,10 @@
-use Rattle.std.proofs.Common.{◌≡◌, ℕ, ◌<◌, ◌∙◌, Bool, true, false, not, Option, List, Ok, refl, sym, subst, ap, arith}
-use Rattle.std.specs.Bool.{IsTrue}
+use Rattle.std.proofs.Common.{◌≡◌, ℕ, ◌<◌, ◌∙◌, Bool, true, false, not, List, refl, sym, subst, ap, arith}
 use Rattle.std.specs.Option.{option_map}
 use Rattle.std.specs.Borrow.{Bor}
 use Rattle.std.proofs.lemmas.List.Elements.{All-from_get_or}
 use Rattle.spf_io.proofs.Exact.{bytes_exact}
 use Rattle.spf_der.specs.Grammar.{CertsOf}
-use Rattle.spf_x509.specs.Chain.{IsSvid, svid_of}
+use Rattle.spf_x509.specs.Chain.{IsSvid}
 use Rattle.spf_x509.specs.Svid.{Svid}
 use Rattle.spf_x509.proofs.Cuts.{svid_exact}
 use Rattle.spf_x509.proofs.svid.X509Svid.is_parsed_from.Goals as goal

@@ -1,4 +1,4 @@
-use Rattle.std.proofs.Common.{◌≡◌, ℕ, ◌<◌, ◌∙◌, ◌∷◌, [], Ok, refl, rules, arith}
+use Rattle.std.proofs.Common.{ℕ, ◌<◌, rules, arith}
 use Rattle.std.proofs.lemmas.List.Elements.{All-from_get_or}
 use Rattle.spf_x509.specs.Chain.{svid_of}
 use Rattle.spf_x509.proofs.Cuts.{svid_again}
