@@ -1,8 +1,9 @@
 -- What one walk over extensions finds of each that is looked up.
 use Rattle.std.proofs.Common.{◌≡◌, ℕ, Bool, true, false, cond, List, [], ◌∷◌, ◌++◌, Option, Result, refl, sym, ap, ◌∙◌}
 use Rattle.std.specs.Str.{bytes_eq}
+use Rattle.spf_der.specs.Identifier.{basic_constraints_identifier, key_usage_identifier, subject_alt_name_identifier}
 use Rattle.spf_der.specs.Read.{contents_with, only_one, unique_rule}
-use Rattle.spf_der.specs.Scan.{FoundWith, HasFound, basic_constraints_identifier, found_after, found_next, key_usage_identifier, subject_alt_name_identifier}
+use Rattle.spf_der.specs.Scan.{FoundWith, HasFound, found_after, found_next}
 use Rattle.spf_der.specs.declared.certificate.ExtensionPart.{ExtensionPart}
 use Rattle.spf_der.specs.declared.scan.Extensions.{Extensions}
 use Rattle.spf_der.specs.declared.error.X509ParseKind.{X509ParseKind}

@@ -5,6 +5,7 @@ pub mod DateTime
 pub mod Part
 pub mod Error
 pub mod Certificate
+pub mod Identifier
 pub mod Read
 pub mod Scan
 pub mod Extensions

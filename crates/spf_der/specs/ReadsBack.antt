@@ -1,6 +1,7 @@
 -- What is read of a certificate that was written (RFC 5280 sections 4.1 and 4.2.1): the spec, the serial number apart.
 use Rattle.std.specs.Prelude.{◌≡◌, ℕ, List, [], ◌∷◌, length, Option, Some, None, Ok, true, nat_lt}
 use Rattle.std.specs.List.{list_all}
+use Rattle.spf_der.specs.Identifier.{basic_constraints_identifier, key_usage_identifier, subject_alt_name_identifier}
 use Rattle.spf_der.specs.Part.{Parts}
 use Rattle.spf_der.specs.Read.{certificate_rule, unique_rule}
 use Rattle.spf_der.specs.Extensions.{key_usage_of, basic_constraints_of}
@@ -27,6 +28,6 @@ pub record ReadsBack (spec : CertSpec) (text : List ℕ) : Type 0 where
   pub parts : Parts
   pub read : certificate_rule text ≡ Ok (parts, length text)
   pub expiry : parts.expiry ≡ spec.expiry
-  pub key_usage : Holds key_usage_of (85 ∷ 29 ∷ 15 ∷ []) spec.key_usage parts.extensions
-  pub ca : Holds basic_constraints_of (85 ∷ 29 ∷ 19 ∷ []) spec.ca parts.extensions
-  pub uris : AreAscii spec.uris → Holds san_uris_of (85 ∷ 29 ∷ 17 ∷ []) (some_uris spec.uris) parts.extensions
+  pub key_usage : Holds key_usage_of key_usage_identifier spec.key_usage parts.extensions
+  pub ca : Holds basic_constraints_of basic_constraints_identifier spec.ca parts.extensions
+  pub uris : AreAscii spec.uris → Holds san_uris_of subject_alt_name_identifier (some_uris spec.uris) parts.extensions

@@ -1,6 +1,7 @@
 -- What is found of the three extensions that the rules of an SVID look up (RFC 5280 section 4.2.1).
 use Rattle.std.specs.Prelude.{◌≡◌, ℕ, List, [], ◌∷◌, Option, None, Some, Result, Ok, Err, ◌&&◌, ◌==◌, if◌then◌else◌}
 use Rattle.std.specs.Str.{bytes_eq}
+use Rattle.spf_der.specs.Identifier.{basic_constraints_identifier, key_usage_identifier, subject_alt_name_identifier}
 use Rattle.spf_der.specs.Read.{extensions_rule, unique_rule}
 use Rattle.spf_der.specs.declared.certificate.ExtensionPart.{ExtensionPart}
 use Rattle.spf_der.specs.declared.error.CertReadError.{CertReadError}
@@ -9,16 +10,6 @@ use Rattle.spf_der.specs.declared.error.X509ParseKind.TheVariants.{DuplicateExte
 use Rattle.spf_der.specs.declared.scan.Extensions.{Extensions}
 use Rattle.spf_der.specs.declared.scan.Found.{Found}
 use Rattle.spf_der.specs.declared.scan.Found.TheVariants.{Missing, Once, Twice}
-
--- the contents octets of 2.5.29.15, 2.5.29.17 and 2.5.29.19
-abbrev pub key_usage_identifier : List ℕ
-key_usage_identifier = 85 ∷ 29 ∷ 15 ∷ []
-
-abbrev pub subject_alt_name_identifier : List ℕ
-subject_alt_name_identifier = 85 ∷ 29 ∷ 17 ∷ []
-
-abbrev pub basic_constraints_identifier : List ℕ
-basic_constraints_identifier = 85 ∷ 29 ∷ 19 ∷ []
 
 -- the last arc of an identifier 2.5.29.N
 abbrev pub last_arc_of : List ℕ → Option ℕ

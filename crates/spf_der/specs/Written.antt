@@ -1,5 +1,6 @@
 -- The texts that are written (RFC 5280 section 4.1, RFC 5958 section 2): names, public keys and signatures are empty.
 use Rattle.std.specs.Prelude.{◌≡◌, ℕ, ◌+◌, List, [], ◌∷◌, ◌++◌, flat_map, Option, Some, None, Bool, if◌then◌else◌, codes}
+use Rattle.spf_der.specs.Identifier.{basic_constraints_identifier, key_usage_identifier, subject_alt_name_identifier}
 use Rattle.spf_der.specs.Value.{value_text}
 use Rattle.spf_der.specs.WrittenTime.{IsTimeText}
 use Rattle.spf_der.specs.declared.extensions.KeyUsageBits.{KeyUsageBits}
@@ -45,15 +46,15 @@ extension_text oid contents = value_text SEQUENCE (value_text OBJECT_IDENTIFIER 
 
 abbrev pub usage_part : Option KeyUsageBits → List ℕ
 usage_part None = []
-usage_part (Some bits) = extension_text (85 ∷ 29 ∷ 15 ∷ []) (usage_text bits)
+usage_part (Some bits) = extension_text key_usage_identifier (usage_text bits)
 
 abbrev pub constraints_part : Option Bool → List ℕ
 constraints_part None = []
-constraints_part (Some ca) = extension_text (85 ∷ 29 ∷ 19 ∷ []) (constraints_text ca)
+constraints_part (Some ca) = extension_text basic_constraints_identifier (constraints_text ca)
 
 abbrev pub names_part : List (List ℕ) → List ℕ
 names_part [] = []
-names_part (uri ∷ uris) = extension_text (85 ∷ 29 ∷ 17 ∷ []) (names_text (uri ∷ uris))
+names_part (uri ∷ uris) = extension_text subject_alt_name_identifier (names_text (uri ∷ uris))
 
 -- the text of the extensions
 abbrev pub extensions_text : CertSpec → List ℕ

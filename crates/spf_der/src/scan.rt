@@ -5,7 +5,8 @@ ghost use Rattle.spf_der.specs.Error.{is_memory};
 ghost use Rattle.spf_der.specs.Grammar.{CertText};
 ghost use Rattle.spf_der.specs.Part.{plain};
 ghost use Rattle.spf_der.specs.Read.{certificate_rule, extensions_rule, never, unique_rule};
-ghost use Rattle.spf_der.specs.Scan.{FoundWith, IsScanned, basic_constraints_identifier, found_after, found_of, key_usage_identifier, last_arc_of, subject_alt_name_identifier};
+ghost use Rattle.spf_der.specs.Identifier.{basic_constraints_identifier, key_usage_identifier, subject_alt_name_identifier};
+ghost use Rattle.spf_der.specs.Scan.{FoundWith, IsScanned, found_after, found_of, last_arc_of};
 ghost use Rattle.spf_der.specs.Value.{seen};
 
 use crate::certificate::{ExtensionView, certificate, extension};

@@ -1,7 +1,7 @@
 //! Times (RFC 5280 section 4.1.2.5), which stand in UTC.
 ghost use Rattle.std.specs.Prelude.{◌≡◌, ◌<◌, IfSome};
 ghost use Rattle.std.specs.Option.{option_map};
-ghost use Rattle.spf_der.specs.Time as rules;
+ghost use Rattle.spf_der.specs.Time as spec;
 ghost use Rattle.jiff_core.specs.Date.{epoch_day};
 ghost use Rattle.spf_der.specs.DateTime.{unix_second};
 ghost use Rattle.spf_der.specs.Time.{clock_of, day_number_of, moment_of, pair_of, time_at, unix_of};
@@ -97,7 +97,7 @@ fn clock(year: u16, bytes: &[u8]) -> Option<DateTime>
 #[inline(never)]
 #[tactic(auto, unfolding(crate::specs::Time::utc_time))]
 fn utc_time(contents: &[u8]) -> Option<DateTime>
-    ensures { option_map unix_second result ≡ rules.utc_time contents.now }
+    ensures { option_map unix_second result ≡ spec.utc_time contents.now }
 {
     match contents {
         [y, yy, rest @ ..] => {
@@ -112,7 +112,7 @@ fn utc_time(contents: &[u8]) -> Option<DateTime>
 #[inline(never)]
 #[tactic(auto, unfolding(crate::specs::Time::generalized_time))]
 fn generalized_time(contents: &[u8]) -> Option<DateTime>
-    ensures { option_map unix_second result ≡ rules.generalized_time contents.now }
+    ensures { option_map unix_second result ≡ spec.generalized_time contents.now }
 {
     match contents {
         [c, cc, y, yy, rest @ ..] => {

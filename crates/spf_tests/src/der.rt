@@ -244,7 +244,14 @@ fn error_texts(rt: HostRuntime) -> Result<(), Fail> {
     let text = format!(in alloc; "{} {}", invalid(), CertReadError::OutOfMemory)?;
     assert_eq!(rt; text.as_str(), "InvalidCertificate out of memory");
     let duplicate = X509ParseError::new(X509ParseKind::DuplicateExtensions);
-    let text = format!(in alloc; "{} {}", CertReadError::Parse(duplicate), Pkcs8DecodeError)?;
-    assert_eq!(rt; text.as_str(), "DuplicateExtensions invalid PKCS#8");
+    let text = format!(in alloc;
+        "{duplicate} {} {}",
+        CertReadError::Parse(duplicate),
+        Pkcs8DecodeError
+    )?;
+    assert_eq!(rt;
+        text.as_str(),
+        "DuplicateExtensions DuplicateExtensions invalid PKCS#8"
+    );
     Ok(())
 }

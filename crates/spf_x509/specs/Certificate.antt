@@ -4,6 +4,7 @@ use Rattle.spf_io.specs.Rule.{◌>>=◌, broken_as}
 use Rattle.spf_id.specs.Id.{Id}
 use Rattle.spf_id.specs.Rule.{id_rule, has_spiffe_scheme}
 use Rattle.spf_der.specs.Grammar.{CertText}
+use Rattle.spf_der.specs.Identifier.{basic_constraints_identifier, key_usage_identifier, subject_alt_name_identifier}
 use Rattle.spf_der.specs.Part.{Parts}
 use Rattle.spf_der.specs.Read.{certificate_rule, unique_rule}
 use Rattle.spf_der.specs.Names.{san_uris_of}
@@ -30,9 +31,9 @@ IsCertificate der = (parts : Parts) × CertText der parts
 
 -- the contents octets of 2.5.29.15, 2.5.29.17 and 2.5.29.19 (RFC 5280 section 4.2.1)
 abbrev pub oid_of : X509ExtensionId → List ℕ
-oid_of KeyUsage = 85 ∷ 29 ∷ 15 ∷ []
-oid_of SubjectAlternativeName = 85 ∷ 29 ∷ 17 ∷ []
-oid_of BasicConstraints = 85 ∷ 29 ∷ 19 ∷ []
+oid_of KeyUsage = key_usage_identifier
+oid_of SubjectAlternativeName = subject_alt_name_identifier
+oid_of BasicConstraints = basic_constraints_identifier
 
 -- an extension that has to be there
 abbrev pub present : X509ExtensionId → Option (List ℕ) → Result (List ℕ) CertificateError
