@@ -8,7 +8,7 @@ use Rattle.spf_view.specs.Sessions.{NoFrameAt}
 use Rattle.spf_view.proofs.FrameLemmas.{raw_same}
 use Rattle.spf_feed.specs.declared.event.SessionEvent.{SessionEvent}
 use Rattle.spf_feed.specs.declared.event.SessionEvent.TheVariants as events
-use Rattle.spf_feed.specs.declared.frame.Phase.{Phase}
+use Rattle.spf_feed.specs.declared.phase.Phase.{Phase}
 use Rattle.spf_feed.specs.Events.{failure_at, status_at, moment_at, when_empty, event_at, map_item}
 use Rattle.spf_feed.specs.declared.frame.FrameError.{FrameError}
 use Rattle.spf_feed.specs.declared.frame.FrameError.TheVariants as errors
@@ -112,10 +112,19 @@ front_alone rules past phase kind payload asks may fits =
 pub read_nothing : (rules : Rules) (past : List Event) (phase : Phase) (allowed : Bool) (old new : Option (List ℕ)) (kind : ℕ) (payload slice : List ℕ) → ask_of context_in rules past ≡ phase
     → IsRead phase allowed old new (record { kind = kind; payload = payload }) → slice ≡ payload → None ≡ event_at item_at kind slice → IsEventUnread rules past allowed old new errors.BadFrame
 read_nothing rules past phase allowed old new kind payload slice asks read same is =
-    let none : event_at item_at kind payload ≡ None = sym (is ∙ ap (event_at item_at kind) same) in
-    (read.leave, (raw_text kind payload, read.taken, ((λ e. absurd cc), front_alone rules past phase kind payload asks read.kind read.short,
-    none_from_front (λ ys. NoFrameAt (stream rules) past ys × (frame_front ((stream rules).allows past) ys ≡ raw_text kind payload)) old new (raw_text kind payload) read.taken
-    (λ ys. (unlaid rules past kind payload read.short none ys, front_whole rules past phase kind payload ys asks read.kind read.short)))))
+    let none : event_at item_at kind payload ≡ None = sym (is ∙ ap (event_at item_at kind) same) in (
+      read.leave,
+      (
+        raw_text kind payload,
+        read.taken,
+        (
+          (λ e. absurd cc),
+          front_alone rules past phase kind payload asks read.kind read.short,
+          none_from_front (λ ys. NoFrameAt (stream rules) past ys × (frame_front ((stream rules).allows past) ys ≡ raw_text kind payload)) old new (raw_text kind payload) read.taken
+              (λ ys. (unlaid rules past kind payload read.short none ys, front_whole rules past phase kind payload ys asks read.kind read.short)),
+        ),
+      ),
+    )
 
 -- memory ran out over the payload of a frame
 pub read_stopped : (rules : Rules) (past : List Event) (phase : Phase) (allowed : Bool) (old new : Option (List ℕ)) (kind : ℕ) (payload : List ℕ) → ask_of context_in rules past ≡ phase

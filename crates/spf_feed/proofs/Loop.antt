@@ -17,8 +17,8 @@ use Rattle.spf_feed.specs.declared.follow_error.FollowError.{FollowError}
 use Rattle.spf_feed.specs.declared.follow_error.FollowError.TheVariants as answers
 use Rattle.spf_feed.specs.declared.frame.FrameError.{FrameError}
 use Rattle.spf_feed.specs.declared.frame.FrameError.TheVariants as errors
-use Rattle.spf_feed.specs.declared.frame.Phase.{Phase}
-use Rattle.spf_feed.specs.declared.frame.Phase.TheVariants as phases
+use Rattle.spf_feed.specs.declared.phase.Phase.{Phase}
+use Rattle.spf_feed.specs.declared.phase.Phase.TheVariants as phases
 use Rattle.spf_feed.specs.declared.record.MetricsRecord.{MetricsRecord}
 use Rattle.spf_feed.specs.declared.step.Denial.{Denial}
 use Rattle.spf_feed.specs.declared.turn.Terminal.{Terminal}

@@ -19,7 +19,7 @@ use Rattle.spf_feed.specs.Lines.{after_comma, hex_list, choice_text, withdrawn_t
 use Rattle.spf_feed.specs.Material.{Material, chosen_of, same_material}
 use Rattle.spf_feed.specs.OneLine.{IsLine}
 use Rattle.spf_feed.specs.Pick.{choice_of}
-use Rattle.spf_feed.specs.Prepared.{usable}
+use Rattle.spf_feed.specs.Pick.{usable}
 use Rattle.spf_feed.specs.Run.{outputs}
 use Rattle.spf_feed.specs.Shown.{sorted_text, entry_text, revocations_text, context_text, visible_text, view_line, shown_text}
 use Rattle.spf_feed.proofs.Plain.{Plain, behind, texts_plain, decimal_plain, signed_plain, hex_plain, ended}

@@ -13,7 +13,7 @@ use Rattle.spf_api.specs.declared.status.GrpcStatusCode.TheVariants as code
 use Rattle.spf_view.specs.Views.{View, Waiting, Withdrawn, Permitted, outcomes, view_of, revision_of, last_moment}
 use Rattle.spf_view.specs.Sessions.{TooLong, BadFrame, Refused as SessionRefused, NeverSynced, end_of, refusal_of, closed_of, onto}
 use Rattle.spf_feed.specs.declared.event.SessionEvent.TheVariants as events
-use Rattle.spf_feed.specs.declared.frame.Phase.TheVariants as phases
+use Rattle.spf_feed.specs.declared.phase.Phase.TheVariants as phases
 use Rattle.spf_feed.specs.declared.limits.LimitKind.TheVariants.{MaxSvids}
 use Rattle.spf_feed.specs.declared.limits.ResourceLimits.{ResourceLimits}
 use Rattle.spf_feed.specs.declared.ready.Ready.TheVariants as readiness
@@ -24,11 +24,11 @@ use Rattle.spf_feed.specs.Events.{moment_at, status_at, event_at}
 use Rattle.spf_feed.specs.Frames.{allows}
 use Rattle.spf_feed.specs.Items.{Received, Rules, subject_by}
 use Rattle.spf_feed.specs.Limits.{within}
-use Rattle.spf_feed.specs.declared.frame.Phase.{Phase}
+use Rattle.spf_feed.specs.declared.phase.Phase.{Phase}
 use Rattle.spf_feed.specs.declared.step.Denial.{Denial}
 use Rattle.spf_feed.specs.declared.step.Denial.TheVariants as denials
 use Rattle.spf_feed.specs.Material.{Material, chosen_of, same_material}
-use Rattle.spf_feed.specs.Prepared.{usable}
+use Rattle.spf_feed.specs.Pick.{usable}
 use Rattle.spf_feed.specs.Pick.{pick_of}
 use Rattle.spf_feed.specs.Run.{ask_of, terminal_of, records_by, stream_by}
 use Rattle.spf_feed.specs.Shown.{view_line, shown_text}

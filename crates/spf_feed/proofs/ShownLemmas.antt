@@ -28,7 +28,7 @@ use Rattle.spf_feed.specs.declared.step.Denial.{Denial}
 use Rattle.spf_feed.specs.Lines.{after_comma, hex_list, shown_at, choice_text}
 use Rattle.spf_feed.specs.Material.{Material, chosen_of, same_svid, same_choice, entry_same, same_set, same_material}
 use Rattle.spf_feed.specs.Numbered.{LineView, ShowsKept}
-use Rattle.spf_feed.specs.Prepared.{usable}
+use Rattle.spf_feed.specs.Pick.{usable}
 use Rattle.spf_feed.specs.Shown.{sorted_text, entry_text, revocations_text, context_text, visible_text, view_line, shown_text}
 use Rattle.spf_feed.specs.Sorted.{AreIndexed}
 use Rattle.spf_feed.proofs.SameSvids.{svids_same_at}

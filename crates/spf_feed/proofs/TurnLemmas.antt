@@ -12,7 +12,7 @@ use Rattle.spf_api.specs.declared.status.GrpcStatusCode.TheVariants as code
 use Rattle.spf_view.specs.Views.{Passed, denied_or_passed, outcome_with}
 use Rattle.spf_feed.specs.declared.event.SessionEvent.{SessionEvent}
 use Rattle.spf_feed.specs.declared.event.SessionEvent.TheVariants as events
-use Rattle.spf_feed.specs.declared.frame.Phase.{Phase}
+use Rattle.spf_feed.specs.declared.phase.Phase.{Phase}
 use Rattle.spf_feed.specs.declared.limits.ResourceLimits.{ResourceLimits}
 use Rattle.spf_feed.specs.declared.turn.Turn.{Turn}
 use Rattle.spf_feed.specs.declared.record.MetricsRecord.{MetricsRecord}

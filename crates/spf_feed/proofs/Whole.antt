@@ -3,7 +3,7 @@ use Rattle.std.proofs.Common.{◌≡◌, ℕ, Bool, List, [], ◌∷◌, ◌++�
 use Rattle.std.specs.Prelude.{IsTrue}
 use Rattle.std.specs.Io.KnownBytes.{Consumes}
 use Rattle.std.proofs.KnownBytes.{Consumes-trans}
-use Rattle.spf_feed.specs.declared.frame.Phase.{Phase}
+use Rattle.spf_feed.specs.declared.phase.Phase.{Phase}
 use Rattle.spf_feed.specs.declared.frame.FrameError.{FrameError}
 use Rattle.spf_feed.specs.declared.frame.FrameError.TheVariants as errors
 use Rattle.spf_feed.specs.Parts.{NoPart, PartFails}

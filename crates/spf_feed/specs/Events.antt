@@ -7,6 +7,7 @@ use Rattle.spf_api.specs.Refused.{Refused}
 use Rattle.spf_api.specs.Status.{code_at}
 use Rattle.spf_api.specs.declared.link.ClientFault.{ClientFault}
 use Rattle.spf_api.specs.declared.link.ClientFault.TheVariants as fault
+use Rattle.spf_feed.specs.declared.frame_kind.TheConstants.{CLIENT_MADE, CLIENT_FAILED, CONNECTED, CONNECT_STATUS, ITEM, ITEM_STATUS, STREAM_END, MOMENT, CLOSE}
 use Rattle.spf_feed.specs.declared.event.SessionEvent.{SessionEvent}
 use Rattle.spf_feed.specs.declared.event.SessionEvent.TheVariants as events
 
@@ -40,15 +41,15 @@ when_empty payload e = if length payload == 0 then Some e else None
 -- The event that a payload of a kind lays out, where `item_at` says what an item lays out.
 unfoldable pub event_at : {I : Type 0} → (List ℕ → Option I) → ℕ → List ℕ → Option (SessionEvent I)
 event_at item_at kind payload =
-    if kind == 1 then when_empty payload events.ClientMade
-    else (if kind == 2 then option_map events.ClientFailed (failure_at payload)
-    else (if kind == 3 then when_empty payload events.Connected
-    else (if kind == 4 then option_map events.ConnectStatus (status_at payload)
-    else (if kind == 5 then option_map events.Item (item_at payload)
-    else (if kind == 6 then option_map events.ItemStatus (status_at payload)
-    else (if kind == 7 then when_empty payload events.StreamEnd
-    else (if kind == 8 then option_map events.Moment (moment_at payload)
-    else (if kind == 9 then when_empty payload events.Close
+    if kind == CLIENT_MADE then when_empty payload events.ClientMade
+    else (if kind == CLIENT_FAILED then option_map events.ClientFailed (failure_at payload)
+    else (if kind == CONNECTED then when_empty payload events.Connected
+    else (if kind == CONNECT_STATUS then option_map events.ConnectStatus (status_at payload)
+    else (if kind == ITEM then option_map events.Item (item_at payload)
+    else (if kind == ITEM_STATUS then option_map events.ItemStatus (status_at payload)
+    else (if kind == STREAM_END then when_empty payload events.StreamEnd
+    else (if kind == MOMENT then option_map events.Moment (moment_at payload)
+    else (if kind == CLOSE then when_empty payload events.Close
     else None))))))))
 
 -- the same event, of whose item a function is taken

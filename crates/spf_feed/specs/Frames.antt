@@ -3,8 +3,9 @@ use Rattle.std.specs.Prelude.{◌≡◌, ◌≢◌, ℕ, Bool, false, ◌==◌, 
 use Rattle.std.specs.Io.KnownBytes.{Consumes, IsAtEnd}
 unfoldable pub use Rattle.spf_view.specs.Frames.{sized, sized_front, frame_front}
 pub use Rattle.spf_view.specs.Frames.{FitsFrame, raw_text}
-use Rattle.spf_feed.specs.declared.frame.Phase.{Phase}
-use Rattle.spf_feed.specs.declared.frame.Phase.TheVariants as phases
+use Rattle.spf_feed.specs.declared.frame_kind.TheConstants.{CLIENT_MADE, CLIENT_FAILED, CONNECTED, CONNECT_STATUS, ITEM, ITEM_STATUS, STREAM_END, MOMENT, CLOSE}
+use Rattle.spf_feed.specs.declared.phase.Phase.{Phase}
+use Rattle.spf_feed.specs.declared.phase.Phase.TheVariants as phases
 use Rattle.spf_feed.specs.declared.frame.RawFrame.{RawFrame}
 use Rattle.spf_feed.specs.declared.frame.FrameError.{FrameError}
 use Rattle.spf_feed.specs.declared.frame.FrameError.TheVariants as errors
@@ -12,9 +13,9 @@ use Rattle.spf_feed.specs.Parts.{Takes}
 
 -- the kinds that may stand
 abbrev pub allows : Phase → ℕ → Bool
-allows phases.Client kind = kind == 1 || kind == 2 || kind == 8 || kind == 9
-allows phases.Connect kind = kind == 3 || kind == 4 || kind == 8 || kind == 9
-allows phases.Next kind = kind == 5 || kind == 6 || kind == 7 || kind == 8 || kind == 9
+allows phases.Client kind = kind == CLIENT_MADE || kind == CLIENT_FAILED || kind == MOMENT || kind == CLOSE
+allows phases.Connect kind = kind == CONNECTED || kind == CONNECT_STATUS || kind == MOMENT || kind == CLOSE
+allows phases.Next kind = kind == ITEM || kind == ITEM_STATUS || kind == STREAM_END || kind == MOMENT || kind == CLOSE
 
 -- no frame of a kind that may stand begins these bytes
 abbrev pub NoFrame : Phase → List ℕ → Type 0

@@ -18,7 +18,7 @@ use Rattle.spf_feed.specs.declared.ready.Ready.TheVariants as readiness
 use Rattle.spf_feed.specs.declared.step.Denial.{Denial}
 use Rattle.spf_feed.specs.declared.step.Denial.TheVariants as denial
 use Rattle.spf_feed.specs.Pick.{pick_of}
-use Rattle.spf_feed.specs.Prepared.{usable}
+use Rattle.spf_feed.specs.Pick.{usable}
 use Rattle.spf_feed.specs.Steps.{Material, chosen_of, fits, same_material}
 
 -- an event of an X.509 session

@@ -4,7 +4,7 @@ use Rattle.std.specs.Option.{option_and_then}
 use Rattle.spf_view.specs.Standing.{Kept, held_in}
 use Rattle.spf_feed.specs.declared.step.Denial.{Denial}
 use Rattle.spf_feed.specs.Material.{Material, chosen_of}
-use Rattle.spf_feed.specs.Prepared.{usable}
+use Rattle.spf_feed.specs.Pick.{usable}
 use Rattle.spf_feed.specs.Shown.{shown_text}
 
 -- what stands behind the number, and whether a choice is shown

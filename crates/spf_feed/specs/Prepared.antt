@@ -1,10 +1,9 @@
 -- Prepared steps, and what keeps them.
-use Rattle.std.specs.Prelude.{ℤ, int_lt, Bool, false, Option, None, Some, if◌then◌else◌}
+use Rattle.std.specs.Prelude.{Bool, false, Option, None, Some}
 use Rattle.std.specs.Arc.{arc_value}
 use Rattle.std.specs.Option.{option_map}
 use Rattle.std.specs.declared.sync.Arc.{Arc}
 use Rattle.std.specs.declared.alloc.Global.{Global}
-use Rattle.spf_x509.specs.Svid.{Svid}
 use Rattle.spf_feed.specs.declared.sorted.Sorted.{Sorted}
 use Rattle.spf_feed.specs.Sorted.{AreSorted}
 use Rattle.spf_feed.specs.Steps.{PlainStep, Accept, Deny, same_material}
@@ -25,9 +24,3 @@ abbrev pub is_same_step : PlainStep → PlainStep → Bool
 is_same_step (Accept m l) (Accept n k) = same_material m n
 is_same_step (Accept m l) (Deny d) = false
 is_same_step (Deny d) step = false
-
--- the SVID, where there is a moment and its expiry is above it
-abbrev pub usable : Option Svid → Option ℤ → Option Svid
-usable None now = None
-usable (Some svid) None = None
-usable (Some svid) (Some now) = if int_lt now svid.expiry then Some svid else None

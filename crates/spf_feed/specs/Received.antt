@@ -1,7 +1,7 @@
 -- An event as it is received, whose item is read down to its context.
 use Rattle.std.specs.Prelude.{ℤ, Bool, List, Option}
 use Rattle.spf_view.specs.Views.{Outcome, outcome_with}
-use Rattle.spf_feed.specs.declared.frame.Phase.{Phase}
+use Rattle.spf_feed.specs.declared.phase.Phase.{Phase}
 use Rattle.spf_feed.specs.declared.limits.ResourceLimits.{ResourceLimits}
 use Rattle.spf_feed.specs.declared.record.MetricsRecord.{MetricsRecord}
 use Rattle.spf_feed.specs.declared.step.Denial.{Denial}

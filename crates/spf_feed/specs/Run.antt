@@ -17,8 +17,8 @@ use Rattle.spf_feed.specs.declared.event.SessionEvent.{SessionEvent}
 use Rattle.spf_feed.specs.declared.event.SessionEvent.TheVariants as events
 use Rattle.spf_feed.specs.declared.follow_error.FollowError.{FollowError}
 use Rattle.spf_feed.specs.declared.follow_error.FollowError.TheVariants as answers
-use Rattle.spf_feed.specs.declared.frame.Phase.{Phase}
-use Rattle.spf_feed.specs.declared.frame.Phase.TheVariants as phases
+use Rattle.spf_feed.specs.declared.phase.Phase.{Phase}
+use Rattle.spf_feed.specs.declared.phase.Phase.TheVariants as phases
 use Rattle.spf_feed.specs.declared.limits.LimitBroken.{LimitBroken}
 use Rattle.spf_feed.specs.declared.limits.LimitKind.{LimitKind}
 use Rattle.spf_feed.specs.declared.limits.LimitKind.TheVariants.{MaxSvids, MaxBundles, MaxBundleDerBytes, MaxCrlBytes}

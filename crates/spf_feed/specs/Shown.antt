@@ -11,7 +11,7 @@ use Rattle.spf_x509.specs.Svid.{Svid}
 use Rattle.spf_feed.specs.declared.step.Denial.{Denial}
 use Rattle.spf_feed.specs.Lines.{hex_list, choice_text, withdrawn_text}
 use Rattle.spf_feed.specs.Material.{Material, chosen_of}
-use Rattle.spf_feed.specs.Prepared.{usable}
+use Rattle.spf_feed.specs.Pick.{usable}
 
 -- byte texts sorted by bytes, each in hexadecimal, with commas between
 abbrev pub sorted_text : List (List ℕ) → List ℕ

@@ -1,8 +1,8 @@
 -- What a snapshot keeps.
 use Rattle.std.specs.Prelude.{IsTrue}
 use Rattle.std.specs.Arc.{arc_value}
-use Rattle.spf_feed.specs.declared.snapshot.Standing.{Standing}
-use Rattle.spf_feed.specs.declared.snapshot.Standing.TheVariants as standing
+use Rattle.spf_feed.specs.declared.standing.Standing.{Standing}
+use Rattle.spf_feed.specs.declared.standing.Standing.TheVariants as standing
 use Rattle.spf_feed.specs.declared.step.Denial.{Denial}
 use Rattle.spf_feed.specs.Steps.{Material, View, Withdrawn, shown_by, is_accept}
 

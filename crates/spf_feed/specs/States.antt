@@ -10,7 +10,7 @@ use Rattle.spf_feed.specs.declared.state.X509SourceError.{X509SourceError}
 use Rattle.spf_feed.specs.declared.state.X509SourceError.TheVariants as errors
 use Rattle.spf_feed.specs.declared.step.Denial.{Denial}
 use Rattle.spf_feed.specs.Steps.{View, Material, chosen_of, held_in, reason_of}
-use Rattle.spf_feed.specs.Prepared.{usable}
+use Rattle.spf_feed.specs.Pick.{usable}
 
 -- the held context, or the reason of the withdrawal
 abbrev pub ContextAnswer : View Material Denial → Result (Arc Context Global) X509SourceError → Type 0

@@ -11,15 +11,16 @@ ghost use Rattle.spf_feed.specs.Turns.{MayTake, listed};
 ghost use Rattle.spf_feed.specs.Items.{Event as SessionOf, context_in, Rules, rules_with};
 ghost use Rattle.spf_feed.specs.declared.follow_error.FollowError.TheVariants as answers;
 ghost use Rattle.spf_feed.specs.declared.frame.FrameError.TheVariants as errors;
-ghost use Rattle.spf_feed.specs.Received.{received_ask, received_moment, received_close};
+ghost use Rattle.spf_feed.specs.Received.{received_moment, received_close};
 ghost use Rattle.spf_feed.specs.Run.{ask_of, stream, outputs, end_for};
 ghost use Rattle.spf_feed.specs.Following.{is_fault, HasFaults, error_at as unread_error, OnlyAllowed, EventRead, HandsOn, IsShownAfter, IsTaken, change_of, is_changed, update_of, TurnTaken};
 
 use crate::follow_error::FollowError;
-use crate::frame::{FrameError, Phase, next_frame};
+use crate::frame::{FrameError, next_frame};
 use crate::limits::ResourceLimits;
 use crate::line::NumberedLine;
 use crate::payload::{Received, event_in};
+use crate::phase::{Phase, phase_after};
 use crate::picker::SvidPicker;
 use crate::prepared::Prepared;
 use crate::ready::Ready;
@@ -64,19 +65,6 @@ fn error_at(count: u64, e: FrameError) -> FollowError
         FrameError::BadFrame => FollowError::BadFrame { frame: count + 1 },
         FrameError::ReadFault => FollowError::ReadFault,
         FrameError::OutOfMemory => FollowError::OutOfMemory,
-    }
-}
-
-/// What the source is asked for after an event.
-fn phase_after(phase: Phase, synced: bool, event: &Received) -> Phase
-    ensures { result ≡ received_ask phase synced event.now }
-{
-    match event {
-        Received::ClientMade => Phase::Connect,
-        Received::Connected => Phase::Next,
-        Received::Moment(_) => phase,
-        Received::Item(Some(_)) if synced => Phase::Next,
-        _ => Phase::Client,
     }
 }
 

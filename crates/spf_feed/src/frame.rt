@@ -1,24 +1,17 @@
-//! Frames: a kind octet, four octets of length, and so many payload octets.
+//! Reading frames: a kind octet, four octets of length, and the payload.
 
 ghost use Rattle.std.specs.Prelude.{◌≡◌, ◌≤◌, ◌^◌, take, length as list_len};
 ghost use Rattle.std.specs.Int.{w32, to_be_bytes, from_be_bytes};
 ghost use Rattle.spf_feed.specs.Parts.{PartRead, PartPut, HasFault};
-ghost use Rattle.spf_feed.specs.Frames.{allows, sized, sized_front, FitsFrame, KindRead, FrameRead, with_payload};
+ghost use Rattle.spf_feed.specs.Frames.{sized, sized_front, FitsFrame, KindRead, FrameRead, with_payload};
 
+use crate::phase::{Phase, may_stand};
 use crate::source::fill;
 use spf_io::{Bytes, OutOfMemory, Source};
 use std::alloc::{AllocError, Global};
 
-/// The most payload octets of a frame.
+/// The max length of a payload.
 const MAX_PAYLOAD: u32 = 1 << 24;
-
-/// What the source is asked for next.
-#[derive(Clone, Copy, Debug, PartialEq, Eq)]
-pub enum Phase {
-    Client,
-    Connect,
-    Next,
-}
 
 /// A frame with its payload unread.
 #[derive(Debug, Drop)]
@@ -57,17 +50,6 @@ impl From<AllocError> for FrameError {
 
     fn from(_e: AllocError) -> FrameError {
         FrameError::OutOfMemory
-    }
-}
-
-/// Whether a frame of this kind may stand.
-fn may_stand(phase: Phase, kind: u8) -> bool
-    ensures { result ≡ allows phase kind }
-{
-    match phase {
-        Phase::Client => kind == 1 || kind == 2 || kind == 8 || kind == 9,
-        Phase::Connect => kind == 3 || kind == 4 || kind == 8 || kind == 9,
-        Phase::Next => kind == 5 || kind == 6 || kind == 7 || kind == 8 || kind == 9,
     }
 }
 
@@ -113,7 +95,7 @@ fn read_length<S: Source>(source: &mut S) -> Result<u32, FrameError>
     Ok(length)
 }
 
-/// So many octets, in place of what the buffer held.
+/// A payload of this length, in place of what the buffer held.
 fn read_octets<S: Source>(
     source: &mut S,
     payload: &mut Vec<u8>,
@@ -137,7 +119,7 @@ fn read_octets<S: Source>(
     Ok(())
 }
 
-/// Four octets of length, and so many octets, in place of what the buffer held.
+/// Four octets of length, and the payload, in place of what the buffer held.
 fn read_sized<S: Source>(source: &mut S, payload: &mut Vec<u8>) -> Result<(), FrameError>
     ensures bytes { PartPut sized FitsFrame sized_front (S.left source.old) (S.left source.new) result payload.new.items }
     ensures cause { HasFault (S.faults source.old) (S.faults source.new) result }

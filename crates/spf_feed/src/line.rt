@@ -18,10 +18,12 @@ ghost use Rattle.spf_feed.specs.Standing.{view_in, IsKept};
 ghost use Rattle.spf_feed.specs.Steps.{is_accept};
 ghost use Rattle.spf_feed.specs.Numbered.{ShowsKept};
 
+use crate::picker::usable;
 use crate::prepared::Prepared;
-use crate::snapshot::{Snapshot, Standing};
+use crate::snapshot::Snapshot;
 use crate::sorted::Sorted;
-use crate::state::{X509SourceState, usable};
+use crate::standing::Standing;
+use crate::state::X509SourceState;
 use crate::step::Denial;
 use itoa::Buffer;
 use spf_id::TrustDomain;

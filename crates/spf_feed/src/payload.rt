@@ -6,6 +6,10 @@ ghost use Rattle.spf_feed.specs.Events.{field_at, text_at, status_at, failure_at
 ghost use Rattle.spf_feed.specs.Items.{item_at, IsReceived};
 
 use crate::event::SessionEvent;
+use crate::frame_kind::{
+    CLIENT_FAILED, CLIENT_MADE, CLOSE, CONNECT_STATUS, CONNECTED, ITEM, ITEM_STATUS, MOMENT,
+    STREAM_END,
+};
 use spf_api::{
     ClientFault, GrpcStatusCode, GrpcStatusError, WorkloadApiError, context_from_view,
     read_context_view,
@@ -139,15 +143,15 @@ pub(crate) fn event_in(
     ensures { IfOk result (λ o. o ≡ event_at item_at kind payload.now) }
 {
     match kind {
-        1 => Ok(when_empty(payload, Received::ClientMade)),
-        2 => Ok(failure_in(alloc, payload)?.map(Received::ClientFailed)),
-        3 => Ok(when_empty(payload, Received::Connected)),
-        4 => Ok(status_in(alloc, payload)?.map(Received::ConnectStatus)),
-        5 => Ok(item_in(alloc, payload)?.map(Received::Item)),
-        6 => Ok(status_in(alloc, payload)?.map(Received::ItemStatus)),
-        7 => Ok(when_empty(payload, Received::StreamEnd)),
-        8 => Ok(moment_in(payload).map(Received::Moment)),
-        9 => Ok(when_empty(payload, Received::Close)),
+        CLIENT_MADE => Ok(when_empty(payload, Received::ClientMade)),
+        CLIENT_FAILED => Ok(failure_in(alloc, payload)?.map(Received::ClientFailed)),
+        CONNECTED => Ok(when_empty(payload, Received::Connected)),
+        CONNECT_STATUS => Ok(status_in(alloc, payload)?.map(Received::ConnectStatus)),
+        ITEM => Ok(item_in(alloc, payload)?.map(Received::Item)),
+        ITEM_STATUS => Ok(status_in(alloc, payload)?.map(Received::ItemStatus)),
+        STREAM_END => Ok(when_empty(payload, Received::StreamEnd)),
+        MOMENT => Ok(moment_in(payload).map(Received::Moment)),
+        CLOSE => Ok(when_empty(payload, Received::Close)),
         _ => Ok(None),
     }
 }

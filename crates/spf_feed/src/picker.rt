@@ -6,10 +6,11 @@ ghost use Rattle.std.specs.Option.{option_map, ForSome};
 ghost use Rattle.std.specs.declared.sync.Arc.{Arc};
 ghost use Rattle.std.specs.declared.alloc.Global.{Global};
 ghost use Rattle.spf_x509.specs.Svid.{Svid};
-ghost use Rattle.spf_feed.specs.Pick.{pick_of, first_index, has_hint as is_hinted, first_with_hint as first_hinted, AnswersBy};
+ghost use Rattle.spf_feed.specs.Pick.{pick_of, first_index, choice_of, usable as usable_of, has_hint as is_hinted, first_with_hint as first_hinted, AnswersBy};
 
 use spf_io::Text;
 use spf_x509::{X509Context, X509Svid};
+use std::fmt;
 use std::marker::PhantomData;
 use std::sync::Arc;
 
@@ -47,6 +48,12 @@ impl<F: Fn(&[Arc<X509Svid>]) -> Option<usize>, N: PickFunction> FnPicker<F, N> {
             f,
             function: PhantomData,
         }
+    }
+}
+
+impl<F: Fn(&[Arc<X509Svid>]) -> Option<usize>, N: PickFunction> fmt::Debug for FnPicker<F, N> {
+    fn fmt<W: fmt::Write>(&self, f: &mut fmt::Formatter<W>) -> fmt::Result {
+        write!(f, "FnPicker")
     }
 }
 
@@ -139,4 +146,24 @@ pub fn select_svid<P: SvidPicker>(ctx: &X509Context, picker: Option<&P>) -> Opti
     ensures { result ≡ pick_of (option_map (λ p. P.picks p.now) picker.entry) ctx.now.svids }
 {
     picked(ctx.svids(), picker)
+}
+
+/// The chosen SVID, where there is one at the index.
+pub(crate) fn chosen(context: &X509Context, choice: Option<usize>) -> Option<&Arc<X509Svid>>
+    ensures { option_map (λ a. arc_value a.now) result ≡ choice_of context.now.svids choice }
+{
+    match choice {
+        None => None,
+        Some(index) => context.svids().get(index),
+    }
+}
+
+/// The chosen SVID, where there is a moment and its expiry is above it.
+pub(crate) fn usable(chosen: Option<&Arc<X509Svid>>, now: Option<i64>) -> Option<&Arc<X509Svid>>
+    ensures { option_map (λ a. arc_value a.now) result ≡ usable_of (option_map (λ a. arc_value a.now) chosen.entry) now }
+{
+    match (chosen, now) {
+        (Some(svid), Some(now)) if now < svid.expiry_unix() => Some(svid),
+        _ => None,
+    }
 }

@@ -11,7 +11,8 @@ ghost use Rattle.spf_feed.specs.Prepared.{is_same_step, HasIndices};
 ghost use Rattle.spf_feed.specs.Sorted.{AuthorityIndices, IndicesOf};
 ghost use Rattle.spf_feed.specs.Steps.{plain, is_accept, material_in, chosen_of};
 
-use crate::sorted::{Sorted, chosen, is_same, indices_in, sorted_of};
+use crate::picker::chosen;
+use crate::sorted::{Sorted, indices_in, is_same, sorted_of};
 use crate::step::Step;
 use spf_id::TrustDomain;
 use spf_io::OutOfMemory;

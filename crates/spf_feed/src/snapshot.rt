@@ -4,47 +4,14 @@ ghost use Rattle.std.specs.Prelude.{◌≡◌, IsTrue, IfOk, is_some, List, [], 
 ghost use Rattle.std.specs.Option.{option_and_then};
 ghost use Rattle.spf_view.specs.Standing.{Stands, IsShowing, is_change, kept_next};
 ghost use Rattle.spf_feed.specs.Steps.{PlainStep, is_accept, chosen_of, shown_by, held_in, raised, same_material};
-ghost use Rattle.spf_feed.specs.Prepared.{usable as usable_of};
+ghost use Rattle.spf_feed.specs.Pick.{usable as usable_of};
 ghost use Rattle.spf_feed.specs.Standing.{view_in, IsKept};
 
 use crate::prepared::Prepared;
-use crate::state::{X509SourceState, usable};
-use crate::step::{Denial, Step};
+use crate::standing::Standing;
+use crate::state::X509SourceState;
 use spf_io::OutOfMemory;
 use std::marker::Model;
-use std::sync::Arc;
-
-/// What is visible: a permitted context, which is an Accept, or the reason of a withdrawal.
-#[derive(Debug, Drop)]
-pub(crate) enum Standing {
-    Permitted(Prepared),
-    Withdrawn(Arc<Denial>),
-}
-
-impl Standing {
-    fn try_clone(&self) -> Result<Standing, OutOfMemory>
-        ensures view { IfOk result (λ s. view_in s ≡ view_in self.now) }
-        ensures kept { IsKept self.now → IfOk result IsKept }
-    {
-        match self {
-            Standing::Permitted(held) => Ok(Standing::Permitted(held.try_clone()?)),
-            Standing::Withdrawn(reason) => Ok(Standing::Withdrawn(Arc::try_clone(reason)?)),
-        }
-    }
-}
-
-fn standing_of(step: Prepared) -> Standing
-    ensures view { view_in result ≡ shown_by step }
-    ensures kept { IsKept result }
-{
-    if step.is_accept() {
-        return Standing::Permitted(step);
-    }
-    match step.into_step() {
-        Step::Accept { .. } => unreachable!(),
-        Step::Deny { reason } => Standing::Withdrawn(reason),
-    }
-}
 
 /// The revision, and the held context or the reason of the withdrawal.
 #[derive(Debug, Drop)]
@@ -75,7 +42,7 @@ impl Snapshot {
     {
         Snapshot {
             revision: 0,
-            standing: standing_of(step),
+            standing: Standing::of(step),
         }
     }
 
@@ -94,7 +61,7 @@ impl Snapshot {
         ensures { self.new ≡ record { revision = raised self.old.revision; view = shown_by step } }
     {
         self.revision = self.revision.saturating_add(1);
-        self.standing = standing_of(step);
+        self.standing = Standing::of(step);
     }
 
     /// One more step. Unchanged material keeps the older context.
@@ -130,9 +97,6 @@ impl Snapshot {
     pub(crate) fn shows_choice(&self, now: Option<i64>) -> bool
         ensures { result ≡ is_some (usable_of (option_and_then chosen_of (held_in self.now.view)) now) }
     {
-        match &self.standing {
-            Standing::Permitted(held) => usable(held.chosen(), now).is_some(),
-            Standing::Withdrawn(_) => false,
-        }
+        self.standing.is_usable(now)
     }
 }

@@ -4,12 +4,13 @@ ghost use Rattle.std.specs.Prelude.{◌≡◌, is_some};
 ghost use Rattle.std.specs.Option.{option_map, option_and_then};
 ghost use Rattle.std.specs.Arc.{arc_value};
 ghost use Rattle.spf_feed.specs.Steps.{chosen_of, held_in, reason_of};
-ghost use Rattle.spf_feed.specs.Prepared.{usable as usable_of};
+ghost use Rattle.spf_feed.specs.Pick.{usable as usable_of};
 ghost use Rattle.spf_feed.specs.Standing.{view_in, IsKept};
 ghost use Rattle.spf_feed.specs.States.{ContextAnswer, SvidAnswer};
 
 use crate::limits::LimitKind;
-use crate::snapshot::Standing;
+use crate::picker::usable;
+use crate::standing::Standing;
 use crate::step::Denial;
 use spf_api::WorkloadApiError;
 use spf_io::OutOfMemory;
@@ -35,10 +36,10 @@ pub enum X509SourceError {
     Closed,
     #[error("initial synchronization timed out")]
     InitialSyncTimeout,
-    /// No call answers it.
+    /// No call returns it.
     #[error("workload api stream ended")]
     StreamEnded,
-    /// No call answers it.
+    /// No call returns it.
     #[error("resource limit exceeded: {kind} (limit={limit}, actual={actual})")]
     ResourceLimitExceeded {
         kind: LimitKind,
@@ -212,23 +213,10 @@ impl X509SourceState {
         }
     }
 
-    /// Whether `svid` is Ok, want of memory aside.
+    /// Whether `svid` returns one, where memory does not run out.
     pub fn is_usable(&self, now: Option<i64>) -> bool
         ensures { result ≡ is_some (usable_of (option_and_then chosen_of (held_in self.now.view)) now) }
     {
-        match &self.standing {
-            Standing::Permitted(held) => usable(held.chosen(), now).is_some(),
-            Standing::Withdrawn(_) => false,
-        }
-    }
-}
-
-/// The chosen SVID, where there is a moment and its expiry is above it.
-pub(crate) fn usable(chosen: Option<&Arc<X509Svid>>, now: Option<i64>) -> Option<&Arc<X509Svid>>
-    ensures { option_map (λ a. arc_value a.now) result ≡ usable_of (option_map (λ a. arc_value a.now) chosen.entry) now }
-{
-    match (chosen, now) {
-        (Some(svid), Some(now)) if now < svid.expiry_unix() => Some(svid),
-        _ => None,
+        self.standing.is_usable(now)
     }
 }

@@ -17,11 +17,9 @@ ghost use Rattle.spf_feed.specs.Turns.{MayTake, IsTurn, listed, refusal_in, clie
 use crate::follow_error::FollowError;
 use crate::limits::{LimitKind, ResourceLimits, validate_limits};
 use crate::payload::Received;
-use crate::picker::{SvidPicker, select_svid};
+use crate::picker::{SvidPicker, chosen, select_svid, usable};
 use crate::ready::Ready;
 use crate::record::{MetricsErrorKind, MetricsRecord};
-use crate::sorted::chosen;
-use crate::state::usable;
 use crate::step::Denial;
 use spf_api::{ClientFault, GrpcStatusError, WorkloadApiError};
 use spf_x509::X509Context;

@@ -1,0 +1,56 @@
+//! What a session may bring next.
+
+ghost use Rattle.std.specs.Prelude.{◌≡◌};
+ghost use Rattle.spf_feed.specs.Frames.{allows};
+ghost use Rattle.spf_feed.specs.Received.{received_ask};
+
+use crate::frame_kind::{
+    CLIENT_FAILED, CLIENT_MADE, CLOSE, CONNECT_STATUS, CONNECTED, ITEM, ITEM_STATUS, MOMENT,
+    STREAM_END,
+};
+use crate::payload::Received;
+
+/// What the source is asked for next.
+#[derive(Clone, Copy, Debug, PartialEq, Eq)]
+pub enum Phase {
+    /// A client.
+    Client,
+    /// A connection of the client.
+    Connect,
+    /// The next item of the stream.
+    Next,
+}
+
+/// Whether a frame of this kind may stand. A moment and a close may always.
+pub(crate) fn may_stand(phase: Phase, kind: u8) -> bool
+    ensures { result ≡ allows phase kind }
+{
+    match phase {
+        Phase::Client => {
+            kind == CLIENT_MADE || kind == CLIENT_FAILED || kind == MOMENT || kind == CLOSE
+        }
+        Phase::Connect => {
+            kind == CONNECTED || kind == CONNECT_STATUS || kind == MOMENT || kind == CLOSE
+        }
+        Phase::Next => {
+            kind == ITEM
+                || kind == ITEM_STATUS
+                || kind == STREAM_END
+                || kind == MOMENT
+                || kind == CLOSE
+        }
+    }
+}
+
+/// What the source is asked for after an event.
+pub(crate) fn phase_after(phase: Phase, synced: bool, event: &Received) -> Phase
+    ensures { result ≡ received_ask phase synced event.now }
+{
+    match event {
+        Received::ClientMade => Phase::Connect,
+        Received::Connected => Phase::Next,
+        Received::Moment(_) => phase,
+        Received::Item(Some(_)) if synced => Phase::Next,
+        _ => Phase::Client,
+    }
+}
