@@ -1,5 +1,6 @@
 pub mod Alike
 pub mod Differences
+pub mod EqualLemmas
 pub mod EventLemmas
 pub mod FaultLemmas
 pub mod Filled

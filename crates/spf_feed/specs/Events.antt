@@ -1,8 +1,8 @@
 -- Events, and the payloads that lay them out (see "Frames" in the README).
 use Rattle.std.specs.Prelude.{ℕ, ℤ, pos, ◌^◌, Bool, List, [], ◌∷◌, length, Option, None, Some, ◌==◌, nat_lt, true, false, if◌then◌else◌}
-use Rattle.std.specs.Int.{w32, w64, from_be_bytes}
-use Rattle.std.specs.Str.{is_utf8}
+use Rattle.std.specs.Int.{w64, from_be_bytes}
 use Rattle.std.specs.Option.{option_map, option_and_then}
+use Rattle.spf_api.specs.Reading.{text_field_at}
 use Rattle.spf_api.specs.Refused.{Refused}
 use Rattle.spf_api.specs.Status.{code_at}
 use Rattle.spf_api.specs.declared.link.ClientFault.{ClientFault}
@@ -11,14 +11,9 @@ use Rattle.spf_feed.specs.declared.frame_kind.TheConstants.{CLIENT_MADE, CLIENT_
 use Rattle.spf_feed.specs.declared.event.SessionEvent.{SessionEvent}
 use Rattle.spf_feed.specs.declared.event.SessionEvent.TheVariants as events
 
--- a byte field and nothing more: four octets of its length, and it
-unfoldable pub field_at : List ℕ → Option (List ℕ)
-field_at (a ∷ b ∷ c ∷ d ∷ octets) = if length octets == from_be_bytes w32 (a ∷ b ∷ c ∷ d ∷ []) then Some octets else None
-field_at _ = None
-
 -- a text field and nothing more
 unfoldable pub text_at : List ℕ → Option (List ℕ)
-text_at bytes = option_and_then (λ octets. if is_utf8 octets then Some octets else None) (field_at bytes)
+text_at bytes = option_and_then (λ (t : List ℕ × List ℕ). if length t.1 == 0 then Some t.0 else None) (text_field_at bytes)
 
 -- a status and nothing more: a code octet, and its message
 unfoldable pub status_at : List ℕ → Option Refused

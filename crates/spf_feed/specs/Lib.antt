@@ -13,6 +13,7 @@ pub mod Parts
 pub mod Pick
 pub mod Prepared
 pub mod Received
+pub mod Publishing
 pub mod Records
 pub mod Reordered
 pub mod Run

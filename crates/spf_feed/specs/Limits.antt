@@ -8,6 +8,10 @@ use Rattle.spf_feed.specs.declared.limits.LimitKind.TheVariants.{MaxSvids, MaxBu
 use Rattle.spf_feed.specs.declared.limits.LimitBroken.{LimitBroken}
 use Rattle.spf_feed.specs.declared.limits.ResourceLimits.{ResourceLimits}
 
+-- 100 SVIDs, 200 bundles, 4 MiB of authorities in each bundle, and 4 MiB of revocation lists
+abbrev pub default_limits : ResourceLimits
+default_limits = record { max_svids = Some 100; max_bundles = Some 200; max_bundle_der_bytes = Some (2 ^ 22); max_crl_bytes = Some (2 ^ 22) }
+
 -- a limit is passed only above its number
 abbrev pub within_limit : LimitKind → Option ℕ → ℕ → Result (Unit {0}) LimitBroken
 within_limit kind None actual = Ok tt

@@ -29,16 +29,26 @@ use crate::snapshot::Snapshot;
 use crate::step::{Publisher, Step};
 use crate::turn::{Records, Turn, turn_of};
 use spf_io::{OutOfMemory, Sink, Source};
+use spf_x509::X509Context;
 use std::alloc::Global;
 use std::sync::Arc;
 
-/// The next event. Its payload is read into the buffer.
+/// The context that the snapshot holds.
+fn held_context(snapshot: &Option<Snapshot>) -> Option<&X509Context> {
+    match snapshot {
+        Some(snapshot) => snapshot.context(),
+        None => None,
+    }
+}
+
+/// The next event. Its payload is read into the buffer, and what it has of the bytes of the held context is shared.
 fn next_event<S: Source>(
     alloc: Global,
     source: &mut S,
     payload: &mut Vec<u8>,
     phase: Phase,
     allowed: bool,
+    held: Option<&X509Context>,
 ) -> Result<Option<Received>, FrameError>
     ensures cause { HasFault (S.faults source.old) (S.faults source.new) result }
     ensures allowed { OnlyAllowed allowed result }
@@ -48,7 +58,7 @@ fn next_event<S: Source>(
         Some(kind) => kind,
         None => return Ok(None),
     };
-    match event_in(alloc, kind, payload.as_slice()) {
+    match event_in(alloc, kind, payload.as_slice(), held) {
         Ok(Some(event)) => Ok(Some(event)),
         Ok(None) => Err(FrameError::BadFrame),
         Err(_) => Err(FrameError::OutOfMemory),
@@ -135,7 +145,19 @@ fn take_step(snapshot: &mut Option<Snapshot>, step: Prepared) -> Change
     }
 }
 
-/// Prepares a step, publishes it, and then takes it into the snapshot.
+/// Whether the snapshot holds what the step accepts, member by member and in order.
+fn is_held(snapshot: &Option<Snapshot>, step: &Step) -> bool
+    ensures change { IsTrue result → change_of snapshot.now (plain step.now) ≡ Change.Unchanged }
+    ensures kept { IsTrue result → kept_with same_material snapshot.now (plain step.now) ≡ snapshot.now }
+{
+    match snapshot {
+        Some(snapshot) => snapshot.holds(step),
+        None => false,
+    }
+}
+
+/// Publishes a step that is prepared before, and then takes it into the snapshot. A step that accepts what is held needs no
+/// preparation.
 fn publish<P: Publisher>(
     alloc: Global,
     publisher: &mut P,
@@ -149,6 +171,10 @@ fn publish<P: Publisher>(
     ensures change { IfOk result (λ c. c ≡ change_of snapshot.old (plain step)) }
     ensures kept { OnOk result (snapshot.new ≡ kept_with same_material snapshot.old (plain step)) }
 {
+    if is_held(snapshot, &step) {
+        publisher.publish(step)?;
+        return Ok(Change::Unchanged);
+    }
     let published = step.try_clone()?;
     let prepared = Prepared::new(alloc, step)?;
     publisher.publish(published)?;
@@ -328,7 +354,9 @@ pub fn follow_x509<S: Source, K: Sink, P: Publisher, M: MetricsRecorder, C: Svid
     let mut now = None;
     let mut count = 0;
     'events: loop {
-        let event = match next_event(alloc, source, &mut payload, phase, count < max_frames) {
+        let allowed = count < max_frames;
+        let held = held_context(&snapshot);
+        let event = match next_event(alloc, source, &mut payload, phase, allowed, held) {
             Ok(Some(event)) => event,
             Ok(None) => return at_end(&snapshot, count),
             Err(e) => return Err(error_at(count, e)),

@@ -1,8 +1,8 @@
 //! How much a context may hold.
 
-ghost use Rattle.std.specs.Prelude.{◌≡◌, None, Some};
+ghost use Rattle.std.specs.Prelude.{◌≡◌, None};
 ghost use Rattle.spf_feed.specs.Names.{limit_kind_name};
-ghost use Rattle.spf_feed.specs.Limits.{within_limit, octets_in, within_bundles as bundles_rule, within as limits_rule};
+ghost use Rattle.spf_feed.specs.Limits.{within_limit, octets_in, within_bundles as bundles_rule, within as limits_rule, default_limits};
 
 use spf_io::Bytes;
 use spf_x509::{Certificate, X509BundleSet, X509Context};
@@ -53,24 +53,16 @@ impl ResourceLimits {
     }
 
     pub const fn default_limits() -> ResourceLimits
-        ensures { result ≡ record {
-          max_svids = Some 100;
-          max_bundles = Some 200;
-          max_bundle_der_bytes = Some 4194304;
-          max_crl_bytes = Some 4194304;
-        } }
+        ensures { result ≡ default_limits }
     {
         ResourceLimits::new(Some(100), Some(200), Some(4_194_304), Some(4_194_304))
     }
 }
 
 impl Default for ResourceLimits {
-    ghost is_default = { λ x. x ≡ record {
-      max_svids = Some 100;
-      max_bundles = Some 200;
-      max_bundle_der_bytes = Some 4194304;
-      max_crl_bytes = Some 4194304;
-    } };
+    ghost use Rattle.spf_feed.specs.Limits.{default_limits};
+
+    ghost is_default = { λ x. x ≡ default_limits };
 
     fn default() -> ResourceLimits {
         ResourceLimits::default_limits()

@@ -2,7 +2,7 @@
 
 ghost use Rattle.std.specs.Prelude.{◌≡◌, IfOk};
 ghost use Rattle.std.specs.Option.{option_map};
-ghost use Rattle.spf_feed.specs.Events.{field_at, text_at, status_at, failure_at, moment_at, event_at, when_empty as event_when_empty};
+ghost use Rattle.spf_feed.specs.Events.{text_at, status_at, failure_at, moment_at, event_at, when_empty as event_when_empty};
 ghost use Rattle.spf_feed.specs.Items.{item_at, IsReceived};
 
 use crate::event::SessionEvent;
@@ -11,8 +11,8 @@ use crate::frame_kind::{
     STREAM_END,
 };
 use spf_api::{
-    ClientFault, GrpcStatusCode, GrpcStatusError, WorkloadApiError, context_from_view,
-    read_context_view,
+    ClientFault, GrpcStatusCode, GrpcStatusError, WorkloadApiError, context_from_view_sharing,
+    read_context_view, read_text_field,
 };
 use spf_io::{OutOfMemory, Text};
 use spf_x509::X509Context;
@@ -24,33 +24,18 @@ const UNREACHABLE: u8 = 255;
 /// An event as it is received: an item is read down to its context, or None where it breaks a rule.
 pub(crate) type Received = SessionEvent<Option<X509Context>>;
 
-/// The octets behind four octets of their length, where nothing follows.
-#[tactic(auto, unfolding(crate::specs::Events::field_at))]
-fn field_in(bytes: &[u8]) -> Option<&[u8]>
-    ensures { option_map (λ x. x.now) result ≡ field_at bytes.now }
-{
-    let [a, b, c, d, octets @ ..] = bytes else {
-        return None;
-    };
-    if octets.len() == u32::from_be_bytes([*a, *b, *c, *d]) as usize {
-        Some(octets)
-    } else {
-        None
-    }
-}
-
 /// A text field and nothing more.
 #[tactic(auto, unfolding(crate::specs::Events::text_at))]
 fn text_in(alloc: Global, bytes: &[u8]) -> Result<Option<Text>, OutOfMemory>
     ensures { IfOk result (λ o. o ≡ text_at bytes.now) }
 {
-    let Some(octets) = field_in(bytes) else {
+    let Some((text, rest)) = read_text_field(bytes) else {
         return Ok(None);
     };
-    match str::from_utf8(octets) {
-        Ok(text) => Ok(Some(Text::copy_of(alloc, text)?)),
-        Err(_) => Ok(None),
+    if !rest.is_empty() {
+        return Ok(None);
     }
+    Ok(Some(Text::copy_of(alloc, text)?))
 }
 
 /// A status and nothing more: a code octet and its message.
@@ -112,14 +97,19 @@ fn received(
     }
 }
 
-/// The context that an item brings, None where it breaks a rule.
-fn item_in(alloc: Global, bytes: &[u8]) -> Result<Option<Option<X509Context>>, OutOfMemory>
+/// The context that an item brings, None where it breaks a rule. What it has of the bytes of the held one is shared.
+fn item_in(
+    alloc: Global,
+    bytes: &[u8],
+    held: Option<&X509Context>,
+) -> Result<Option<Option<X509Context>>, OutOfMemory>
     ensures { IfOk result (λ o. o ≡ item_at bytes.now) }
 {
     let Some(view) = read_context_view(alloc, bytes)? else {
         return Ok(None);
     };
-    Ok(Some(received(context_from_view(alloc, &view))?))
+    let context = context_from_view_sharing(alloc, &view, held);
+    Ok(Some(received(context)?))
 }
 
 /// The event, where the payload is empty.
@@ -133,12 +123,13 @@ fn when_empty(payload: &[u8], event: Received) -> Option<Received>
     }
 }
 
-/// The event that a frame lays out.
+/// The event that a frame lays out, where `held` is the context that is held.
 #[tactic(auto, unfolding(crate::specs::Events::event_at))]
 pub(crate) fn event_in(
     alloc: Global,
     kind: u8,
     payload: &[u8],
+    held: Option<&X509Context>,
 ) -> Result<Option<Received>, OutOfMemory>
     ensures { IfOk result (λ o. o ≡ event_at item_at kind payload.now) }
 {
@@ -147,7 +138,7 @@ pub(crate) fn event_in(
         CLIENT_FAILED => Ok(failure_in(alloc, payload)?.map(Received::ClientFailed)),
         CONNECTED => Ok(when_empty(payload, Received::Connected)),
         CONNECT_STATUS => Ok(status_in(alloc, payload)?.map(Received::ConnectStatus)),
-        ITEM => Ok(item_in(alloc, payload)?.map(Received::Item)),
+        ITEM => Ok(item_in(alloc, payload, held)?.map(Received::Item)),
         ITEM_STATUS => Ok(status_in(alloc, payload)?.map(Received::ItemStatus)),
         STREAM_END => Ok(when_empty(payload, Received::StreamEnd)),
         MOMENT => Ok(moment_in(payload).map(Received::Moment)),

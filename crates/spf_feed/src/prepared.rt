@@ -1,6 +1,6 @@
 //! A step with the indices of its context in order.
 
-ghost use Rattle.std.specs.Prelude.{◌≡◌, IfOk};
+ghost use Rattle.std.specs.Prelude.{◌≡◌, true, IsTrue, IfOk};
 ghost use Rattle.std.specs.Option.{option_map, option_and_then, option_copied};
 ghost use Rattle.std.specs.Arc.{arc_value};
 ghost use Rattle.std.specs.Ordering.{nat_cmp};
@@ -12,7 +12,7 @@ ghost use Rattle.spf_feed.specs.Sorted.{AuthorityIndices, IndicesOf};
 ghost use Rattle.spf_feed.specs.Steps.{plain, is_accept, material_in, chosen_of};
 
 use crate::picker::chosen;
-use crate::sorted::{Sorted, indices_in, is_same, sorted_of};
+use crate::sorted::{Sorted, indices_in, is_equal, is_same, sorted_of};
 use crate::step::Step;
 use spf_id::TrustDomain;
 use spf_io::OutOfMemory;
@@ -109,6 +109,27 @@ impl Prepared {
             step: self.step.try_clone()?,
             indices,
         })
+    }
+
+    /// Whether the step accepts what this one does, member by member and in order.
+    pub(crate) fn is_equal(&self, step: &Step) -> bool
+        ensures { IsTrue result → is_same_step self.now (plain step.now) ≡ true }
+    {
+        match (&self.step, step) {
+            (
+                Step::Accept {
+                    context: a,
+                    choice: a_choice,
+                    ..
+                },
+                Step::Accept {
+                    context: b,
+                    choice: b_choice,
+                    ..
+                },
+            ) => is_equal(a, *a_choice, b, *b_choice),
+            _ => false,
+        }
     }
 
     /// Whether both are accepted and the same.

@@ -1,16 +1,18 @@
 //! What the steps so far make visible.
 
-ghost use Rattle.std.specs.Prelude.{◌≡◌, IsTrue, IfOk, is_some, List, [], ◌∷◌, ◌++◌};
+ghost use Rattle.std.specs.Prelude.{◌≡◌, false, IsTrue, IfOk, is_some, List, [], ◌∷◌, ◌++◌};
 ghost use Rattle.std.specs.Option.{option_and_then};
 ghost use Rattle.spf_view.specs.Standing.{Stands, IsShowing, is_change, kept_next};
-ghost use Rattle.spf_feed.specs.Steps.{PlainStep, is_accept, chosen_of, shown_by, held_in, raised, same_material};
+ghost use Rattle.spf_feed.specs.Steps.{PlainStep, plain, is_accept, chosen_of, shown_by, held_in, raised, same_material};
 ghost use Rattle.spf_feed.specs.Pick.{usable as usable_of};
 ghost use Rattle.spf_feed.specs.Standing.{view_in, IsKept};
 
 use crate::prepared::Prepared;
 use crate::standing::Standing;
 use crate::state::X509SourceState;
+use crate::step::Step;
 use spf_io::OutOfMemory;
+use spf_x509::X509Context;
 use std::marker::Model;
 
 /// The revision, and the held context or the reason of the withdrawal.
@@ -46,6 +48,16 @@ impl Snapshot {
         }
     }
 
+    /// Whether the step accepts what is held, member by member and in order. Then it changes nothing.
+    pub(crate) fn holds(&self, step: &Step) -> bool
+        ensures { IsTrue result → is_change same_material self.now.view (plain step.now) ≡ false }
+    {
+        match &self.standing {
+            Standing::Permitted(held) => held.is_equal(step),
+            Standing::Withdrawn(_) => false,
+        }
+    }
+
     /// Whether the step makes something else visible.
     pub(crate) fn is_changed_by(&self, step: &Prepared) -> bool
         ensures value { result ≡ is_change same_material self.now.view step.now }
@@ -78,6 +90,17 @@ impl Snapshot {
         ensures { IfOk result (λ s. s ≡ record { revision = self.now.revision; closed = closed; view = self.now.view }) }
     {
         Ok(X509SourceState::new(self.revision, closed, self.standing.try_clone()?))
+    }
+
+    /// The held context. None while withdrawn.
+    pub(crate) fn context(&self) -> Option<&X509Context> {
+        match &self.standing {
+            Standing::Permitted(held) => match held.context() {
+                Some(context) => Some(context),
+                None => None,
+            },
+            Standing::Withdrawn(_) => None,
+        }
     }
 
     pub(crate) fn revision(&self) -> u64

@@ -1,6 +1,6 @@
 //! The steps that a session publishes.
 
-ghost use Rattle.std.specs.Prelude.{◌≡◌, IfOk, List, Option, Some, [], map};
+ghost use Rattle.std.specs.Prelude.{◌≡◌, IfOk, IsTrue, List, Option, Some, None, [], map};
 ghost use Rattle.spf_feed.specs.Records.{RecordAppends};
 ghost use Rattle.spf_feed.specs.Steps.{PlainStep, plain, MayFollow};
 
@@ -8,6 +8,7 @@ use crate::limits::ResourceLimits;
 use spf_io::{OutOfMemory, Text};
 use spf_x509::X509Context;
 use std::alloc::Global;
+use std::marker::Model;
 use std::sync::Arc;
 use thiserror::Error;
 
@@ -57,7 +58,7 @@ impl Step {
 
 /// What steps are handed to. It keeps memory of its own, which may run out.
 pub trait Publisher {
-    // The steps so far, where the publisher tells.
+    // The steps so far, where the publisher says so.
     ghost steps: { Self → Option (List PlainStep) };
 
     fn publish(&mut self, step: Step) -> Result<(), OutOfMemory>
@@ -65,7 +66,7 @@ pub trait Publisher {
         ensures { RecordAppends (steps self.old) (steps self.new) result (plain step) };
 }
 
-/// A publisher that keeps the steps, and tells them.
+/// A publisher that keeps the steps. It may be made to refuse one call.
 #[derive(Debug, Drop)]
 pub struct MemPublisher {
     steps: Vec<Step>,
@@ -73,9 +74,20 @@ pub struct MemPublisher {
     refused: Option<u64>,
 }
 
+impl Model for MemPublisher {
+    ghost use Rattle.spf_feed.specs.Publishing.{Published};
+
+    ghost Value = { Published };
+
+    ghost use Rattle.std.specs.Prelude.{map};
+    ghost use Rattle.spf_feed.specs.Steps.{plain};
+
+    ghost view = { λ p. record { steps = map plain p.steps.items; calls = p.calls; refused = p.refused } };
+}
+
 impl MemPublisher {
     pub fn new(alloc: Global) -> MemPublisher
-        ensures { ⟦<MemPublisher as Publisher>⟧.steps result ≡ Some [] }
+        ensures { result ≡ record { steps = []; calls = 0; refused = None } }
     {
         MemPublisher {
             steps: Vec::new(alloc),
@@ -84,9 +96,9 @@ impl MemPublisher {
         }
     }
 
-    /// A publisher that answers want of memory at its publish number `at`, from 1, and keeps nothing of that step.
+    /// A publisher that is out of memory at its call of number `at`, from 1, and keeps nothing of that step.
     pub fn refusing(alloc: Global, at: u64) -> MemPublisher
-        ensures { ⟦<MemPublisher as Publisher>⟧.steps result ≡ Some [] }
+        ensures { result ≡ record { steps = []; calls = 0; refused = Some at } }
     {
         MemPublisher {
             steps: Vec::new(alloc),
@@ -96,19 +108,23 @@ impl MemPublisher {
     }
 
     pub fn steps(&self) -> &[Step]
-        ensures { ⟦<MemPublisher as Publisher>⟧.steps self.now ≡ Some (map plain result.now) }
+        ensures { map plain result.now ≡ self.now.steps }
     {
         self.steps.as_slice()
     }
 }
 
 impl Publisher for MemPublisher {
-    ghost use Rattle.std.specs.Prelude.{map, Some};
-    ghost use Rattle.spf_feed.specs.Steps.{plain};
+    ghost use Rattle.std.specs.Prelude.{◌≡◌, Some, IsErr};
+    ghost use Rattle.spf_feed.specs.Publishing.{is_refused, called};
 
-    ghost steps = { λ p. Some (map plain p.steps.items) };
+    ghost steps = { λ p. Some p.steps };
 
-    fn publish(&mut self, step: Step) -> Result<(), OutOfMemory> {
+    fn publish(&mut self, step: Step) -> Result<(), OutOfMemory>
+        ensures appends { RecordAppends (Some self.old.steps) (Some self.new.steps) result (plain step) }
+        ensures refused { IsTrue (is_refused self.old) → IsErr result }
+        ensures counted { (self.new.calls ≡ called self.old) × (self.new.refused ≡ self.old.refused) }
+    {
         self.calls = self.calls.saturating_add(1);
         if self.refused == Some(self.calls) {
             return Err(OutOfMemory);
