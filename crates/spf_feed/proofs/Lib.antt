@@ -20,6 +20,7 @@ pub mod Seen
 pub mod SeenShown
 pub mod ShownLemmas
 pub mod Sizes
+pub mod TextLemmas
 pub mod TurnLemmas
 pub mod Turned
 pub mod Whole

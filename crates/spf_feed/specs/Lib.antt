@@ -22,4 +22,5 @@ pub mod Sorted
 pub mod Standing
 pub mod States
 pub mod Steps
+pub mod Texts
 pub mod Turns

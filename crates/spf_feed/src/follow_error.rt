@@ -1,22 +1,40 @@
 use spf_api::WorkloadApiError;
 use spf_io::OutOfMemory;
 use std::alloc::{AllocError, AllocFailed};
+use thiserror::Error;
 
 /// Why a session was not followed to its end.
-#[derive(Debug, PartialEq, Eq, Drop)]
+#[derive(Debug, PartialEq, Eq, Drop, Error)]
 pub enum FollowError {
+    /// Memory ran out.
+    #[error("out of memory")]
     OutOfMemory,
+    /// A read of the source failed.
+    #[error("a read of the source failed")]
     ReadFault,
+    /// A write to the sink failed.
+    #[error("a write to the sink failed")]
     WriteFault,
-    /// A further byte came after the most frames.
+    /// A byte came after the last frame that is allowed.
+    #[error("the session has too many frames")]
     SessionTooLong,
-    /// The frame of this number, from 1, is none that may stand there.
+    /// The frame of this number, from 1, may not stand there or has no layout.
+    #[error("frame {frame} is bad")]
     BadFrame { frame: u64 },
+    /// The Workload API rejected the request before an item was accepted.
+    #[error("x509 source error: {0}")]
     Source(WorkloadApiError),
+    /// The Workload API has no such call.
+    #[error("required Workload API RPC FetchX509SVID is unsupported during initial synchronization: {0}")]
     UnsupportedRpc(WorkloadApiError),
+    /// A moment at or after the deadline came before an item was accepted.
+    #[error("initial synchronization timed out")]
     InitialSyncTimeout,
+    /// A close came before an item was accepted.
+    #[error("source is closed")]
     Closed,
-    /// No item was accepted.
+    /// The session ended, and no item was accepted.
+    #[error("the session ended before an item was accepted")]
     NeverSynced,
 }
 

@@ -9,6 +9,7 @@ use crate::phase::{Phase, may_stand};
 use crate::source::fill;
 use spf_io::{Bytes, OutOfMemory, Source};
 use std::alloc::{AllocError, Global};
+use thiserror::Error;
 
 /// The max length of a payload.
 const MAX_PAYLOAD: u32 = 1 << 24;
@@ -21,13 +22,19 @@ pub struct RawFrame {
 }
 
 /// Why there is no frame.
-#[derive(Clone, Copy, Debug, PartialEq, Eq)]
+#[derive(Clone, Copy, Debug, PartialEq, Eq, Error)]
 pub enum FrameError {
     /// A byte came where no frame was allowed.
+    #[error("too many frames")]
     TooLong,
     /// No frame of a kind that the phase allows begins the bytes left.
+    #[error("bad frame")]
     BadFrame,
+    /// A read of the source failed.
+    #[error("a read of the source failed")]
     ReadFault,
+    /// Memory ran out.
+    #[error("out of memory")]
     OutOfMemory,
 }
 

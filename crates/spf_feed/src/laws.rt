@@ -1,17 +1,24 @@
-//! Laws of what is the same and of lines, which contracts cite. No law has a body: its statement is what it says.
+//! Laws of what is the same, of lines and of texts, which contracts cite. No law has a body: its statement is what it says.
 
-ghost use Rattle.std.specs.Prelude.{◌≡◌, ℕ, ℤ, Bool, true, false, nat_eq, List, Option, None, Some};
+ghost use Rattle.std.specs.Prelude.{◌↔◌, ◌≡◌, ℕ, ℤ, Bool, true, false, nat_eq, List, Option, None, Some};
 ghost use Rattle.std.specs.Option.{option_eq};
 ghost use Rattle.std.specs.Cmp.{IsEquivalence};
 ghost use Rattle.std.specs.Cmp.Lexicographic.{pointwise};
 ghost use Rattle.spf_x509.specs.Bundle.{Bundle, find_entry};
+ghost use Rattle.spf_api.specs.Reading.{context_at};
+ghost use Rattle.spf_api.specs.Refused.{Refused};
+ghost use Rattle.spf_api.specs.declared.link.ClientFault.{ClientFault};
+ghost use Rattle.spf_api.specs.declared.response.ContextResponse.{ContextResponse};
+ghost use Rattle.spf_view.specs.Sessions.{IsFrame};
 ghost use Rattle.spf_view.specs.Views.{Permitted};
+ghost use Rattle.spf_feed.specs.Events.{text_at, status_at, failure_at, moment_at, event_at};
 ghost use Rattle.spf_feed.specs.Items.{Event, Rules};
 ghost use Rattle.spf_feed.specs.Material.{Material, chosen_of, same_svid, same_choice, same_material};
 ghost use Rattle.spf_feed.specs.OneLine.{IsLine};
 ghost use Rattle.spf_feed.specs.Reordered.{IsReordered, HasAnother};
-ghost use Rattle.spf_feed.specs.Run.{outputs};
+ghost use Rattle.spf_feed.specs.Run.{outputs, stream};
 ghost use Rattle.spf_feed.specs.Shown.{visible_text};
+ghost use Rattle.spf_feed.specs.Texts.{AreOctets, FieldText, StatusText, FailureText, MomentText, ItemText, EventText, FrameText};
 
 /// Being the same is an equivalence.
 pub fn same_is_an_equivalence()
@@ -53,4 +60,40 @@ pub fn same_material_is_shown_alike()
 /// The line of an event has one line feed, at its end.
 pub fn one_line_feed()
     ensures { (rules : Rules) (past : List Event) (e : Event) → IsLine ((outputs rules).line past e) }
+{}
+
+/// A text field is read exactly where the octets are its text.
+pub fn fields_exactly()
+    ensures { (bytes text : List ℕ) → AreOctets bytes → (text_at bytes ≡ Some text) ↔ FieldText bytes text }
+{}
+
+/// A status is read exactly where the octets are its text.
+pub fn statuses_exactly()
+    ensures { (bytes : List ℕ) (s : Refused) → AreOctets bytes → (status_at bytes ≡ Some s) ↔ StatusText bytes s }
+{}
+
+/// A client failure is read exactly where the octets are its text.
+pub fn failures_exactly()
+    ensures { (bytes : List ℕ) (e : ClientFault) → AreOctets bytes → (failure_at bytes ≡ Some e) ↔ FailureText bytes e }
+{}
+
+/// A moment is read exactly where the octets are its text.
+pub fn moments_exactly()
+    ensures { (bytes : List ℕ) (m : ℤ) → AreOctets bytes → (moment_at bytes ≡ Some m) ↔ MomentText bytes m }
+{}
+
+/// An item is read exactly where the octets are the payload of its response.
+pub fn items_exactly()
+    ensures { (bytes : List ℕ) (r : ContextResponse) → AreOctets bytes → (context_at bytes ≡ Some r) ↔ ItemText bytes r }
+{}
+
+/// A payload of a kind lays out an event exactly where it is the text of that event.
+pub fn events_exactly()
+    ensures { (kind : ℕ) (payload : List ℕ) (e : Event) → AreOctets payload → (event_at context_at kind payload ≡ Some e) ↔ EventText ItemText kind payload e }
+{}
+
+/// A frame of a session is the text of a frame of its event, of a kind that is allowed after the history.
+pub fn frames_exactly()
+    ensures { (rules : Rules) (past : List Event) (bytes : List ℕ) (e : Event) → AreOctets bytes →
+        IsFrame (stream rules) past bytes e ↔ ((f : FrameText ItemText bytes e) × ((stream rules).allows past f.kind ≡ true)) }
 {}

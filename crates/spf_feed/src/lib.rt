@@ -37,6 +37,3 @@ pub use record::{MemRecorder, MetricsErrorKind, MetricsRecord, MetricsRecorder, 
 pub use snapshot::Snapshot;
 pub use state::{X509SourceError, X509SourceState};
 pub use step::{Denial, MemPublisher, Publisher, Step};
-
-#[cfg(test)]
-mod tests;

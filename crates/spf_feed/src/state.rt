@@ -24,37 +24,47 @@ use thiserror::Error;
 /// Why an X.509 source gives nothing.
 #[derive(Debug, PartialEq, Eq, Drop, Error)]
 pub enum X509SourceError {
+    /// The Workload API rejected the request during the initial synchronization.
     #[error("x509 source error: {0}")]
     Source(WorkloadApiError),
+    /// The Workload API has no such call.
     #[error("required Workload API RPC FetchX509SVID is unsupported during initial synchronization: {0}")]
     UnsupportedRpc(WorkloadApiError),
+    /// No SVID is chosen, or the chosen one has expired.
     #[error("no suitable svid found")]
     NoSuitableSvid,
+    /// The material was withdrawn, for this reason.
     #[error("material withdrawn: {0}")]
     Withdrawn(Arc<Denial>),
+    /// The source was closed.
     #[error("source is closed")]
     Closed,
+    /// The deadline passed before an item was accepted.
     #[error("initial synchronization timed out")]
     InitialSyncTimeout,
-    /// No call returns it.
+    /// The stream ended. No call returns it.
     #[error("workload api stream ended")]
     StreamEnded,
-    /// No call returns it.
+    /// A limit was passed. No call returns it.
     #[error("resource limit exceeded: {kind} (limit={limit}, actual={actual})")]
     ResourceLimitExceeded {
         kind: LimitKind,
         limit: usize,
         actual: usize,
     },
+    /// The supervisor did not end in time. Both are Unix seconds.
     #[error("shutdown timeout exceeded")]
     ShutdownTimeout {
         started: i64,
         ended: i64,
     },
+    /// The source has no supervisor.
     #[error("no supervisor")]
     NoSupervisor,
+    /// The board has no place for another reader.
     #[error("no place")]
     NoPlace,
+    /// Memory ran out.
     #[error("out of memory")]
     OutOfMemory,
 }

@@ -3,12 +3,19 @@
 ghost use Rattle.std.specs.Prelude.{IsTrue, IfOk};
 ghost use Rattle.spf_feed.specs.Steps.{is_accept};
 
-use super::fixtures::{is_written, octets};
-use super::*;
+use crate::fixtures::{is_written, octets};
 use spf_api::{context_from_view, read_context_view};
+use spf_feed::{
+    Denial, FrameError, LimitBroken, LimitKind, Phase, Prepared, RawFrame, ResourceLimits,
+    Snapshot, Step, X509SourceState, read_frame, state_line, validate_limits,
+};
 use spf_id::TrustDomain;
+use spf_io::MemSource;
 use spf_x509::X509Context;
+use std::alloc::Global;
 use std::fmt;
+use std::sync::Arc;
+use std::test::Fail;
 
 fn frame_name(frame: &Result<Option<RawFrame>, FrameError>) -> &'static str {
     match frame {
@@ -50,39 +57,6 @@ fn frame_reader(rt: HostRuntime) -> Result<(), Fail> {
 
 fn shown<T: fmt::Display + Drop>(alloc: Global, value: T) -> Result<String, Fail> {
     Ok(value.to_string(alloc)?)
-}
-
-fn is_shown<T: fmt::Display + Drop>(alloc: Global, value: T, text: &str) -> Result<bool, Fail> {
-    Ok(shown(alloc, value)?.as_str() == text)
-}
-
-fn is_passed_limit(alloc: Global, kind: LimitKind, text: &str) -> Result<bool, Fail> {
-    let error = X509SourceError::ResourceLimitExceeded {
-        kind,
-        limit: 1,
-        actual: 2,
-    };
-    is_shown(alloc, error, text)
-}
-
-fn is_withdrawn(alloc: Global, text: &str) -> Result<bool, Fail> {
-    let reason = Denial::PermissionDenied(Text::copy_of(alloc, "no")?);
-    let reason = Arc::new(alloc, reason)?;
-    is_shown(alloc, X509SourceError::Withdrawn(reason), text)
-}
-
-#[test]
-fn names(rt: HostRuntime) -> Result<(), Fail> {
-    let alloc = rt.alloc();
-    let kind = LimitKind::MaxCrlBytes;
-    assert!(rt; is_shown(alloc, kind, "max_crl_bytes")?);
-    let error = MetricsErrorKind::LimitMaxBundleDerBytes;
-    assert!(rt; is_shown(alloc, error, "limit_max_bundle_der_bytes")?);
-    let text = "resource limit exceeded: max_crl_bytes (limit=1, actual=2)";
-    assert!(rt; is_passed_limit(alloc, kind, text)?);
-    let text = "material withdrawn: permission denied: no";
-    assert!(rt; is_withdrawn(alloc, text)?);
-    Ok(())
 }
 
 fn context_in(alloc: Global, payload: &[u8]) -> Result<X509Context, Fail> {
@@ -186,7 +160,7 @@ fn is_indexed(alloc: Global, name: &str, text: &str) -> Result<bool, Fail> {
 }
 
 /// A step, and its indices.
-static PLACES: [(&str, &str); 3] = [
+static INDICES: [(&str, &str); 3] = [
     ("J1", "[1, 2, 0] Some([0, 1]) None []"),
     ("J2", "[2, 1, 0] Some([1, 0]) None []"),
     ("denial", "[] None None []"),
@@ -195,7 +169,7 @@ static PLACES: [(&str, &str); 3] = [
 #[test]
 fn prepared(rt: HostRuntime) -> Result<(), Fail> {
     let alloc = rt.alloc();
-    for (name, text) in PLACES.iter() {
+    for (name, text) in INDICES.iter() {
         assert!(rt; is_indexed(alloc, name, text)?, "{name}");
     }
     Ok(())
