@@ -2,7 +2,6 @@
 use Rattle.std.proofs.Common.{◌≡◌, ℕ, Bool, true, false, cond, List, [], ◌++◌, Option, Some, None, refl, sym, ap, ◌∙◌, subst}
 use Rattle.std.specs.Prelude.{◌==◌, length, IsTrue}
 use Rattle.std.specs.Option.{option_map}
-use Rattle.std.specs.Io.KnownBytes.{Consumes}
 use Rattle.spf_api.specs.Reading.{context_at}
 use Rattle.spf_view.specs.Sessions.{NoFrameAt}
 use Rattle.spf_view.proofs.FrameLemmas.{raw_same}

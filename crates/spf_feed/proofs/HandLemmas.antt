@@ -1,14 +1,12 @@
 -- Lists that are handed on one by one.
-use Rattle.std.proofs.Common.{◌≡◌, ◌<◌, Bool, true, false, List, [], ◌∷◌, Option, Some, None, Result, Ok, Err, refl, sym, ap, subst, arith, length, take_all}
+use Rattle.std.proofs.Common.{◌≡◌, Bool, true, List, [], ◌∷◌, Option, Some, None, Result, Ok, Err, refl, sym, ap, subst, arith, length, take_all}
 use Rattle.spf_view.specs.Sessions.{Grows, GrowsUpTo}
 use Rattle.spf_view.proofs.FollowLemmas.{grows_nil, grows_none}
 use Rattle.spf_feed.specs.Records.{RecordAppends}
 use Rattle.std.specs.Prelude.{IsErr}
 use Rattle.std.specs.Option.{option_to_list}
-use Rattle.spf_view.specs.Standing.{Kept}
 use Rattle.spf_feed.specs.declared.record.MetricsRecord.{MetricsRecord}
-use Rattle.spf_feed.specs.declared.step.Denial.{Denial}
-use Rattle.spf_feed.specs.Steps.{Material, PlainStep}
+use Rattle.spf_feed.specs.Steps.{PlainStep}
 use Rattle.spf_feed.specs.Following.{HandsOn, TurnState, StoppedShort, IsTaken}
 
 -- nothing yet

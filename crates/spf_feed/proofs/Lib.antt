@@ -5,6 +5,7 @@ pub mod EventLemmas
 pub mod FaultLemmas
 pub mod Filled
 pub mod HandLemmas
+pub mod HexLemmas
 pub mod LineLemmas
 pub mod Loop
 pub mod Mapped

@@ -1,6 +1,6 @@
 -- What the loop of `follow_x509` keeps, and what each of its exits gives.
-use Rattle.std.proofs.Common.{◌≡◌, ◌≢◌, ℕ, ◌+◌, Bool, true, false, cond, ltb, List, [], ◌∷◌, ◌++◌, take, length, Option, None, Some, Result, Ok, Err, inl, inr, refl, sym, ap, ◌∙◌, subst, arith}
-use Rattle.std.specs.Prelude.{ℤ, is_some, ◌⊎◌, IfSome, decimal}
+use Rattle.std.proofs.Common.{◌≡◌, ℕ, ◌+◌, Bool, true, false, cond, ltb, List, [], ◌∷◌, ◌++◌, take, length, Option, None, Some, Result, Ok, Err, inl, inr, refl, sym, ap, ◌∙◌, subst, arith}
+use Rattle.std.specs.Prelude.{ℤ, is_some, ◌⊎◌, decimal}
 use Rattle.std.specs.Option.{option_or}
 use Rattle.std.specs.Cmp.{IsEquivalence}
 use Rattle.std.specs.Io.KnownBytes.{Consumes, IsAtEnd, Appends}
@@ -8,7 +8,7 @@ use Rattle.std.proofs.lemmas.Bool.{ltb-true, ltb-false}
 use Rattle.spf_view.specs.Views.{Waiting, outcome_with, outcome, outcomes, last_moment, view_of, revision_of, has_synced}
 use Rattle.spf_view.specs.Steps.{step_in, step_with}
 use Rattle.spf_view.specs.Standing.{Kept, is_change, shown_by, raised}
-use Rattle.spf_view.specs.Sessions.{Ports, Grows, Followed, Whole, OutOfMemory, ReadFault, WriteFault, TooLong, BadFrame, Refused, NeverSynced}
+use Rattle.spf_view.specs.Sessions.{Ports, Grows, Followed, Whole, OutOfMemory, WriteFault, Refused, NeverSynced}
 use Rattle.spf_view.specs.Keeping.{kept_with_any, IsAt}
 use Rattle.spf_view.proofs.FollowLemmas.{SoFar, OnlyRead, begins, IsNext, followed_end, followed_long, followed_bad, followed_fault, followed_no_frame, followed_refused, followed_stopped, followed_unput, followed_closed, goes_on, AddsAll}
 use Rattle.spf_view.proofs.SessionLemmas.{length-onto}

@@ -1,13 +1,13 @@
 -- What is the text of a value is read as it, and what is read is its text.
 use Rattle.std.proofs.Common.{◌≡◌, ℕ, zero, suc, ◌<◌, ◌^◌, Bool, true, false, cond, nat_lt, List, [], ◌∷◌, ◌++◌, length, get_or, Option, Some, None, refl, sym, ap, ◌∙◌, subst, arith}
 use Rattle.std.specs.Prelude.{ℤ, pos, ◌==◌, ◌↔◌}
-use Rattle.std.specs.List.{AllByRecursion}
 use Rattle.std.specs.Int.{w32, w64, to_be_bytes, from_be_bytes}
 use Rattle.std.specs.Option.{option_map, option_and_then}
 use Rattle.std.proofs.lemmas.Bool.Decides.{nat_tests}
 use Rattle.std.proofs.lemmas.List.{append-nil}
 use Rattle.std.proofs.lemmas.Nat.{from_be_bytes-to_be_bytes_8, be_bytes_8}
-use Rattle.spf_api.specs.Layout.{field_text, IsText}
+use Rattle.spf_api.specs.Layout.{field_text}
+use Rattle.spf_api.specs.Payload.{IsRead}
 use Rattle.spf_api.specs.Reading.{text_field_at, context_at}
 use Rattle.spf_api.specs.Refused.{Refused}
 use Rattle.spf_api.specs.Status.{code_at, code_number}
@@ -36,11 +36,11 @@ octets_at (x ∷ bytes) are (suc i) = octets_at bytes are.1 i
 
 -- the two ways of a test that finds something
 tested : {E Q : Type 0} (n k : ℕ) (found rest : Option E) (e : E) → cond (n == k) found rest ≡ Some e → (n ≡ k → found ≡ Some e → Q) → (rest ≡ Some e → Q) → Q
-tested {E} {Q} n k found rest e h yes no_more = by (n == k) refl h
+tested {E} {Q} n k found rest e h here later = by (n == k) refl h
   where
     by : (b : Bool) → (n == k) ≡ b → cond b found rest ≡ Some e → Q
-    by true is h = yes (grind (arith, nat_tests)) h
-    by false is h = no_more h
+    by true is h = here (grind (arith, nat_tests)) h
+    by false is h = later h
 
 -- what a mapped option holds
 mapped : {A B Q : Type 0} (f : A → B) (o : Option A) (y : B) → option_map f o ≡ Some y → ((x : A) → o ≡ Some x → f x ≡ y → Q) → Q
@@ -136,10 +136,6 @@ small_code code.Unavailable = refl
 small_code code.DataLoss = refl
 small_code code.Unauthenticated = refl
 
--- a status of a code and a message
-of_parts : GrpcStatusCode → List ℕ → Refused
-of_parts c m = record { code = c; message = m; source = None }
-
 status_again : (bytes : List ℕ) (s : Refused) → StatusText bytes s → status_at bytes ≡ Some s
 unfolding status_at
 status_again bytes s h =
@@ -220,11 +216,16 @@ moment_exactly bytes m are = (moment_takes bytes m are, moment_again bytes m)
 
 -- ---- items
 
-item_exactly : (bytes : List ℕ) (r : ContextResponse) → AreOctets bytes → (context_at bytes ≡ Some r) ↔ ItemText bytes r
-item_exactly bytes r are = (
-  λ h. finds kinds.Context bytes (Some (response.Context r)) (octets_at bytes are) (sym (ap (option_map response.Context) h)),
-  λ h. mapped response.Context (context_at bytes) (response.Context r) (sym (laid_is_read kinds.Context bytes (response.Context r) h)) (λ found is same. is ∙ ap Some cc),
-)
+item_takes : (bytes : List ℕ) (r : ContextResponse) → AreOctets bytes → context_at bytes ≡ Some r → ItemText bytes r
+unfolding IsRead
+item_takes bytes r are h = finds kinds.Context bytes (Some (response.Context r)) (octets_at bytes are) (sym (ap (option_map response.Context) h))
+
+item_again : (bytes : List ℕ) (r : ContextResponse) → ItemText bytes r → context_at bytes ≡ Some r
+unfolding IsRead
+item_again bytes r h = mapped response.Context (context_at bytes) (response.Context r) (sym (laid_is_read kinds.Context bytes (response.Context r) h)) (λ found is same. is ∙ ap Some cc)
+
+pub item_exactly : (bytes : List ℕ) (r : ContextResponse) → AreOctets bytes → (context_at bytes ≡ Some r) ↔ ItemText bytes r
+item_exactly bytes r are = (item_takes bytes r are, item_again bytes r)
 
 -- ---- events
 
@@ -261,13 +262,7 @@ event_takes {I} item_at IsItem items kind payload e are h =
     tested kind 9 _ None e h (λ k f. let p = empty_is payload events.Close e f in subst Is p.1 (k, p.0)) (λ h. cc)))))))))
 
 pub event_exactly : (kind : ℕ) (payload : List ℕ) (e : Event) → AreOctets payload → (event_at context_at kind payload ≡ Some e) ↔ EventText ItemText kind payload e
-event_exactly kind payload e are = (
-  event_takes context_at ItemText (λ b i octets. (item_exactly b i octets).0) kind payload e are,
-  event_again context_at ItemText (λ b i. again b i) kind payload e,
-)
-  where
-    again : (b : List ℕ) (i : ContextResponse) → ItemText b i → context_at b ≡ Some i
-    again b i h = mapped response.Context (context_at b) (response.Context i) (sym (laid_is_read kinds.Context b (response.Context i) h)) (λ found is same. is ∙ ap Some cc)
+event_exactly kind payload e are = (event_takes context_at ItemText item_takes kind payload e are, event_again context_at ItemText item_again kind payload e)
 
 -- ---- frames
 

@@ -27,7 +27,7 @@ use crate::ready::Ready;
 use crate::record::{MetricsRecord, MetricsRecorder};
 use crate::snapshot::Snapshot;
 use crate::step::{Publisher, Step};
-use crate::turn::{Records, Turn, turn_of};
+use crate::turn::{Records, SessionRules, Turn, turn_of};
 use spf_io::{OutOfMemory, Sink, Source};
 use spf_x509::X509Context;
 use std::alloc::Global;
@@ -347,6 +347,11 @@ pub fn follow_x509<S: Source, K: Sink, P: Publisher, M: MetricsRecorder, C: Svid
         (record { reads = S.faults source.old; writes = K.faults sink.old })
         (record { reads = S.faults source.new; writes = K.faults sink.new }) result }
 {
+    let rules = SessionRules {
+        limits,
+        deadline,
+        ready,
+    };
     let mut payload = Vec::new(alloc);
     let mut line = NumberedLine::new(alloc)?;
     let mut snapshot = None;
@@ -366,7 +371,7 @@ pub fn follow_x509<S: Source, K: Sink, P: Publisher, M: MetricsRecorder, C: Svid
         let synced = snapshot.is_some();
         phase = phase_after(phase, synced, &event);
         let moment = moment_after(now, &event);
-        let turn = turn_of(event, synced, now, limits, deadline, ready, picker);
+        let turn = turn_of(rules, picker, synced, now, event);
         now = moment;
         let is_changed = take(alloc, publisher, recorder, &mut snapshot, limits, turn)?;
         show(&mut line, &snapshot, is_changed, now)?;

@@ -6,6 +6,7 @@ mod follow_error;
 mod following;
 mod frame;
 pub mod frame_kind;
+mod hexadecimal;
 pub mod laws;
 mod limits;
 mod line;

@@ -18,6 +18,7 @@ ghost use Rattle.spf_feed.specs.Standing.{view_in, IsKept};
 ghost use Rattle.spf_feed.specs.Steps.{is_accept};
 ghost use Rattle.spf_feed.specs.Numbered.{ShowsKept};
 
+use crate::hexadecimal::push_hex;
 use crate::picker::usable;
 use crate::prepared::Prepared;
 use crate::snapshot::Snapshot;
@@ -35,20 +36,6 @@ use std::sync::Arc;
 
 /// The octets that are kept free before a line for its number, the most that a `u64` takes.
 const NUMBER_ROOM: usize = 20;
-
-/// Each octet in two digits, lower case.
-fn push_hex(line: &mut Vec<u8>, octets: &[u8]) -> Result<(), OutOfMemory>
-    ensures text { OnOk result (line.new.items ≡ line.old.items ++ encode_lower octets.now) }
-    ensures grows { vec_len line.old ≤ vec_len line.new }
-{
-    let start = line.len();
-    let end = start.saturating_add(octets.len().saturating_mul(2));
-    line.resize(end, 0)?;
-    match hex::encode_to_slice(octets, &mut line[start..]) {
-        Ok(()) => Ok(()),
-        Err(_) => Err(OutOfMemory),
-    }
-}
 
 /// What is shown as its octets.
 trait Octets {

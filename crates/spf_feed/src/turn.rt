@@ -1,4 +1,4 @@
-//! What an event does: the step and the records that it makes, or the answer that it ends the session with.
+//! What an event does: the step and the records that it makes, or the error that it ends the session with.
 
 ghost use Rattle.std.specs.Prelude.{◌≡◌, true, false, None, Some, [], if◌then◌else◌};
 ghost use Rattle.std.specs.Option.{ForSome, option_map};
@@ -23,6 +23,14 @@ use crate::record::{MetricsErrorKind, MetricsRecord};
 use crate::step::Denial;
 use spf_api::{ClientFault, GrpcStatusError, WorkloadApiError};
 use spf_x509::X509Context;
+
+/// The rules of a session, but for its picker and its max frames.
+#[derive(Clone, Copy, Debug)]
+pub(crate) struct SessionRules {
+    pub(crate) limits: ResourceLimits,
+    pub(crate) deadline: Option<i64>,
+    pub(crate) ready: Ready,
+}
 
 /// The records of an event that is not accepted, in order.
 #[derive(Clone, Copy, Debug, PartialEq, Eq)]
@@ -257,22 +265,23 @@ fn may_sync(context: &X509Context, choice: Option<usize>, ready: Ready, now: Opt
 }
 
 fn item_turn<C: SvidPicker>(
+    rules: SessionRules,
+    picker: Option<&C>,
     synced: bool,
     now: Option<i64>,
-    limits: ResourceLimits,
-    picker: Option<&C>,
-    ready: Ready,
     context: X509Context,
 ) -> Turn
     requires { ForSome picker (λ p. C.can_pick p.now) }
-    ensures may { MayTake limits synced result }
-    ensures turn { IsTurn None (received_outcome (rules_with limits None ready (option_map (λ p. C.picks p.now) picker.entry)) synced now (events.Item (Some context))) (kept_out synced (within limits context)) result }
+    ensures may { MayTake rules.limits synced result }
+    ensures turn { IsTurn None
+        (received_outcome (rules_with rules.limits rules.deadline rules.ready (option_map (λ p. C.picks p.now) picker.entry)) synced now (events.Item (Some context)))
+        (kept_out synced (within rules.limits context)) result }
 {
-    if let Err(broken) = validate_limits(&context, limits) {
+    if let Err(broken) = validate_limits(&context, rules.limits) {
         return Turn::Passed(Records::over(synced, broken.kind));
     }
     let choice = select_svid(&context, picker);
-    if !synced && !may_sync(&context, choice, ready, now) {
+    if !synced && !may_sync(&context, choice, rules.ready, now) {
         return Turn::Passed(Records::ended(false, Some(MetricsErrorKind::NoSuitableSvid)));
     }
     Turn::Accepted { context, choice }
@@ -280,17 +289,17 @@ fn item_turn<C: SvidPicker>(
 
 /// What an event does, where an item was accepted before it or not, and at the last moment before it.
 pub(crate) fn turn_of<C: SvidPicker>(
-    event: Received,
+    rules: SessionRules,
+    picker: Option<&C>,
     synced: bool,
     now: Option<i64>,
-    limits: ResourceLimits,
-    deadline: Option<i64>,
-    ready: Ready,
-    picker: Option<&C>,
+    event: Received,
 ) -> Turn
     requires { ForSome picker (λ p. C.can_pick p.now) }
-    ensures may { MayTake limits synced result }
-    ensures turn { IsTurn (received_refusal deadline synced event) (received_outcome (rules_with limits deadline ready (option_map (λ p. C.picks p.now) picker.entry)) synced now event) (received_records synced limits event) result }
+    ensures may { MayTake rules.limits synced result }
+    ensures turn { IsTurn (received_refusal rules.deadline synced event)
+        (received_outcome (rules_with rules.limits rules.deadline rules.ready (option_map (λ p. C.picks p.now) picker.entry)) synced now event)
+        (received_records synced rules.limits event) result }
 {
     match event {
         Received::ClientMade | Received::Connected => Turn::Passed(Records::none()),
@@ -301,12 +310,12 @@ pub(crate) fn turn_of<C: SvidPicker>(
             synced,
             Some(MetricsErrorKind::StreamError),
         )),
-        Received::Item(Some(context)) => item_turn(synced, now, limits, picker, ready, context),
+        Received::Item(Some(context)) => item_turn(rules, picker, synced, now, context),
         Received::StreamEnd => Turn::Passed(Records::ended(
             synced,
             Some(MetricsErrorKind::StreamEnded),
         )),
-        Received::Moment(moment) => moment_turn(synced, deadline, moment),
+        Received::Moment(moment) => moment_turn(synced, rules.deadline, moment),
         Received::Close => close_turn(synced),
     }
 }

@@ -1,6 +1,6 @@
 -- Each list of bytes has a reading.
-use Rattle.std.proofs.Common.{◌≡◌, ℕ, zero, suc, ◌+◌, ◌≤◌, ◌<◌, ◌^◌, Bool, true, false, ltb, List, [], ◌∷◌, ◌++◌, length, take, drop, Option, Some, None, inl, inr, refl, sym, ap, ◌∙◌, subst, append_assoc, arith, length-append, take_at, drop_at}
-use Rattle.std.specs.Prelude.{IsTrue, is_some, ◌⊎◌, ◌||◌}
+use Rattle.std.proofs.Common.{◌≡◌, ℕ, zero, suc, ◌+◌, ◌^◌, Bool, true, false, ltb, List, [], ◌∷◌, ◌++◌, length, take, drop, Option, Some, None, inl, inr, refl, sym, ap, ◌∙◌, subst, append_assoc, arith, length-append, take_at, drop_at}
+use Rattle.std.specs.Prelude.{IsTrue, ◌⊎◌}
 use Rattle.std.specs.Int.{w32, to_be_bytes, from_be_bytes}
 use Rattle.std.specs.Str.{bytes_eq}
 use Rattle.std.proofs.lemmas.Nat.{from_be_bytes-to_be_bytes_4}
@@ -27,8 +27,7 @@ found payload rest fits =
     let split : (n ++ payload) ++ rest ≡ n ++ (payload ++ rest) = append_assoc n payload rest in
     let first : take 4 ((n ++ payload) ++ rest) ≡ n = ap (take 4) split ∙ take_at n (payload ++ rest) 4 refl in
     let size : from_be_bytes w32 (take 4 ((n ++ payload) ++ rest)) ≡ length payload = ap (from_be_bytes w32) first ∙ from_be_bytes-to_be_bytes_4 (length payload) (omega arith) in
-    let second : drop 4 ((n ++ payload) ++ rest) ≡ payload ++ rest = ap (drop 4) split ∙ drop_at n (payload ++ rest) 4 refl in
-    (
+    let second : drop 4 ((n ++ payload) ++ rest) ≡ payload ++ rest = ap (drop 4) split ∙ drop_at n (payload ++ rest) 4 refl in (
       (λ i. take (size i) (second i)) ∙ take_at payload rest (length payload) refl,
       (λ i. drop (size i) (second i)) ∙ drop_at payload rest (length payload) refl,
     )

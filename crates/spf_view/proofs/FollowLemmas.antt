@@ -1,14 +1,13 @@
 -- What a loop over the events keeps, and what each of its exits gives.
 use Rattle.std.proofs.Common.{◌≡◌, ◌≢◌, ℕ, ◌+◌, ◌≤◌, ◌<◌, Bool, true, false, cond, ltb, eqb, List, [], ◌∷◌, ◌++◌, length, take, drop, Option, Some, None, inl, inr, refl, sym, ap, ◌∙◌, subst, append_assoc, arith, length-append, take_all, drop_at}
-use Rattle.std.specs.Prelude.{◌||◌, ◌&&◌, ◌⊎◌, IsTrue, IfSome, is_some}
+use Rattle.std.specs.Prelude.{◌&&◌, ◌⊎◌, IsTrue, IfSome, is_some}
 use Rattle.std.specs.Io.KnownBytes.{Consumes, IsAtEnd}
 use Rattle.std.proofs.KnownBytes.{Consumes-trans, Consumes-nil}
 use Rattle.std.proofs.lemmas.List.{append-nil}
-use Rattle.std.proofs.lemmas.Bool.{le-ltb}
 use Rattle.std.proofs.lemmas.Bool.Decides.{nat_tests}
 use Rattle.std.proofs.Math.Seq.{take-append-add}
 use Rattle.spf_view.specs.Frames.{frame_front}
-use Rattle.spf_view.specs.Sessions.{Stream, IsFrame, NoFrameAt, ends, IsReading, onto, refusal_of, closed_of, End, Whole, OutOfMemory, ReadFault, WriteFault, TooLong, BadFrame, Refused, NeverSynced, end_of, is_free, IsEndOf, all_of, Outputs, Ports, Grows, cuts_line, cuts_steps, GrowsUpTo, IsInOrder, GoesOn, ReadsOn, TakenAtEnd, Followed}
+use Rattle.spf_view.specs.Sessions.{Stream, IsFrame, NoFrameAt, ends, IsReading, onto, End, Whole, OutOfMemory, ReadFault, WriteFault, TooLong, BadFrame, Refused, NeverSynced, end_of, is_free, IsEndOf, all_of, Outputs, Ports, Grows, cuts_line, cuts_steps, GrowsUpTo, IsInOrder, GoesOn, ReadsOn, TakenAtEnd, Followed}
 use Rattle.spf_view.proofs.SessionLemmas.{IsOpen, open_nil, onto-more, open_more, session_of, session_more, reading_stuck, reading_full, reading_ended, refusal_of-open, refusal_of-more, closed_of-open, closed_of-more, all_more, all_ended, end_at_end, end_closed, end_long, end_bad, end_refused}
 
 -- ---- lists that grow
@@ -203,6 +202,7 @@ followed_end {E} {A} s o max_frames old cur new past count r f same took end is 
       is = is ∙ ap (λ n. cond (s.synced past) (Whole n) NeverSynced) (sym f.count_is)
           ∙ sym (ap (end_of s max_frames f.es) none ∙ end_at_end s max_frames f.es (s.synced past) (refusal_of-open s [] f.text f.es f.going) (ap s.synced f.history));
     }))
+
 -- an octet stands after the last frame that is allowed
 pub followed_long : {E A X Y : Type 0} (s : Stream E A) (o : Outputs E X Y) (max_frames : ℕ) (old cur new : Ports X Y) (past : List E) (count x : ℕ)
     → SoFar s o max_frames old cur past count → OnlyRead cur new → max_frames ≤ count → Consumes cur.left new.left (x ∷ []) → Followed s o max_frames old new TooLong
