@@ -23,3 +23,5 @@ mod system;
 mod uses;
 #[cfg(test)]
 mod x509;
+#[cfg(test)]
+mod x509_texts;

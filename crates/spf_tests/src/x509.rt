@@ -1,14 +1,10 @@
 //! Certificates, keys, SVIDs, bundles and contexts.
 
-use spf_der::{
-    CertSpec, KeyUsageBits, Pkcs8DecodeError, X509ParseError, X509ParseKind, write_certificate,
-    write_key,
-};
-use spf_id::{SpiffeIdError, TrustDomain};
+use spf_der::{CertSpec, KeyUsageBits, write_certificate, write_key};
+use spf_id::TrustDomain;
 use spf_io::{Bytes, List, OutOfMemory, Text};
 use spf_x509::{
-    BundleSource, Certificate, CertificateError, PrivateKey, PrivateKeyError, X509Bundle,
-    X509BundleError, X509BundleSet, X509Context, X509ExtensionId, X509Svid, X509SvidError,
+    BundleSource, Certificate, PrivateKey, X509Bundle, X509BundleSet, X509Context, X509Svid,
     cmp_svid_for_update, sorted_authorities, sorted_svids, spiffe_id_from_der,
 };
 use std::alloc::Global;
@@ -500,147 +496,5 @@ fn context(rt: HostRuntime) -> Result<(), Fail> {
     assert_eq!(rt; context.crls().len(), 1);
     assert!(rt; context.bundle_set().is_empty());
     assert!(rt; context.try_clone(alloc)? == context);
-    Ok(())
-}
-
-fn malformed() -> X509ParseError {
-    X509ParseError::new(X509ParseKind::InvalidCertificate)
-}
-
-/// The text of each error of a certificate.
-#[test]
-fn certificate_error_texts(rt: HostRuntime) -> Result<(), Fail> {
-    let alloc = rt.alloc();
-    let name = X509ExtensionId::KeyUsage;
-    let rows = [
-        (
-            CertificateError::MissingX509Extension(name),
-            "X.509 extension is missing: 2.5.29.15",
-        ),
-        (
-            CertificateError::UnexpectedExtension(Text::copy_of(alloc, "Names")?),
-            "unexpected X.509 extension: Names",
-        ),
-        (
-            CertificateError::ParseX509Certificate(malformed()),
-            "failed parsing X.509 certificate",
-        ),
-        (
-            CertificateError::MissingSpiffeId,
-            "certificate is missing SPIFFE ID in URI SAN",
-        ),
-        (
-            CertificateError::MultipleUriSanEntries,
-            "certificate contains multiple URI SAN entries",
-        ),
-        (
-            CertificateError::OversizedUriSan { max: 2048 },
-            "URI SAN exceeds maximum length (2048 bytes)",
-        ),
-        (
-            CertificateError::MultipleSpiffeIds,
-            "certificate contains multiple SPIFFE IDs in URI SAN",
-        ),
-        (
-            CertificateError::TooManyUriSanEntries { max: 3 },
-            "certificate has too many URI SAN entries (max 3)",
-        ),
-        (
-            CertificateError::TooManyCertificates { max: 16 },
-            "certificate chain has too many certificates (max 16)",
-        ),
-        (
-            CertificateError::InvalidSpiffeId(SpiffeIdError::Empty),
-            "failed to parse SPIFFE ID from URI SAN: Empty",
-        ),
-        (CertificateError::OutOfMemory, "out of memory"),
-    ];
-    for (error, text) in rows.iter() {
-        assert_eq!(rt; format!(in alloc; "{error}")?.as_str(), *text);
-    }
-    Ok(())
-}
-
-/// The text of each error of an SVID.
-#[test]
-fn svid_error_texts(rt: HostRuntime) -> Result<(), Fail> {
-    let alloc = rt.alloc();
-    let key = PrivateKeyError::DecodePkcs8(Pkcs8DecodeError);
-    let rows = [
-        (X509SvidError::EmptyChain, "no certificates found in chain"),
-        (
-            X509SvidError::LeafCertificateHasCaFlag,
-            "leaf certificate must not have CA flag set to true",
-        ),
-        (
-            X509SvidError::LeafCertificateHasCrlSign,
-            "leaf certificate must not have 'cRLSign' set as key usage",
-        ),
-        (
-            X509SvidError::LeafCertificateHasKeyCertSign,
-            "leaf certificate must not have 'keyCertSign' set as key usage",
-        ),
-        (
-            X509SvidError::LeafCertificateMissingDigitalSignature,
-            "leaf certificate must have 'digitalSignature' set as key usage",
-        ),
-        (
-            X509SvidError::SigningCertificateMissingCaFlag,
-            "signing certificate must have CA flag set to true",
-        ),
-        (
-            X509SvidError::SigningCertificateMissingKeyCertSign,
-            "signing certificate must have 'keyCertSign' set as key usage",
-        ),
-        (
-            X509SvidError::UnparseableExtension {
-                extension: Text::copy_of(alloc, "KeyUsage")?,
-            },
-            "KeyUsage extension is present but could not be parsed",
-        ),
-        (
-            X509SvidError::Certificate(CertificateError::MissingSpiffeId),
-            "certificate is missing SPIFFE ID in URI SAN",
-        ),
-        (
-            X509SvidError::LeafSpiffeIdMissingPath,
-            "leaf certificate SPIFFE ID must have a non-root path component",
-        ),
-        (
-            X509SvidError::PrivateKey(key),
-            "failed decoding PKCS#8 private key",
-        ),
-        (X509SvidError::OutOfMemory, "out of memory"),
-    ];
-    for (error, text) in rows.iter() {
-        assert_eq!(rt; format!(in alloc; "{error}")?.as_str(), *text);
-    }
-    Ok(())
-}
-
-/// The texts of the other errors, and of the extensions.
-#[test]
-fn other_texts(rt: HostRuntime) -> Result<(), Fail> {
-    let alloc = rt.alloc();
-    let bundle = X509BundleError::Certificate(CertificateError::MissingSpiffeId);
-    let shown = format!(in alloc;
-        "{}; {}; {}; {}",
-        PrivateKeyError::DecodePkcs8(Pkcs8DecodeError),
-        PrivateKeyError::OutOfMemory,
-        bundle,
-        X509BundleError::OutOfMemory
-    )?;
-    assert_eq!(rt;
-        shown.as_str(),
-        "failed decoding PKCS#8 private key; out of memory; certificate is missing SPIFFE ID in URI SAN; out of memory"
-    );
-    for (extension, dotted) in [
-        (X509ExtensionId::KeyUsage, "2.5.29.15"),
-        (X509ExtensionId::SubjectAlternativeName, "2.5.29.17"),
-        (X509ExtensionId::BasicConstraints, "2.5.29.19"),
-    ] {
-        assert_eq!(rt; extension.as_str(), dotted);
-        assert_eq!(rt; format!(in alloc; "{extension}")?.as_str(), dotted);
-    }
     Ok(())
 }
