@@ -92,11 +92,15 @@ fn held_svid(held: Option<&X509Context>, index: usize) -> Option<&Arc<X509Svid>>
     held?.svids().get(index)
 }
 
-fn held_bundles(held: Option<&X509Context>) -> Option<&X509BundleSet> {
-    Some(held?.bundle_set())
+/// The held context's bundle of the trust domain.
+fn held_bundle<'a>(
+    held: Option<&'a X509Context>,
+    trust_domain: &TrustDomain,
+) -> Option<&'a Arc<X509Bundle>> {
+    held?.bundle_set().get_ref(trust_domain)
 }
 
-/// The SVID of an entry, and the bundle of its trust domain.
+/// The SVID of an entry, and the bundle of its trust domain. The entries before it most often have the same bundle.
 #[tactic(auto, unfolding(crate::specs::Parsed::svid_and_bundle_of))]
 fn shared_material(
     alloc: Global,
@@ -109,13 +113,9 @@ fn shared_material(
 {
     let svid = shared_svid(alloc, entry, held_svid(held, index))?;
     let trust_domain = svid.spiffe_id().trust_domain();
-    let bundle = shared_bundle(
-        alloc,
-        trust_domain,
-        entry.bundle,
-        bundles,
-        held_bundles(held),
-    )?;
+    let near = bundles.get_ref(trust_domain);
+    let held = held_bundle(held, trust_domain);
+    let bundle = shared_bundle(alloc, trust_domain, entry.bundle, near, held)?;
     Ok((svid, bundle))
 }
 
@@ -142,19 +142,13 @@ fn shared_svids(
 fn named_bundle(
     alloc: Global,
     entry: &BundleEntryView<'_>,
-    bundles: &X509BundleSet,
     held: Option<&X509Context>,
 ) -> Result<Arc<X509Bundle>, WorkloadApiError>
     ensures { Gives is_memory_api arc_value result (named_bundle_of (bundle_entry_of entry.now)) }
 {
     let trust_domain = TrustDomain::new(alloc, entry.name)?;
-    shared_bundle(
-        alloc,
-        &trust_domain,
-        entry.bundle,
-        bundles,
-        held_bundles(held),
-    )
+    let held = held_bundle(held, &trust_domain);
+    shared_bundle(alloc, &trust_domain, entry.bundle, None, held)
 }
 
 fn add_named(
@@ -166,7 +160,7 @@ fn add_named(
     ensures { Gives is_memory_api (λ _. bundles.new) result (read_as (with_bundles bundles.old) (each named_bundle_of (map bundle_entry_of entries.now))) }
 {
     for entry in entries {
-        let bundle = named_bundle(alloc, entry, bundles, held)?;
+        let bundle = named_bundle(alloc, entry, held)?;
         bundles.add_shared(bundle)?;
     }
     Ok(())

@@ -14,7 +14,7 @@ use crate::error::WorkloadApiError;
 use crate::response::SvidEntryView;
 use spf_id::TrustDomain;
 use spf_io::{OutOfMemory, Text};
-use spf_x509::{X509Bundle, X509BundleSet, X509Svid};
+use spf_x509::{X509Bundle, X509Svid};
 use std::alloc::Global;
 use std::sync::Arc;
 
@@ -84,15 +84,15 @@ pub(crate) fn parse_bundle(
     Ok(X509Bundle::parse_from_der(alloc, trust_domain, der)?)
 }
 
-/// Returns the set's bundle of the trust domain, where it was read from these bytes.
+/// Returns the bundle, where it is that of the trust domain and was read from these bytes.
 fn share_of(
-    set: &X509BundleSet,
+    bundle: Option<&Arc<X509Bundle>>,
     trust_domain: &TrustDomain,
     der: &[u8],
 ) -> Result<Option<Arc<X509Bundle>>, OutOfMemory>
     ensures { IfOk result (λ o. IfSome o (λ b. bundle_of trust_domain.now (authorities_rule der.now) ≡ Ok (arc_value b))) }
 {
-    let Some(bundle) = set.get_ref(trust_domain) else {
+    let Some(bundle) = bundle else {
         return Ok(None);
     };
     if !bundle.is_parsed_from(trust_domain, der) {
@@ -101,24 +101,22 @@ fn share_of(
     Ok(Some(Arc::try_clone(bundle)?))
 }
 
-/// Returns the bundle of a trust domain, which is that of one of the two sets where it was read from the same bytes.
+/// Returns the bundle of a trust domain, which is one of the two others where that was read from the same bytes.
 #[tactic(auto, unfolding(crate::specs::Parsed::bundle_for))]
 pub(crate) fn shared_bundle(
     alloc: Global,
     trust_domain: &TrustDomain,
     der: &[u8],
-    found: &X509BundleSet,
-    held: Option<&X509BundleSet>,
+    near: Option<&Arc<X509Bundle>>,
+    held: Option<&Arc<X509Bundle>>,
 ) -> Result<Arc<X509Bundle>, WorkloadApiError>
     ensures { Gives is_memory_api arc_value result (bundle_for trust_domain.now der.now) }
 {
-    if let Some(bundle) = share_of(found, trust_domain, der)? {
+    if let Some(bundle) = share_of(near, trust_domain, der)? {
         return Ok(bundle);
     }
-    if let Some(held) = held {
-        if let Some(bundle) = share_of(held, trust_domain, der)? {
-            return Ok(bundle);
-        }
+    if let Some(bundle) = share_of(held, trust_domain, der)? {
+        return Ok(bundle);
     }
     let bundle = parse_bundle(alloc, trust_domain, der)?;
     Ok(Arc::new(alloc, bundle)?)
