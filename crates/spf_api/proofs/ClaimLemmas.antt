@@ -1,5 +1,5 @@
 -- What is laid out is read, and what is read is laid out so: claims.
-use Rattle.std.proofs.Common.{◌≡◌, ℕ, ℤ, zero, suc, ◌+◌, ◌^◌, ◌<◌, Bool, true, false, cond, eqb, List, [], ◌∷◌, ◌++◌, length, map, get_or, Option, Some, None, SFits, to_z, of_z, rules, refl, sym, ap, ◌∙◌, subst, append_assoc, arith}
+use Rattle.std.proofs.Common.{◌≡◌, ℕ, ℤ, zero, suc, ◌+◌, ◌^◌, ◌<◌, Bool, true, false, cond, eqb, List, [], ◌∷◌, ◌++◌, map, Option, Some, None, SFits, to_z, of_z, rules, refl, sym, ap, ◌∙◌, subst, append_assoc, arith}
 use Rattle.std.proofs.Math.Facts as fact
 use Rattle.std.proofs.lemmas.Int as int
 use Rattle.std.proofs.lemmas.Bool.{eqb-true}
@@ -7,15 +7,13 @@ use Rattle.std.proofs.lemmas.Nat.{be_bytes_8, from_be_bytes-to_be_bytes_8}
 use Rattle.std.proofs.lemmas.List.{length-map}
 use Rattle.std.proofs.lemmas.List.Folds.{flat_map-map}
 use Rattle.std.specs.Int.{w32, w64, to_be_bytes, from_be_bytes}
-use Rattle.std.specs.List.{flat_map}
-use Rattle.spf_io.specs.Option.{◌>>=◌}
 use Rattle.spf_api.specs.declared.response.Claim.{Claim}
 use Rattle.spf_api.specs.declared.response.ClaimValue.{ClaimValue, ClaimValue-F, Unset, Null, Bool as Truth, Whole, OtherNumber, Words, Items, Fields, the_lemmas, out-ClaimValue, roll-ClaimValue, roll-out-ClaimValue}
 use Rattle.spf_api.specs.Layout.{field_text, list_text, IsText, IsListOf}
 use Rattle.spf_api.specs.Reading.{text_field_at, list_at}
 use Rattle.spf_api.specs.Claims.{truth_octet, claim_value_text, claim_text, IsClaim, IsLayer, IsClaimValue, as_value, truth_at, whole_at, claim_at, contents_at, claim_value_at}
 use Rattle.spf_api.proofs.Spelled.{IsBytes, Reads, pair_parts, text_fields}
-use Rattle.spf_api.proofs.Lists.{Front, front, both, LaidFront, laid_same, bind_then, lists}
+use Rattle.spf_api.proofs.Lists.{front, both, LaidFront, laid_same, bind_then, lists}
 
 -- the list of the texts is the text of the list
 texts_of : {A : Type 0} (one : A → List ℕ) (xs : List A) → list_text (λ (text : List ℕ). text) (map one xs) ≡ list_text one xs

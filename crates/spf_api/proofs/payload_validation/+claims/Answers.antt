@@ -1,5 +1,5 @@
-use Rattle.std.proofs.Common.{◌≡◌, ◌-◌, ◌+◌, ◌<◌, ◌∷◌, sym, arith, rules}
-use Rattle.spf_api.specs.Reading.{counted, list_at}
+use Rattle.std.proofs.Common.{◌≡◌, ◌-◌, ◌+◌, ◌<◌, sym, arith, rules}
+use Rattle.spf_api.specs.Reading.{counted}
 use Rattle.spf_api.specs.Claims.{claim_at, claim_value_at}
 use Rattle.spf_api.proofs.Counted.{counted_more, counted_fails}
 use Rattle.spf_api.proofs.ClaimLemmas.{value_opens}

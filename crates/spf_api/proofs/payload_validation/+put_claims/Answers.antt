@@ -1,4 +1,4 @@
-use Rattle.std.proofs.Common.{ℕ, ℤ, rules, [], ◌∷◌, ◌∙◌, List, ◌++◌, length, of_z, ap, sym, refl, arith}
+use Rattle.std.proofs.Common.{ℤ, rules, [], ◌∷◌, ◌∙◌, List, ◌++◌, length, of_z, ap, sym, arith}
 use Rattle.std.proofs.lemmas.List.{append-nil}
 use Rattle.std.proofs.lemmas.Int.{to_z-of_z}
 use Rattle.std.specs.Int.{w32, w64, to_be_bytes}
