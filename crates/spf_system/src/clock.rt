@@ -80,7 +80,7 @@ pub struct StdClock<R> {
 
 impl<R: time::Clock> StdClock<R> {
     pub fn new(system: R) -> StdClock<R>
-        ensures { result.system ≡ system }
+        ensures { result ≡ record { system = system } }
     {
         StdClock { system }
     }

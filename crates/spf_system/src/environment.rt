@@ -72,7 +72,9 @@ pub struct StdEnvironment<R> {
 }
 
 impl<R: Env + AllocGlobal> StdEnvironment<R> {
-    pub fn new(system: R) -> StdEnvironment<R> {
+    pub fn new(system: R) -> StdEnvironment<R>
+        ensures { result ≡ record { system = system } }
+    {
         StdEnvironment { system }
     }
 }

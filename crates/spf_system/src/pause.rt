@@ -1,6 +1,6 @@
 //! Pauses between attempts.
 
-ghost use Rattle.std.specs.Prelude.{◌≡◌, ℕ, List, [], Option, Some, IfOk};
+ghost use Rattle.std.specs.Prelude.{◌≡◌, ℕ, List, [], None, Option, Some, IfOk};
 ghost use Rattle.spf_system.specs.Pause.{Pauses, paused};
 
 use crate::stop_flag::StopFlag;
@@ -96,7 +96,9 @@ pub struct StdPause<R> {
 
 impl<R: time::Clock> StdPause<R> {
     /// A pause that heeds no mark yet.
-    pub fn new(system: R) -> StdPause<R> {
+    pub fn new(system: R) -> StdPause<R>
+        ensures { result ≡ record { system = system; stop = None } }
+    {
         StdPause { system, stop: None }
     }
 
