@@ -1,4 +1,4 @@
--- How an error of the Workload API reads for a source: want of memory stays want of memory.
+-- How an error of the Workload API reads for a source: out of memory stays out of memory.
 use Rattle.spf_api.specs.declared.error.WorkloadApiError.{WorkloadApiError}
 use Rattle.spf_api.specs.declared.error.WorkloadApiError.TheVariants as api
 use Rattle.spf_feed.specs.declared.state.X509SourceError.{X509SourceError}

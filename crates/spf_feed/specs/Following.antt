@@ -57,7 +57,7 @@ pub record HasFaults (old new : FaultCounts) (r : Result ℕ FollowError) : Type
 
 -- ---- reading an event
 
--- the event that was read, behind a history, as it is received
+-- the event that was read, after a history, as it is received
 pub record IsEventRead (rules : Rules) (past : List Event) (allowed : Bool) (old new : Option (List ℕ)) (received : Received) : Type 0 where
   pub leave : IsTrue allowed
   pub event : Event
@@ -82,7 +82,7 @@ EventRead rules past allowed old new (Ok None) = Consumes old new [] × IsAtEnd 
 EventRead rules past allowed old new (Ok (Some received)) = IsEventRead rules past allowed old new received
 EventRead rules past allowed old new (Err e) = IsEventUnread rules past allowed old new e
 
--- an event is read, or a bad frame is told, only where a frame is allowed
+-- an event is read, or a bad frame is reported, only where a frame is allowed
 abbrev pub OnlyAllowed : {X : Type 0} → Bool → Result (Option X) FrameError → Type 0
 OnlyAllowed allowed (Ok None) = Unit {0}
 OnlyAllowed allowed (Ok (Some x)) = IsTrue allowed
@@ -155,8 +155,8 @@ IsAccepted step old new r = IsMemory r × IsTaken (Some step) (update_of (change
 abbrev pub TurnTaken : ResourceLimits → Turn → TurnState → TurnState → Result Bool FollowError → Type 0
 TurnTaken limits (turns.Terminal end) old new r = (r ≡ Err (answer_to end)) × (new.steps ≡ old.steps) × (new.records ≡ old.records)
 TurnTaken limits (turns.Accepted context choice) old new r = IsAccepted (Accept (record { context = context; choice = choice }) limits) old new r
-TurnTaken limits (turns.Denied reason told) old new r = IsMemory r × IsTaken (Some (Deny reason)) (listed told) old new r
-TurnTaken limits (turns.Passed told) old new r = IsMemory r × IsTaken None (listed told) old new r
+TurnTaken limits (turns.Denied reason list) old new r = IsMemory r × IsTaken (Some (Deny reason)) (listed list) old new r
+TurnTaken limits (turns.Passed list) old new r = IsMemory r × IsTaken None (listed list) old new r
 
 -- ---- the line
 

@@ -69,7 +69,7 @@ abbrev pub may_sync : Ready → Material → Option ℤ → Bool
 may_sync readiness.Usable material now = is_some (usable (chosen_of material) now)
 may_sync readiness.Any material now = true
 
--- the denial that an answer of the Workload API tells
+-- the denial that an error of the Workload API is
 abbrev pub denial_in : WorkloadApiError → Option Denial
 denial_in api.NoIdentityIssued = Some denial.NoIdentityIssued
 denial_in (api.PermissionDenied message) = Some (denial.PermissionDenied message)

@@ -1,4 +1,4 @@
--- The line of a session, behind its number.
+-- The line of a session, after its number.
 use Rattle.std.specs.Prelude.{◌≡◌, ℕ, ℤ, Bool, List, Option, is_some}
 use Rattle.std.specs.Option.{option_and_then}
 use Rattle.spf_view.specs.Standing.{Kept, held_in}
@@ -7,7 +7,7 @@ use Rattle.spf_feed.specs.Material.{Material, chosen_of}
 use Rattle.spf_feed.specs.Pick.{usable}
 use Rattle.spf_feed.specs.Shown.{shown_text}
 
--- what stands behind the number, and whether a choice is shown
+-- what stands after the number, and whether a choice is shown
 pub record LineView : Type 0 where
   pub text : List ℕ
   pub shows_choice : Bool

@@ -37,7 +37,7 @@ use Rattle.spf_feed.specs.Limits.{within}
 use Rattle.spf_feed.specs.Steps.{Material, PlainStep, same_material}
 use Rattle.spf_feed.specs.Shown.{shown_text}
 
--- What stands next behind an event: an item that parses, after an accepted one, keeps the stream; a moment changes nothing.
+-- What stands next after an event: an item that parses, after an accepted one, keeps the stream; a moment changes nothing.
 abbrev pub asked_by : {I : Type 0} → (I → Option Context) → Phase → Bool → SessionEvent I → Phase
 asked_by read before synced events.ClientMade = phases.Connect
 asked_by read before synced events.Connected = phases.Next

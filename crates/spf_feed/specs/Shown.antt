@@ -30,7 +30,7 @@ revocations_text (crl ∷ others) = codes " #" ++ sorted_text (crl ∷ others)
 abbrev pub context_text : Context → Option Svid → List ℕ
 context_text context choice = codes " permitted" ++ choice_text choice ++ flat_map entry_text context.bundles ++ revocations_text context.crls
 
--- what is visible behind the revision: the choice while its expiry is above the moment
+-- what is visible after the revision: the choice while its expiry is above the moment
 abbrev pub visible_text : View Material Denial → Option ℤ → List ℕ
 visible_text Waiting now = []
 visible_text (Withdrawn reason) now = withdrawn_text reason
@@ -41,6 +41,6 @@ unfoldable pub view_line : View Material Denial → ℕ → Option ℤ → List 
 view_line Waiting revision now = codes "waiting" ++ 10 ∷ []
 view_line view revision now = decimal revision ++ visible_text view now ++ 10 ∷ []
 
--- Shown: the same behind the event's number
+-- Shown: the same after the event's number
 unfoldable pub shown_text : View Material Denial → ℕ → Option ℤ → List ℕ
 shown_text view revision now = 32 ∷ view_line view revision now

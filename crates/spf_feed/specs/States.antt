@@ -1,4 +1,4 @@
--- What a state answers, want of memory aside.
+-- What the calls of a state return, where memory does not run out.
 use Rattle.std.specs.Prelude.{◌≡◌, ℤ, Option, None, Some, Result, Ok, Err}
 use Rattle.std.specs.Option.{option_map, option_and_then}
 use Rattle.std.specs.Arc.{arc_value}

@@ -36,15 +36,15 @@ reason_in (Deny reason) = Some reason
 abbrev pub fits : ResourceLimits → Material → Bool
 fits limits material = is_ok (within limits material.context) && option_map_or (λ index. nat_lt index (length material.context.svids)) material.choice true
 
--- the list is told and empty in no case
+-- the list is not empty, where it is known
 abbrev pub HasStep : Option (List PlainStep) → Type 0
 HasStep None = Unit {0}
 HasStep (Some steps) = steps ≢ []
 
--- a step may come next: an Accept that fits, or a Deny behind another step
+-- a step may come next: an Accept that fits, or a Deny after another step
 abbrev pub MayFollow : Option (List PlainStep) → PlainStep → Type 0
-MayFollow told (Accept material limits) = IsTrue (fits limits material)
-MayFollow told (Deny reason) = HasStep told
+MayFollow known (Accept material limits) = IsTrue (fits limits material)
+MayFollow known (Deny reason) = HasStep known
 
 -- the same with whether the source is closed
 pub record StateView : Type 0 where

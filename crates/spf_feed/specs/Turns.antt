@@ -30,10 +30,10 @@ listed r = option_to_list (option_map records.Error r.error) ++ option_to_list r
 
 -- The turn of an event, by how it ends the session, by what becomes of it, and by its records where it is not accepted.
 abbrev pub IsTurn : Option Terminal → Outcome Material Denial → List MetricsRecord → Turn → Type 0
-IsTurn refusal outcome told (turns.Terminal end) = refusal ≡ Some end
-IsTurn refusal outcome told (turns.Accepted context choice) = (refusal ≡ None) × (outcome ≡ Accepted (record { context = context; choice = choice }))
-IsTurn refusal outcome told (turns.Denied reason records) = (refusal ≡ None) × (outcome ≡ Denied reason) × (listed records ≡ told)
-IsTurn refusal outcome told (turns.Passed records) = (refusal ≡ None) × (outcome ≡ Passed) × (listed records ≡ told)
+IsTurn refusal outcome list (turns.Terminal end) = refusal ≡ Some end
+IsTurn refusal outcome list (turns.Accepted context choice) = (refusal ≡ None) × (outcome ≡ Accepted (record { context = context; choice = choice }))
+IsTurn refusal outcome list (turns.Denied reason records) = (refusal ≡ None) × (outcome ≡ Denied reason) × (listed records ≡ list)
+IsTurn refusal outcome list (turns.Passed records) = (refusal ≡ None) × (outcome ≡ Passed) × (listed records ≡ list)
 
 -- how an answer of the Workload API ends a session in which nothing is accepted
 abbrev pub refusal_by_code : Option GrpcStatusCode → WorkloadApiError → Option Terminal

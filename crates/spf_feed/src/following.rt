@@ -94,10 +94,10 @@ fn moment_after(now: Option<i64>, event: &Received) -> Option<i64>
     }
 }
 
-fn record_one<M: MetricsRecorder>(recorder: &mut M, told: MetricsRecord) -> Result<(), OutOfMemory>
-    ensures { RecordAppends (M.records recorder.old) (M.records recorder.new) result told }
+fn record_one<M: MetricsRecorder>(recorder: &mut M, entry: MetricsRecord) -> Result<(), OutOfMemory>
+    ensures { RecordAppends (M.records recorder.old) (M.records recorder.new) result entry }
 {
-    match told {
+    match entry {
         MetricsRecord::Update => recorder.record_update(),
         MetricsRecord::Reconnect => recorder.record_reconnect(),
         MetricsRecord::Error(kind) => recorder.record_error(kind),
@@ -282,7 +282,7 @@ fn take<P: Publisher, M: MetricsRecorder>(
     }
 }
 
-/// The answer at the end of the input.
+/// The result at the end of the input.
 fn at_end(snapshot: &Option<Snapshot>, count: u64) -> Result<u64, FollowError>
     ensures calm { IfErr result (λ e. is_fault e ≡ false) }
     ensures answer { result ≡ (if is_some snapshot.now then Ok count else Err answers.NeverSynced) }
@@ -308,8 +308,8 @@ fn show(
     }
 }
 
-/// Follows an update stream of at most so many frames to its end or its close. Each event is read, published, recorded
-/// and shown by a line, in that order. It answers the number of events.
+/// Follows an update stream of at most `max_frames` frames to its end or its close. Each event is read, published, recorded
+/// and shown by a line, in that order. It returns the number of events.
 pub fn follow_x509<S: Source, K: Sink, P: Publisher, M: MetricsRecorder, C: SvidPicker>(
     alloc: Global,
     source: &mut S,

@@ -243,7 +243,7 @@ fn push_withdrawn(line: &mut Vec<u8>, reason: &Denial) -> Result<(), OutOfMemory
     Ok(())
 }
 
-/// What is visible behind the revision.
+/// What is visible after the revision.
 fn push_visible(
     line: &mut Vec<u8>,
     standing: &Standing,

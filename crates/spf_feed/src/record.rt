@@ -70,7 +70,7 @@ pub enum MetricsRecord {
 
 /// What records are handed to. It keeps memory of its own, which may run out.
 pub trait MetricsRecorder {
-    // The records so far, where the recorder tells.
+    // The records so far, where the recorder says so.
     ghost records: { Self → Option (List MetricsRecord) };
 
     fn record_update(&mut self) -> Result<(), OutOfMemory>
@@ -83,7 +83,7 @@ pub trait MetricsRecorder {
         ensures { RecordAppends (records self.old) (records self.new) result (MetricsRecord.Error kind) };
 }
 
-/// A recorder that keeps the records, and tells them.
+/// A recorder that keeps the records.
 #[derive(Debug, Drop)]
 pub struct MemRecorder {
     records: Vec<MetricsRecord>,

@@ -160,7 +160,7 @@ abbrev pub cuts_steps : {A : Type 0} → End A → Bool
 cuts_steps OutOfMemory = true
 cuts_steps _ = false
 
--- Of these events, the last of which stands after `before`, so many steps, records and octets of lines are handed on: all of
+-- Of these events, the last of which stands after `before`, these numbers of steps, records and octets of lines are handed on: all of
 -- the events before the last; and of the last its records only after its steps, its line only after its records.
 pub record IsInOrder {E A X Y : Type 0} (s : Stream E A) (o : Outputs E X Y) (before es : List E) (steps records octets : ℕ) : Type 0 where
   pub earlier_steps : length (all_of s o.steps [] before) ≤ steps

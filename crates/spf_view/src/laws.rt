@@ -66,7 +66,7 @@ pub fn same_views<M, D>()
         × ((u v w : View M D) → same_view eq u v ≡ true → same_view eq v w ≡ true → same_view eq u w ≡ true) }
 {}
 
-/// No frame begins another, so frames behind one another are cut in one way only.
+/// No frame begins another, so frames one after another are cut in one way only.
 pub fn frames_are_cut_in_one_way()
     ensures { (xs ys : List (ℕ × List ℕ)) → AllByRecursion (λ f. FitsFrame f.1) xs → AllByRecursion (λ f. FitsFrame f.1) ys → flat_map (λ f. raw_text f.0 f.1) xs ≡ flat_map (λ f. raw_text f.0 f.1) ys → xs ≡ ys }
 {}
