@@ -1,9 +1,10 @@
--- Made sessions, as they are put together.
+-- Generated sessions, as they are put together.
 use Rattle.std.proofs.Common.{◌≡◌, ◌∙◌, refl, ap, sym, ℕ, suc, ◌%◌, ◌<◌, Bool, true, false, Option, Some, List, [], ◌∷◌, ◌++◌, length, arith, append_assoc, length-append}
 use Rattle.std.proofs.lemmas.List.{append-nil}
 use Rattle.std.specs.Prelude.{◌==◌, nat_lt, if◌then◌else◌}
 use Rattle.std.specs.Int.{w32, to_be_bytes}
 use Rattle.spf_der.specs.Value.{length_octets}
+use Rattle.spf_der.specs.Written.{certificate_text}
 use Rattle.spf_api.specs.declared.response.ContextResponse.{ContextResponse}
 use Rattle.spf_api.specs.declared.response.Response.TheVariants as response
 use Rattle.spf_api.specs.declared.response.SvidEntry.{SvidEntry}
@@ -14,11 +15,11 @@ use Rattle.spiffe_watch.specs.declared.generated.Variant.{Variant}
 use Rattle.spiffe_watch.specs.declared.generated.Variant.TheVariants as variants
 use Rattle.spiffe_watch.specs.declared.generated.Workload.{Workload}
 use Rattle.spiffe_watch.specs.declared.template.Template.{Template}
-use Rattle.spiffe_watch.specs.MadeSession.{client_frames, close_frame, denial_frame, end_frame, entry, expiry_text, frames_by, frames_from, frames_left, generation_by, item, item_frame, next_seed, leaf_spec, moment_frame, root_spec, intermediate_spec}
-use Rattle.spiffe_watch.specs.GeneratedParts.{Yields, IsWorkload}
+use Rattle.spiffe_watch.specs.MadeSession.{client_frames, close_frame, denial_frame, end_frame, entry, frames_by, frames_from, frames_left, generation_by, item, item_frame, next_seed, leaf, leaf_spec, moment_frame, root, root_spec, intermediate, intermediate_spec}
+use Rattle.spiffe_watch.specs.GeneratedParts.{Yields, IsExpiry, IsWorkload}
 use Rattle.spiffe_watch.specs.Template.{IsTemplate, before, dated, tbs_after, tbs_before, tbs_size}
 
--- ---- places
+-- ---- offsets
 
 pub root_offset : (serial : ℕ) → 33 ≡ length (before (root_spec serial 0))
 unfolding before tbs_size tbs_before tbs_after length_octets
@@ -34,21 +35,24 @@ leaf_offset index = refl
 
 -- ---- items
 
--- the entry of a workload
-pub entry_is : (index generation : ℕ) (w : Workload) (t : Template) (key bundle : List ℕ) → IsWorkload index w → IsTemplate (intermediate_spec 0) t
-    → ◌≡◌ {A = SvidEntry} (record { spiffe_id = w.identity; x509_svid = dated w.leaf (expiry_text generation) ++ dated t (expiry_text generation); x509_svid_key = key; bundle = bundle; hint = [] })
-    (entry generation index key bundle)
-entry_is index generation w t key bundle is intermediate =
-    λ i. record { spiffe_id = is.identity_is i; x509_svid = is.leaf_is (expiry_text generation) refl i ++ intermediate (expiry_text generation) refl i; x509_svid_key = key; bundle = bundle; hint = [] }
+-- a certificate of a template, with the expiry of a generation
+pub dated_root : (serial generation : ℕ) (t : Template) (time : List ℕ) → IsTemplate (root_spec serial 0) t → IsExpiry generation time → dated t time ≡ root serial generation
+dated_root serial generation t time is expiry = is time expiry.size ∙ ap (certificate_text (root_spec serial generation)) expiry.is
 
--- the same of an entry with these parts
+dated_intermediate : (generation : ℕ) (t : Template) (time : List ℕ) → IsTemplate (intermediate_spec 0) t → IsExpiry generation time → dated t time ≡ intermediate generation
+dated_intermediate generation t time is expiry = is time expiry.size ∙ ap (certificate_text (intermediate_spec generation)) expiry.is
+
+dated_leaf : (index generation : ℕ) (t : Template) (time : List ℕ) → IsTemplate (leaf_spec index 0) t → IsExpiry generation time → dated t time ≡ leaf index generation
+dated_leaf index generation t time is expiry = is time expiry.size ∙ ap (certificate_text (leaf_spec index generation)) expiry.is
+
+-- the entry of a workload
 pub entry_of_workload : (index generation : ℕ) (w : Workload) (t : Template) (time key key' bundle bundle' : List ℕ) (e : SvidEntry) → IsWorkload index w → IsTemplate (intermediate_spec 0) t
-    → time ≡ expiry_text generation → key ≡ key' → bundle ≡ bundle'
+    → IsExpiry generation time → key ≡ key' → bundle ≡ bundle'
     → e ≡ record { spiffe_id = w.identity; x509_svid = dated w.leaf time ++ dated t time; x509_svid_key = key; bundle = bundle; hint = [] }
     → e ≡ entry generation index key' bundle'
-entry_of_workload index generation w t time key key' bundle bundle' e is intermediate dates keys bundles made =
-    made ∙ (λ i. record { spiffe_id = w.identity; x509_svid = dated w.leaf (dates i) ++ dated t (dates i); x509_svid_key = keys i; bundle = bundles i; hint = [] })
-    ∙ entry_is index generation w t key' bundle' is intermediate
+entry_of_workload index generation w t time key key' bundle bundle' e is above expiry keys bundles made =
+    made
+    ∙ (λ i. record { spiffe_id = is.identity_is i; x509_svid = dated_leaf index generation w.leaf time is.leaf_is expiry i ++ dated_intermediate generation t time above expiry i; x509_svid_key = keys i; bundle = bundles i; hint = [] })
 
 pub payload_is : (r : ContextResponse) (bytes : List ℕ) → Payload (kind_of (response.Context r)) bytes (response.Context r) → bytes ≡ context_payload r
 unfolding Payload

@@ -3,9 +3,10 @@ use Rattle.std.specs.Prelude.{◌≡◌, ℕ, ◌+◌, ◌≤◌, ◌<◌, Bool,
 use Rattle.spf_io.specs.Outside.{Rose}
 use Rattle.spf_io.specs.declared.memory.Failed.{Failed}
 use Rattle.spf_der.specs.Written.{key_text}
+use Rattle.spf_der.specs.WrittenTime.{expiry_text}
 use Rattle.spiffe_watch.specs.declared.generated.Parts.{Parts}
 use Rattle.spiffe_watch.specs.declared.generated.Workload.{Workload}
-use Rattle.spiffe_watch.specs.MadeSession.{identity, leaf_spec, root_spec, intermediate_spec}
+use Rattle.spiffe_watch.specs.MadeSession.{expiry_of, identity, leaf_spec, root_spec, intermediate_spec}
 use Rattle.spiffe_watch.specs.Template.{IsTemplate}
 
 -- the text, the leaf and the key of a workload, by its index
@@ -22,6 +23,11 @@ pub record AreParts (p : Parts) : Type 0 where
   pub root_a : IsTemplate (root_spec 10 0) p.root_a
   pub root_b : IsTemplate (root_spec 11 0) p.root_b
   pub foreign_root : IsTemplate (root_spec 12 0) p.foreign_root
+
+-- the expiry of a generation, as a Time of 15 octets
+pub record IsExpiry (generation : ℕ) (text : List ℕ) : Type 0 where
+  pub is : text ≡ expiry_text (expiry_of generation)
+  pub size : length text ≡ 15
 
 -- each operation may raise the generation
 abbrev pub HasRoom : Option ℕ → ℕ → Type 0

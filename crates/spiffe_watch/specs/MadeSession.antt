@@ -1,10 +1,10 @@
 -- Generated sessions: streams of updates of any length, the same for the same seed.
-use Rattle.std.specs.Prelude.{ℕ, zero, suc, ◌+◌, ◌*◌, ◌/◌, ◌%◌, ℤ, pos, true, false, ◌==◌, nat_lt, if◌then◌else◌, List, [], ◌∷◌, ◌++◌, Option, None, Some, codes}
+use Rattle.std.specs.Prelude.{ℕ, zero, suc, ◌+◌, ◌*◌, ◌%◌, ℤ, pos, true, false, ◌==◌, nat_lt, if◌then◌else◌, List, [], ◌∷◌, ◌++◌, Option, None, Some, codes}
 use Rattle.std.specs.Int.{w64, to_be_bytes}
 use Rattle.spf_der.specs.declared.extensions.KeyUsageBits.{KeyUsageBits}
 use Rattle.spf_der.specs.declared.writer.CertSpec.{CertSpec}
 use Rattle.spf_der.specs.Written.{certificate_text, key_text}
-use Rattle.spf_der.specs.WrittenTime.{utc_text}
+use Rattle.spf_der.specs.WrittenTime.{expiry_text}
 use Rattle.spf_api.specs.declared.response.SvidEntry.{SvidEntry}
 use Rattle.spf_api.specs.declared.response.ContextResponse.{ContextResponse}
 use Rattle.spf_api.specs.Layout.{field_text, context_payload}
@@ -18,10 +18,6 @@ use Rattle.spiffe_watch.specs.declared.arguments.MakeArguments.{MakeArguments}
 -- when the certificates of a generation expire, in Unix seconds
 abbrev pub expiry_of : ℕ → ℤ
 expiry_of generation = pos (2000000000 + generation)
-
--- the same as a UTCTime: second 2000000000 is 03:33:20 on 2033-05-18, and the first 73,600 generations lie on that day
-abbrev pub expiry_text : ℕ → List ℕ
-expiry_text generation = 23 ∷ 13 ∷ utc_text 2033 5 18 ((12800 + generation) / 3600) ((12800 + generation) / 60 % 60) ((12800 + generation) % 60)
 
 abbrev pub signs_data : KeyUsageBits
 signs_data = record { digital_signature = true; key_cert_sign = false; crl_sign = false }
@@ -44,13 +40,13 @@ abbrev pub root_spec : ℕ → ℕ → CertSpec
 root_spec serial generation = record { serial = serial; expiry = expiry_of generation; key_usage = None; ca = None; uris = [] }
 
 abbrev pub leaf : ℕ → ℕ → List ℕ
-leaf index generation = certificate_text (leaf_spec index generation) (expiry_text generation)
+leaf index generation = certificate_text (leaf_spec index generation) (expiry_text (expiry_of generation))
 
 abbrev pub intermediate : ℕ → List ℕ
-intermediate generation = certificate_text (intermediate_spec generation) (expiry_text generation)
+intermediate generation = certificate_text (intermediate_spec generation) (expiry_text (expiry_of generation))
 
 abbrev pub root : ℕ → ℕ → List ℕ
-root serial generation = certificate_text (root_spec serial generation) (expiry_text generation)
+root serial generation = certificate_text (root_spec serial generation) (expiry_text (expiry_of generation))
 
 -- ---- items
 

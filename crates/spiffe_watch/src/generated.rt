@@ -1,8 +1,8 @@
 //! Generated sessions: streams of updates of any length, the same for the same seed.
 
 ghost use Rattle.std.specs.Prelude.{◌≡◌, ℕ, ◌+◌, ◌<◌, ◌++◌, ◌%◌, [], IfOk, OnOk, OnErr, pos};
-ghost use Rattle.spiffe_watch.specs.MadeSession.{bundle_of, client_frames, entries as entries_of, expiry_text, first_key as first_key_of, frames_by, generation_by, identity as identity_of, item as item_of, item_frame, leaf_spec, made_session, ordered, root_spec, intermediate_spec};
-ghost use Rattle.spiffe_watch.specs.GeneratedParts.{AreParts, Yields, IsWorkload};
+ghost use Rattle.spiffe_watch.specs.MadeSession.{bundle_of, client_frames, entries as entries_of, first_key as first_key_of, frames_by, generation_by, identity as identity_of, item as item_of, item_frame, leaf_spec, made_session, ordered, root_spec, intermediate_spec};
+ghost use Rattle.spiffe_watch.specs.GeneratedParts.{AreParts, IsExpiry, Yields, IsWorkload};
 ghost use Rattle.spiffe_watch.specs.declared.generated.Variant.TheVariants as variants;
 ghost use Rattle.spiffe_watch.specs.Template.{IsTemplate, dated};
 
@@ -153,7 +153,7 @@ fn digit(number: u32) -> u8
 
 /// The expiry of a generation as a UTCTime; all generations expire on one day.
 fn expiry_octets(generation: u16) -> [u8; 15]
-    ensures { result ≡ expiry_text generation }
+    ensures { IsExpiry generation result }
 {
     let second = FIRST_SECOND + u32::from(generation);
     let (hour, minute, second) = (second / 3600, second / 60 % 60, second % 60);
@@ -192,13 +192,14 @@ fn pair(
 }
 
 /// The bundle of an item.
+#[tactic(auto, using(crate::proofs::GeneratedLemmas::dated_root))]
 fn bundle(
     alloc: Global,
     parts: &Parts,
     variant: Variant,
     expiry: &[u8],
 ) -> Result<Bytes, OutOfMemory>
-    ensures { AreParts parts.now → (generation : ℕ) → expiry.now ≡ expiry_text generation → IfOk result (λ b. b ≡ bundle_of variant generation) }
+    ensures { AreParts parts.now → (generation : ℕ) → IsExpiry generation expiry.now → IfOk result (λ b. b ≡ bundle_of variant generation) }
 {
     match variant {
         Variant::Reordered => pair(alloc, &parts.root_b, &parts.root_a, expiry),
@@ -265,7 +266,7 @@ fn entries(
     variant: Variant,
     expiry: &[u8],
 ) -> Result<Vec<SvidEntry>, OutOfMemory>
-    ensures { AreParts parts.now → (generation : ℕ) → expiry.now ≡ expiry_text generation → IfOk result (λ v. v.items ≡ entries_of variant generation) }
+    ensures { AreParts parts.now → (generation : ℕ) → IsExpiry generation expiry.now → IfOk result (λ v. v.items ≡ entries_of variant generation) }
 {
     let bundle = bundle(alloc, parts, variant, expiry)?;
     let bundle = bundle.as_slice();
@@ -299,6 +300,7 @@ fn entries(
     in_order(alloc, variant, first, second, third)
 }
 
+#[tactic(auto, using(crate::proofs::GeneratedLemmas::dated_root))]
 fn item(
     alloc: Global,
     parts: &Parts,

@@ -2,6 +2,7 @@ use Rattle.std.proofs.Common.{◌≡◌, ◌∙◌, ap, sym, ◌++◌, List, ℕ
 use Rattle.std.proofs.lemmas.Result.{err_from_is_err_and}
 use Rattle.spiffe_watch.specs.Causes.{is_output_failure}
 use Rattle.spiffe_watch.specs.Headline.{IsSummary}
+use Rattle.spiffe_watch.specs.Summary.{summary_line}
 use Rattle.spiffe_watch.proofs.PutLemmas.{puts_as, puts_err}
 use Rattle.spiffe_watch.proofs.Summed.{summed_by}
 use Rattle.spiffe_watch.proofs.bench.bench.Goals as goal
@@ -22,5 +23,6 @@ returns-clause-text g c =
     let summary =
     summed_by arguments left left' held after.sink.held c.default_limits.result c.in-Ok.events c.revision.result c.withdrawn.result
     c.in_ok-source.ensures.left c.new-tally.ensures.held c.default_limits.ensures c.in-Ok.ensures.followed c.revision.ensures c.withdrawn.ensures in
-    let text = c.as_bytes.ensures.value ∙ c.in_ok-line.ensures in
-    puts_as (λ t. t ≡ c.as_bytes.result.now) (IsSummary arguments) _ _ c.put.result (λ t is. subst (IsSummary arguments) (sym (is ∙ text)) summary) c.put.ensures.text
+    let said : List ℕ = summary_line c.in-Ok.events c.revision.result c.withdrawn.result in
+    let text : c.as_bytes.result.now ≡ said = c.as_bytes.ensures.value ∙ c.in_ok-line.ensures in
+    puts_as (λ t. t ≡ c.as_bytes.result.now) (IsSummary arguments) _ _ c.put.result (λ t is. subst (IsSummary arguments) (sym (◌∙◌ {c = said} is text)) summary) c.put.ensures.text
