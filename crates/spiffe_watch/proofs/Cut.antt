@@ -97,7 +97,7 @@ certificate_cut spec time size =
     ∙ ap (λ (l : List ℕ). outer (suc (length (length_octets (tbs_size spec)) + tbs_size spec) + 10) ++ l) inner
     ∙ regroup_end (outer (suc (length (length_octets (tbs_size spec)) + tbs_size spec) + 10)) head (tbs_before spec) time (tbs_after spec) algorithm_text no_bits
 
--- the octets before the offset, and those behind so many more, of a certificate that expires first
+-- the octets before the notAfter, and those after it, of a certificate of the first generation
 pub template_cut : (spec : CertSpec) (text : List ℕ) (offset : ℕ) → IsCertificateOf spec text → spec.expiry ≡ pos 2000000000 → offset ≡ length (before spec)
     → (min offset (length text) ≡ offset) × (take offset text ≡ before spec) × (min 15 (length (drop offset text)) ≡ 15) × (drop 15 (drop offset text) ≡ after spec)
 template_cut spec text offset is expires at =
@@ -109,6 +109,6 @@ template_cut spec text offset is expires at =
     let front : take offset text ≡ before spec = ap (take offset) cut ∙ ap (λ (n : ℕ). take n (before spec ++ (is.time ++ after spec))) at ∙ take-append_seam (before spec) (is.time ++ after spec) in
     let rest : drop offset text ≡ is.time ++ after spec = ap (drop offset) cut ∙ ap (λ (n : ℕ). drop n (before spec ++ (is.time ++ after spec))) at ∙ drop-append_seam (before spec) (is.time ++ after spec) in
     let room : length (drop offset text) ≡ 15 + length (after spec) = ap length rest ∙ length-append is.time (after spec) ∙ ap (λ (n : ℕ). n + length (after spec)) size in
-    let behind : drop 15 (drop offset text) ≡ after spec =
+    let tail : drop 15 (drop offset text) ≡ after spec =
     ap (drop 15) rest ∙ ap (λ (n : ℕ). drop n (is.time ++ after spec)) (sym size) ∙ drop-append_seam is.time (after spec) in
-    (omega (arith, at, long), front, omega (arith, room), behind)
+    (omega (arith, at, long), front, omega (arith, room), tail)

@@ -1,4 +1,4 @@
--- Status 1 comes exactly with bad words.
+-- Status 1 comes exactly with bad arguments.
 use Rattle.std.proofs.Common.{◌≡◌, ◌∙◌, refl, true, false, Option, None, Some, Result, Ok, Err, arith}
 use Rattle.std.specs.Prelude.{◌↔◌, IfErr}
 use Rattle.spiffe_watch.specs.declared.exit_reason.ExitReason.{ExitReason}
@@ -18,7 +18,7 @@ bad_arguments_status reasons.TimedOut h = absurd (omega (arith, h))
 bad_arguments_status reasons.Closed h = absurd (omega (arith, h))
 bad_arguments_status reasons.NeverSynced h = absurd (omega (arith, h))
 
--- an ending of words that are those of the program
+-- an end of a run whose arguments are those of the program
 pub arguments_good : {A : Type 0} (r : Result (Unit {0}) ExitReason) (o : Option A) (x : A) → IfErr r (λ f. is_bad_arguments f ≡ false) → Some x ≡ o → (r ≡ Err reasons.BadArguments) ↔ (o ≡ None)
 arguments_good r o x h e = (λ w. absurd (bad (rw w at h)), λ n. absurd (none (e ∙ n)))
   where
@@ -28,7 +28,7 @@ arguments_good r o x h e = (λ w. absurd (bad (rw w at h)), λ n. absurd (none (
     none : Some x ≡ None → ⊥
     none g = cc
 
--- an ending that is no more than a fault of the sink
+-- an end by a failure of the output, or out of memory
 pub no_bad_arguments : (r : Result (Unit {0}) ExitReason) → IfErr r (λ f. is_output_failure f ≡ true) → IfErr r (λ f. is_bad_arguments f ≡ false)
 no_bad_arguments (Ok done) h = tt
 no_bad_arguments (Err reasons.BadArguments) h = absurd cc

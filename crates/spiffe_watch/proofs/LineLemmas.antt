@@ -64,7 +64,7 @@ decimal_read n small = rw (decimal_numeral n small, (decimal_is_IsNumeral n smal
 
 -- ---- lines
 
--- a number in front of other words
+-- a number before other words
 pub front_passed : (n : ℕ) (rest : List ℕ) → n < 2 ^ 64 → after_word (decimal n ++ 32 ∷ rest) ≡ rest
 front_passed n rest small = after_word_cut (decimal n) rest (decimal_avoids n small)
 

@@ -6,7 +6,7 @@ use Rattle.spiffe_watch.specs.declared.exit_reason.ExitReason.{ExitReason}
 use Rattle.spiffe_watch.specs.Causes.{is_output_failure}
 use Rattle.spiffe_watch.specs.Headline.{Puts}
 
--- a run that ended with a fault of its sink, or without memory
+-- a run that ended by a failure of its output, or out of memory
 pub puts_err : (IsText : List ℕ → Type 0) (held held' : Option (List ℕ)) (r : Result (Unit {0}) ExitReason) (x : ExitReason) → r ≡ Err x → is_output_failure x ≡ true → Puts IsText held held' r
 puts_err IsText held held' r x is fault = subst (Puts IsText held held') (sym is) (record { text = λ ok. absurd cc; failure = fault })
 

@@ -1,4 +1,4 @@
--- The revision behind an event after which nothing is visible.
+-- The revision after an event after which nothing is visible.
 use Rattle.std.proofs.Common.{◌≡◌, refl, Bool, true, false, ◌||◌, List, [], ◌∷◌, Option, None, Some, is_some}
 use Rattle.std.specs.Option.{option_map_or}
 use Rattle.spf_view.specs.Views.{Subject, Accepted, Waiting, brings, has_synced, last_moment, denied_or_passed, outcomes, last_accepted, first_denial, view_from, view_of, revision_of}

@@ -1,4 +1,4 @@
--- The words at named texts.
+-- The arguments at named texts.
 use Rattle.std.proofs.Common.{◌≡◌, refl, [], ◌∷◌, None, Some}
 use Rattle.std.specs.Prelude.{codes}
 use Rattle.spf_feed.specs.declared.ready.Ready.TheVariants as readiness

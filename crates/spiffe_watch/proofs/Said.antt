@@ -13,9 +13,9 @@ take_front (suc n) [] b = (0, refl)
 take_front (suc n) (x ∷ a) b = let front = take_front n a b in (suc front.0, ap (λ (l : List ℕ). x ∷ l) front.1)
 
 -- the first piece, and then a prefix of the second
-take_behind : (n : ℕ) (a b : List ℕ) → (m : ℕ) × (take m (a ++ b) ≡ a ++ take n b)
-take_behind n [] b = (n, refl)
-take_behind n (x ∷ a) b = let behind = take_behind n a b in (suc behind.0, ap (λ (l : List ℕ). x ∷ l) behind.1)
+take_second : (n : ℕ) (a b : List ℕ) → (m : ℕ) × (take m (a ++ b) ≡ a ++ take n b)
+take_second n [] b = (n, refl)
+take_second n (x ∷ a) b = let tail = take_second n a b in (suc tail.0, ap (λ (l : List ℕ). x ∷ l) tail.1)
 
 -- the first of two pieces could not be put
 pub put_first : {T E : Type 0} (old new : Option (List ℕ)) (r : Result T E) (e : E) (a b : List ℕ) → r ≡ Err e → (n : ℕ) × Appends old new (take n a) → PutAppends old new r (a ++ b)
@@ -27,7 +27,7 @@ put_first old new r e a b is h =
 pub put_second : {T E : Type 0} (old mid new : Option (List ℕ)) (r : Result T E) (a b : List ℕ) → Appends old mid a → PutAppends mid new r b → PutAppends old new r (a ++ b)
 put_second old mid new (Ok done) a b f h = Appends-trans old mid new a b f h
 put_second old mid new (Err e) a b f h =
-    let g = take_behind h.0 a b in
+    let g = take_second h.0 a b in
     (g.0, subst (Appends old new) (sym g.1) (Appends-trans old mid new a (take h.0 b) f h.1))
 
 -- a text that was put, or a prefix of it where the sink failed

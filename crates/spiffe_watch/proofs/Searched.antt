@@ -9,9 +9,9 @@ use Rattle.spiffe_watch.specs.Tallied.{first_word, after_word}
 abbrev pub Avoids : ℕ → List ℕ → Type 0
 Avoids b l = (k : ℕ) → k < length l → get_or l k 0 ≢ b
 
--- Text up to an octet, and behind it.
-pub record Cut (b : ℕ) (l front behind : List ℕ) : Type 0 where
-  pub text : l ≡ front ++ b ∷ behind
+-- Text up to an octet, and after it.
+pub record Cut (b : ℕ) (l front tail : List ℕ) : Type 0 where
+  pub text : l ≡ front ++ b ∷ tail
   pub avoids : Avoids b front
 
 -- a search that finds nothing
@@ -48,25 +48,25 @@ pub first_word_alone : (w : List ℕ) → Avoids 32 w → first_word w ≡ w
 first_word_alone [] avoids = refl
 first_word_alone (c ∷ cs) avoids = rw (avoids_head 32 c cs avoids) (ap (λ l. c ∷ l) (first_word_alone cs (avoids_tail 32 c cs avoids)))
 
--- nothing stands behind one word
+-- nothing follows one word
 pub after_word_alone : (w : List ℕ) → Avoids 32 w → after_word w ≡ []
 after_word_alone [] avoids = refl
 after_word_alone (c ∷ cs) avoids = rw (avoids_head 32 c cs avoids) (after_word_alone cs (avoids_tail 32 c cs avoids))
 
--- a word with others behind it
+-- a word with others after it
 pub first_word_cut : (w rest : List ℕ) → Avoids 32 w → first_word (w ++ 32 ∷ rest) ≡ w
 first_word_cut [] rest avoids = refl
 first_word_cut (c ∷ cs) rest avoids = rw (avoids_head 32 c cs avoids) (ap (λ l. c ∷ l) (first_word_cut cs rest (avoids_tail 32 c cs avoids)))
 
--- the others stand behind it
+-- the others follow it
 pub after_word_cut : (w rest : List ℕ) → Avoids 32 w → after_word (w ++ 32 ∷ rest) ≡ rest
 after_word_cut [] rest avoids = refl
 after_word_cut (c ∷ cs) rest avoids = rw (avoids_head 32 c cs avoids) (after_word_cut cs rest (avoids_tail 32 c cs avoids))
 
 -- the words of a line that is cut at its first space
-pub first_word_of : (l front behind : List ℕ) → Cut 32 l front behind → first_word l ≡ front
-first_word_of l front behind cut = ap first_word cut.text ∙ first_word_cut front behind cut.avoids
+pub first_word_of : (l front tail : List ℕ) → Cut 32 l front tail → first_word l ≡ front
+first_word_of l front tail cut = ap first_word cut.text ∙ first_word_cut front tail cut.avoids
 
--- what stands behind the first word of such a line
-pub after_word_of : (l front behind : List ℕ) → Cut 32 l front behind → after_word l ≡ behind
-after_word_of l front behind cut = ap after_word cut.text ∙ after_word_cut front behind cut.avoids
+-- what follows the first word of such a line
+pub after_word_of : (l front tail : List ℕ) → Cut 32 l front tail → after_word l ≡ tail
+after_word_of l front tail cut = ap after_word cut.text ∙ after_word_cut front tail cut.avoids

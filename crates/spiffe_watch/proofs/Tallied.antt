@@ -1,4 +1,4 @@
--- What a tally of the lines of a session says: the revision behind its events, and how many leave the view withdrawn.
+-- What a tally of the lines of a session says: the revision after its events, and how many leave the view withdrawn.
 use Rattle.std.proofs.Common.{◌≡◌, refl, sym, ap, subst, ◌∙◌, ℕ, ◌+◌, ◌-◌, ◌^◌, ◌<◌, Bool, true, false, if◌then◌else◌, ℤ, List, [], ◌∷◌, ◌++◌, length, reverse, Option, decimal, codes, append_assoc, arith}
 use Rattle.std.proofs.lemmas.List.{append-nil, append_cancel_right, reverse-append}
 use Rattle.spf_view.specs.Views.{View, Waiting, Withdrawn, Permitted, last_moment, outcomes, view_of, revision_of, revision_after}
@@ -20,7 +20,7 @@ use Rattle.spiffe_watch.proofs.RevisionShown.{revision_unseen}
 
 -- ---- one line
 
--- what stands behind the number of an event, without the line feed
+-- what follows the number of an event, without the line feed
 abbrev words_of : View Material Denial → ℕ → Option ℤ → List ℕ
 words_of Waiting revision now = codes "waiting"
 words_of (Withdrawn reason) revision now = decimal revision ++ visible_text (Withdrawn reason) now
@@ -57,9 +57,9 @@ line_taken text words revision withdrawn line is =
 
 -- ---- all lines
 
--- the revision behind a history
-abbrev pub revision_behind : Rules → List Event → ℕ
-revision_behind rules past = revision_of same_material (outcomes (subject rules) past)
+-- the revision after a history
+abbrev pub revision_after_history : Rules → List Event → ℕ
+revision_after_history rules past = revision_of same_material (outcomes (subject rules) past)
 
 -- a count below the end of its type is raised
 counted_below : (b : Bool) (n : ℕ) → n < 2 ^ 64 - 1 → counted b n ≡ n + (if b then 1 else 0)
@@ -71,43 +71,43 @@ counted_within : (b : Bool) (n m k : ℕ) → n < 2 ^ 64 - 1 → n + (1 + k) < m
 counted_within true n m k small room = omega arith
 counted_within false n m k small room = omega arith
 
--- a tally behind a history takes the lines of further events
+-- a tally after a history takes the lines of further events
 pub lines_taken : (rules : Rules) → ((past : List Event) (e : Event) → IsLine ((outputs rules).line past e)) → (past es : List Event) (withdrawn : ℕ)
     → length past + length es < 2 ^ 64 - 1 → withdrawn + length es < 2 ^ 64 - 1
-    → tally_from (record { revision = revision_behind rules past; withdrawn = withdrawn; unfinished = [] }) (lines_of rules past es)
-    ≡ record { revision = revision_behind rules (reverse es ++ past); withdrawn = withdrawn + withdrawn_of rules past es; unfinished = [] }
+    → tally_from (record { revision = revision_after_history rules past; withdrawn = withdrawn; unfinished = [] }) (lines_of rules past es)
+    ≡ record { revision = revision_after_history rules (reverse es ++ past); withdrawn = withdrawn + withdrawn_of rules past es; unfinished = [] }
 lines_taken rules plain past [] withdrawn short room =
-    tally_nothing (record { revision = revision_behind rules past; withdrawn = withdrawn; unfinished = [] })
-    ∙ ap (λ (n : ℕ). record { revision = revision_behind rules past; withdrawn = n; unfinished = [] }) {x = withdrawn} {y = withdrawn + 0} (omega arith)
+    tally_nothing (record { revision = revision_after_history rules past; withdrawn = withdrawn; unfinished = [] })
+    ∙ ap (λ (n : ℕ). record { revision = revision_after_history rules past; withdrawn = n; unfinished = [] }) {x = withdrawn} {y = withdrawn + 0} (omega arith)
 lines_taken rules plain past (e ∷ es) withdrawn short room =
     let s = subject rules in
     let view = view_of (outcomes s (e ∷ past)) in
     let now = last_moment s (e ∷ past) in
     let n = length past + 1 in
-    let revision = revision_behind rules (e ∷ past) in
-    let start : Tallied = record { revision = revision_behind rules past; withdrawn = withdrawn; unfinished = [] } in
+    let revision = revision_after_history rules (e ∷ past) in
+    let start : Tallied = record { revision = revision_after_history rules past; withdrawn = withdrawn; unfinished = [] } in
     let line = (outputs rules).line past e in
     let words = decimal n ++ 32 ∷ words_of view revision now in
     let small : n < 2 ^ 64 = omega arith in
     let fits : revision < 2 ^ 64 = omega arith in
-    let shown : revision_in (revision_behind rules past) words ≡ revision = revision_said view (revision_behind rules past) n revision now small fits (revision_unseen s same_material past e) in
+    let shown : revision_in (revision_after_history rules past) words ≡ revision = revision_said view (revision_after_history rules past) n revision now small fits (revision_unseen s same_material past e) in
     let count : withdrawn_in withdrawn words ≡ counted (is_withdrawn view) withdrawn = withdrawn_said view withdrawn n revision now small fits in
     let sum : counted (is_withdrawn view) withdrawn + withdrawn_of rules (e ∷ past) es ≡ withdrawn + withdrawn_of rules past (e ∷ es) =
     omega (arith, counted_below (is_withdrawn view) withdrawn (omega arith)) in
-    let behind : reverse es ++ (e ∷ past) ≡ reverse (e ∷ es) ++ past = sym (append_assoc (reverse es) (e ∷ []) past) ∙ ap (λ (l : List Event). l ++ past) (sym (reverse-append (e ∷ []) es)) in
+    let tail : reverse es ++ (e ∷ past) ≡ reverse (e ∷ es) ++ past = sym (append_assoc (reverse es) (e ∷ []) past) ∙ ap (λ (l : List Event). l ++ past) (sym (reverse-append (e ∷ []) es)) in
     tally_append start line (lines_of rules (e ∷ past) es)
-    ∙ ap (λ (t : Tallied). tally_from t (lines_of rules (e ∷ past) es)) (line_taken line words (revision_behind rules past) withdrawn (plain past e) (line_is (decimal n) view revision now)
+    ∙ ap (λ (t : Tallied). tally_from t (lines_of rules (e ∷ past) es)) (line_taken line words (revision_after_history rules past) withdrawn (plain past e) (line_is (decimal n) view revision now)
     ∙ (λ i. record { revision = shown i; withdrawn = count i; unfinished = [] }))
     ∙ lines_taken rules plain (e ∷ past) es (counted (is_withdrawn view) withdrawn) (omega arith) (counted_within (is_withdrawn view) withdrawn (2 ^ 64 - 1) (length es) (omega arith) (omega arith))
-    ∙ (λ i. record { revision = revision_behind rules (behind i); withdrawn = sum i; unfinished = [] })
+    ∙ (λ i. record { revision = revision_after_history rules (tail i); withdrawn = sum i; unfinished = [] })
 
--- The tally of a session: where each line is one line, its last revision is the one behind all events, and its count is
+-- The tally of a session: where each line is one line, its last revision is the one after all events, and its count is
 -- how many of them leave the view withdrawn.
 pub tally_of_lines : (rules : Rules) (es : List Event) → length es < 2 ^ 64 - 1 → ((past : List Event) (e : Event) → IsLine ((outputs rules).line past e))
     → tally_of (lines_of rules [] es) ≡ record { revision = revision_after (subject rules) es; withdrawn = withdrawn_of rules [] es; unfinished = [] }
 tally_of_lines rules es short plain =
     lines_taken rules plain [] es 0 (omega arith) (omega arith)
-    ∙ (λ i. record { revision = revision_behind rules (append-nil (reverse es) i); withdrawn = zero_add i; unfinished = [] })
+    ∙ (λ i. record { revision = revision_after_history rules (append-nil (reverse es) i); withdrawn = zero_add i; unfinished = [] })
   where
     zero_add : 0 + withdrawn_of rules [] es ≡ withdrawn_of rules [] es
     zero_add = omega arith

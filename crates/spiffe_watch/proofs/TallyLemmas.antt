@@ -64,11 +64,11 @@ nothing_kept [] n is zero = refl
 nothing_kept (c ∷ cs) n is zero = absurd (let no : n ≡ 0 = eqb-true n 0 (sym zero) in omega arith)
 
 -- the revision of a line whose second word is found
-pub revision_found : (before : ℕ) (line behind word : List ℕ) (number : Option ℕ) (after : ℕ) → behind ≡ after_word line → word ≡ first_word behind → number ≡ number_up_to (2 ^ 64 - 1) word
+pub revision_found : (before : ℕ) (line tail word : List ℕ) (number : Option ℕ) (after : ℕ) → tail ≡ after_word line → word ≡ first_word tail → number ≡ number_up_to (2 ^ 64 - 1) word
     → after ≡ unwrap_or number before → after ≡ revision_in before line
 unfolding revision_in
-revision_found before line behind word number after behind_is word_is number_is after_is =
-    after_is ∙ either number ∙ ap (λ (o : Option ℕ). option_map_or (λ n. n) o before) (number_is ∙ ap (number_up_to (2 ^ 64 - 1)) (word_is ∙ ap first_word behind_is))
+revision_found before line tail word number after tail_is word_is number_is after_is =
+    after_is ∙ either number ∙ ap (λ (o : Option ℕ). option_map_or (λ n. n) o before) (number_is ∙ ap (number_up_to (2 ^ 64 - 1)) (word_is ∙ ap first_word tail_is))
   where
     either : (o : Option ℕ) → unwrap_or o before ≡ option_map_or (λ n. n) o before
     either None = refl
@@ -78,9 +78,9 @@ revision_found before line behind word number after behind_is word_is number_is 
 abbrev pub counted : Bool → ℕ → ℕ
 counted b before = if b then min (before + 1) (2 ^ 64 - 1) else before
 
--- the count behind a line whose third word is found
-pub withdrawn_found : (before : ℕ) (line behind further word : List ℕ) (b : Bool) (after : ℕ) → behind ≡ after_word line → further ≡ after_word behind → word ≡ first_word further → bytes_eq word (codes "withdrawn") ≡ b
+-- the count after a line whose third word is found
+pub withdrawn_found : (before : ℕ) (line tail further word : List ℕ) (b : Bool) (after : ℕ) → tail ≡ after_word line → further ≡ after_word tail → word ≡ first_word further → bytes_eq word (codes "withdrawn") ≡ b
     → after ≡ counted b before → after ≡ withdrawn_in before line
 unfolding withdrawn_in
-withdrawn_found before line behind further word b after behind_is further_is word_is same after_is =
-    after_is ∙ ap (λ t. counted t before) (sym same ∙ ap (λ w. bytes_eq w (codes "withdrawn")) (word_is ∙ ap first_word (further_is ∙ ap after_word behind_is)))
+withdrawn_found before line tail further word b after tail_is further_is word_is same after_is =
+    after_is ∙ ap (λ t. counted t before) (sym same ∙ ap (λ w. bytes_eq w (codes "withdrawn")) (word_is ∙ ap first_word (further_is ∙ ap after_word tail_is)))

@@ -49,7 +49,7 @@ abbrev pub number_text : Option ℕ → List ℕ
 number_text None = []
 number_text (Some number) = decimal number ++ 10 ∷ []
 
--- A line is put; where the error output failed, a beginning of it.
+-- A line is put; where the error output failed, a prefix of it.
 pub record IsReported (before after : Side) (line : List ℕ) : Type 0 where
   pub count : ℕ
   pub put : Appends before.bytes after.bytes (take count line)

@@ -422,7 +422,7 @@ fn check(rt: &(impl Abort + AllocGlobal), row: &Row, source: MemSource) -> Resul
     Ok(())
 }
 
-/// Each row, read as it stands and octet by octet.
+/// Each row, read as it stands and byte by byte.
 #[test]
 fn rows(rt: HostRuntime) -> Result<(), Fail> {
     let alloc = rt.alloc();
@@ -437,7 +437,7 @@ fn rows(rt: HostRuntime) -> Result<(), Fail> {
     Ok(())
 }
 
-/// How many whole frames the octets begin with.
+/// How many whole frames there are at the start of `octets`.
 fn whole_frames(octets: &[u8]) -> usize {
     let mut frames: usize = 0;
     let mut rest = octets;
@@ -462,7 +462,7 @@ fn first_lines(alloc: Global, text: &str, count: usize) -> Result<String, Fail> 
     Ok(lines)
 }
 
-/// Row failing-io: the octets of row first-session one by one, where each read in turn fails. The lines of the frames that
+/// Row failing-io: the bytes of row first-session one by one, where each read in turn fails. The lines of the frames that
 /// were whole stand.
 #[test]
 fn failing_reads(rt: HostRuntime) -> Result<(), Fail> {
@@ -513,7 +513,7 @@ fn failing_puts(rt: HostRuntime) -> Result<(), Fail> {
     Ok(())
 }
 
-/// After a bad kind nothing is read: the failing read behind it is not reached.
+/// After a bad kind nothing is read: the failing read after it is not reached.
 #[test]
 fn bad_kind_before_a_failing_read(rt: HostRuntime) -> Result<(), Fail> {
     let alloc = rt.alloc();
