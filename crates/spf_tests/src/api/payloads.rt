@@ -59,7 +59,11 @@ fn first_is_read_back(alloc: Global) -> Result<bool, Fail> {
 
 /// The octets of an item's frame after its kind and its length.
 fn item_payload(alloc: Global, item: &str) -> Result<Vec<u8>, Fail> {
-    Ok(octets(alloc, item)?.split_off(5)?)
+    let frame = octets(alloc, item)?;
+    match frame.as_slice() {
+        [_, _, _, _, _, payload @ ..] => Ok(payload.to_vec(alloc)?),
+        _ => Ok(Vec::new(alloc)),
+    }
 }
 
 #[test]
