@@ -9,6 +9,7 @@ use Rattle.spf_api.specs.declared.response.SvidEntry.{SvidEntry}
 use Rattle.spf_api.specs.declared.response.ContextResponse.{ContextResponse}
 use Rattle.spf_api.specs.Layout.{field_text, context_payload}
 use Rattle.spf_view.specs.Frames.{raw_text}
+use Rattle.spf_feed.specs.declared.frame_kind.TheConstants.{CLIENT_MADE, CONNECTED, ITEM, ITEM_STATUS, STREAM_END, MOMENT, CLOSE}
 use Rattle.spiffe_watch.specs.declared.generated.Variant.{Variant}
 use Rattle.spiffe_watch.specs.declared.generated.Variant.TheVariants as variants
 use Rattle.spiffe_watch.specs.declared.arguments.MakeArguments.{MakeArguments}
@@ -95,24 +96,24 @@ item variant generation = record {
 -- ---- frames
 
 abbrev pub moment_frame : List ℕ
-moment_frame = raw_text 8 (to_be_bytes w64 1000)
+moment_frame = raw_text MOMENT (to_be_bytes w64 1000)
 
 -- a client is made and connected
 abbrev pub client_frames : List ℕ
-client_frames = raw_text 1 [] ++ raw_text 3 []
+client_frames = raw_text CLIENT_MADE [] ++ raw_text CONNECTED []
 
 unfoldable pub item_frame : Variant → ℕ → List ℕ
-item_frame variant generation = raw_text 5 (context_payload (item variant generation))
+item_frame variant generation = raw_text ITEM (context_payload (item variant generation))
 
 -- the status 7, `no`
 abbrev pub denial_frame : List ℕ
-denial_frame = raw_text 6 (7 ∷ field_text (codes "no"))
+denial_frame = raw_text ITEM_STATUS (7 ∷ field_text (codes "no"))
 
 abbrev pub end_frame : List ℕ
-end_frame = raw_text 7 []
+end_frame = raw_text STREAM_END []
 
 abbrev pub close_frame : List ℕ
-close_frame = raw_text 9 []
+close_frame = raw_text CLOSE []
 
 -- ---- operations
 

@@ -1,6 +1,7 @@
 -- What the arguments of a session of X.509 updates set.
-use Rattle.std.specs.Prelude.{ℕ, ℤ, List, Option, None, Some}
+use Rattle.std.specs.Prelude.{ℕ, ℤ, List, Option, None}
 use Rattle.spf_feed.specs.declared.limits.ResourceLimits.{ResourceLimits}
+use Rattle.spf_feed.specs.Limits.{default_limits}
 use Rattle.spf_feed.specs.declared.ready.Ready.{Ready}
 use Rattle.spf_feed.specs.declared.ready.Ready.TheVariants as readiness
 
@@ -16,7 +17,7 @@ pub record Setting : Type 0 where
 -- the setting of a session without options
 abbrev pub default_setting : Setting
 default_setting = record {
-  limits = record { max_svids = Some 100; max_bundles = Some 200; max_bundle_der_bytes = Some 4194304; max_crl_bytes = Some 4194304 };
+  limits = default_limits;
   deadline = None;
   max_frames = 1000000;
   hint = None;

@@ -10,6 +10,7 @@ use crate::arguments::MakeArguments;
 use crate::template::Template;
 use spf_api::{BundleEntry, ContextResponse, Response, SvidEntry, write_payload};
 use spf_der::{CertSpec, KeyUsageBits, write_key};
+use spf_feed::frame_kind;
 use spf_io::{Bytes, List, OutOfMemory, Text};
 use std::alloc::Global;
 use std::marker::Model;
@@ -37,8 +38,6 @@ const DENIED: &[u8] = b"\x06\x00\x00\x00\x07\x07\x00\x00\x00\x02no";
 const STREAM_END: &[u8] = b"\x07\x00\x00\x00\x00";
 
 const CLOSE: &[u8] = b"\x09\x00\x00\x00\x00";
-
-const ITEM_KIND: u8 = 5;
 
 const BAD_KEY: &[u8] = b"\x00";
 
@@ -339,7 +338,7 @@ fn push_item(
     let Ok(length) = u32::try_from(payload.len()) else {
         return Err(OutOfMemory);
     };
-    frames.push(ITEM_KIND)?;
+    frames.push(frame_kind::ITEM)?;
     frames.extend_from_slice(&length.to_be_bytes())?;
     frames.extend_from_slice(payload.as_slice())?;
     Ok(())
