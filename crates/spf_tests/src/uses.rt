@@ -1,5 +1,8 @@
 //! The examples of spf_uses.
 
+ghost use Rattle.std.specs.Prelude.{IsTrue, IfOk};
+ghost use Rattle.spf_feed.specs.Steps.{plain, is_accept};
+
 use crate::fixtures::octets;
 use spf_feed::{Denial, Prepared, ResourceLimits, Step};
 use spf_id::TrustDomain;
@@ -66,7 +69,9 @@ fn authorities(rt: HostRuntime) -> Result<(), Fail> {
 }
 
 /// An accepted context without SVIDs.
-fn accepted(alloc: Global) -> Result<Step, Fail> {
+fn accepted(alloc: Global) -> Result<Step, Fail>
+    ensures { IfOk result (λ step. IsTrue (is_accept (plain step))) }
+{
     let context = X509Context::new(
         Vec::new(alloc),
         Arc::new(alloc, bundles(alloc)?)?,
