@@ -6,5 +6,7 @@ mod interceptor;
 mod metadata;
 
 pub use headers::Headers;
-pub use interceptor::{Interceptor, InterceptorFault, NoInterceptor};
+pub use interceptor::{
+    InterceptFunction, Interceptor, InterceptorFault, InterceptorFn, NoInterceptor,
+};
 pub use metadata::MetadataAdder;

@@ -1,27 +1,33 @@
 //! The headers of a request, and the one that each request of the Workload API carries.
 
+ghost use Rattle.spf_client.specs.Interceptor.{IsIntercepted};
+ghost use Rattle.spf_tests.specs.Client.{set_to_false_in};
+
 use spf_api::{GrpcStatusCode, GrpcStatusError, TransportError, WorkloadApiError};
-use spf_client::{Headers, Interceptor, InterceptorFault, MetadataAdder, NoInterceptor};
+use spf_client::{
+    Headers, InterceptFunction, Interceptor, InterceptorFault, InterceptorFn, MetadataAdder,
+    NoInterceptor,
+};
 use spf_io::Text;
 use std::alloc::Global;
 use std::test::Fail;
 
 /// Sets the header of the Workload API to `false`.
+fn set_to_false(headers: &mut Headers) -> Result<(), InterceptorFault>
+    ensures { IsIntercepted (set_to_false_in headers.old) headers.new result }
+{
+    match headers.set("workload.spiffe.io", "false") {
+        Ok(()) => Ok(()),
+        Err(_) => Err(InterceptorFault::OutOfMemory),
+    }
+}
+
+/// What `set_to_false` does.
 #[derive(Debug, Drop)]
 struct SetsFalse;
 
-impl Interceptor for SetsFalse {
-    ghost use Rattle.std.specs.Prelude.{None, codes};
-    ghost use Rattle.spf_client.specs.Headers.{with_header};
-
-    ghost intercepts = { λ _ headers. record { refusal = None; headers = with_header (codes "workload.spiffe.io") (codes "false") headers } };
-
-    fn call(&self, headers: &mut Headers) -> Result<(), InterceptorFault> {
-        match headers.set("workload.spiffe.io", "false") {
-            Ok(()) => Ok(()),
-            Err(_) => Err(InterceptorFault::OutOfMemory),
-        }
-    }
+impl InterceptFunction for SetsFalse {
+    ghost function = { set_to_false_in };
 }
 
 /// Refuses each request.
@@ -80,7 +86,10 @@ fn metadata_header(rt: HostRuntime) -> Result<(), Fail> {
     let alloc = rt.alloc();
     let mut headers = Headers::new(alloc);
     headers.set("x", "1")?;
-    assert_eq!(rt; MetadataAdder::new(SetsFalse).call(&mut headers), Ok(()));
+    let interceptor = InterceptorFn::<_, SetsFalse>::new(|headers: &mut Headers| set_to_false(
+        headers,
+    ));
+    assert_eq!(rt; MetadataAdder::new(interceptor).call(&mut headers), Ok(()));
     assert_eq!(rt;
         spelled(alloc, &headers)?.as_str(),
         "x=1 workload.spiffe.io=true "
