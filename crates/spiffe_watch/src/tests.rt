@@ -437,19 +437,26 @@ fn rows(rt: HostRuntime) -> Result<(), Fail> {
     Ok(())
 }
 
+/// What follows the frame at the start of `octets`, where that is whole.
+fn after_frame(octets: &[u8]) -> Option<&[u8]> {
+    match octets {
+        [_, a, b, c, d, payload @ ..] => {
+            payload.get(u32::from_be_bytes([*a, *b, *c, *d]) as usize..)
+        }
+        _ => None,
+    }
+}
+
 /// How many whole frames there are at the start of `octets`.
 fn whole_frames(octets: &[u8]) -> usize {
-    let mut frames: usize = 0;
     let mut rest = octets;
-    while let [_, a, b, c, d, payload @ ..] = rest {
-        let length = u32::from_be_bytes([*a, *b, *c, *d]) as usize;
-        if length > payload.len() {
-            break;
+    for frames in 0..octets.len() {
+        match after_frame(rest) {
+            Some(after) => rest = after,
+            None => return frames,
         }
-        frames = frames.saturating_add(1);
-        rest = &payload[length..];
     }
-    frames
+    octets.len()
 }
 
 /// The first lines of a text.
