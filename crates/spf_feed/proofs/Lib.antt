@@ -2,7 +2,7 @@ pub mod Alike
 pub mod Differences
 pub mod EqualLemmas
 pub mod EventLemmas
-pub mod FaultLemmas
+pub mod FailureLemmas
 pub mod Filled
 pub mod HandLemmas
 pub mod HexLemmas

@@ -10,7 +10,7 @@ use Rattle.spf_view.specs.Steps.{step_in, step_with}
 use Rattle.spf_view.specs.Standing.{Kept, is_change, shown_by, raised}
 use Rattle.spf_view.specs.Sessions.{Ports, Grows, Followed, Whole, OutOfMemory, WriteFault, Refused, NeverSynced}
 use Rattle.spf_view.specs.Keeping.{kept_with_any, IsAt}
-use Rattle.spf_view.proofs.FollowLemmas.{SoFar, OnlyRead, begins, IsNext, followed_end, followed_long, followed_bad, followed_fault, followed_no_frame, followed_refused, followed_stopped, followed_unput, followed_closed, goes_on, AddsAll}
+use Rattle.spf_view.proofs.FollowLemmas.{SoFar, OnlyRead, begins, IsNext, followed_end, followed_long, followed_bad, followed_failure, followed_no_frame, followed_refused, followed_stopped, followed_unput, followed_closed, goes_on, AddsAll}
 use Rattle.spf_view.proofs.SessionLemmas.{length-onto}
 use Rattle.spf_view.proofs.KeepingLemmas.{at_start, synced_at, moment_at, outcome_at, revision_at, view_at, waiting_at, at_more}
 use Rattle.spf_feed.specs.declared.follow_error.FollowError.{FollowError}
@@ -82,7 +82,7 @@ exit_unread rules max_frames old cur new count kept moment phase line errors.Too
 exit_unread rules max_frames old cur new count kept moment phase line errors.BadFrame at same h =
     followed_bad (stream rules) (outputs rules) max_frames old cur new at.past count h.1.0 at.so_far same (ltb-true count max_frames h.0) h.1.1 h.1.2.0 h.1.2.1 h.1.2.2
 exit_unread rules max_frames old cur new count kept moment phase line errors.ReadFault at same h =
-    followed_fault (stream rules) (outputs rules) max_frames old cur new at.past count h.0 at.so_far same h.1 h.2.0 h.2.1 h.2.2
+    followed_failure (stream rules) (outputs rules) max_frames old cur new at.past count h.0 at.so_far same h.1 h.2.0 h.2.1 h.2.2
 exit_unread rules max_frames old cur new count kept moment phase line errors.OutOfMemory at same h =
     followed_no_frame (stream rules) (outputs rules) max_frames old cur new at.past count h.1.0 at.so_far same (ltb-true count max_frames h.0) h.1.1 h.1.2
 

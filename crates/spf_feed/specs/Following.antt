@@ -38,18 +38,18 @@ answer_to ends.InitialSyncTimeout = answers.InitialSyncTimeout
 answer_to ends.Closed = answers.Closed
 
 -- whether an error is a fault of the source or the sink
-abbrev pub is_fault : FollowError → Bool
-is_fault answers.ReadFault = true
-is_fault answers.WriteFault = true
-is_fault _ = false
+abbrev pub is_failure : FollowError → Bool
+is_failure answers.ReadFault = true
+is_failure answers.WriteFault = true
+is_failure _ = false
 
 -- how many reads and writes failed so far
-pub record FaultCounts : Type 0 where
+pub record FailureCounts : Type 0 where
   pub reads : ℕ
   pub writes : ℕ
 
 -- the counts never fall, and a fault comes only where its count rose
-pub record HasFaults (old new : FaultCounts) (r : Result ℕ FollowError) : Type 0 where
+pub record FailuresHaveCauses (old new : FailureCounts) (r : Result ℕ FollowError) : Type 0 where
   pub reads_later : old.reads ≤ new.reads
   pub writes_later : old.writes ≤ new.writes
   pub read : r ≡ Err answers.ReadFault → Rose old.reads new.reads

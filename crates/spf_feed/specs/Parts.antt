@@ -35,6 +35,6 @@ abbrev pub PartPut : {X : Type 0} → (X → List ℕ) → (X → Type 0) → (L
 PartPut text Fits front old new r x = MatchResult r (λ _. Fits x × Consumes old new (text x)) (PartFails text Fits front old new)
 
 -- the count never falls, and `ReadFault` comes only where it rose
-pub record HasFault {T : Type 0} (before now : ℕ) (result : Result T FrameError) : Type 0 where
+pub record FailureHasCause {T : Type 0} (before now : ℕ) (result : Result T FrameError) : Type 0 where
   pub later : before ≤ now
   pub failed : IsErrOf result errors.ReadFault → Rose before now

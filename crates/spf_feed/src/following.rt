@@ -4,7 +4,7 @@ ghost use Rattle.std.specs.Prelude.{◌≡◌, ◌<◌, ◌-◌, ◌^◌, ◌∷
 ghost use Rattle.std.specs.Option.{ForSome, option_map, option_or};
 ghost use Rattle.spf_view.specs.Sessions.{Followed};
 ghost use Rattle.spf_view.specs.Keeping.{kept_with};
-ghost use Rattle.spf_feed.specs.Parts.{HasFault};
+ghost use Rattle.spf_feed.specs.Parts.{FailureHasCause};
 ghost use Rattle.spf_feed.specs.Records.{RecordAppends};
 ghost use Rattle.spf_feed.specs.Steps.{plain, is_accept, HasStep, MayFollow, same_material};
 ghost use Rattle.spf_feed.specs.Turns.{MayTake, listed};
@@ -13,7 +13,7 @@ ghost use Rattle.spf_feed.specs.declared.follow_error.FollowError.TheVariants as
 ghost use Rattle.spf_feed.specs.declared.frame.FrameError.TheVariants as errors;
 ghost use Rattle.spf_feed.specs.Received.{received_moment, received_close};
 ghost use Rattle.spf_feed.specs.Run.{ask_of, stream, outputs, end_for};
-ghost use Rattle.spf_feed.specs.Following.{is_fault, HasFaults, error_at as unread_error, OnlyAllowed, EventRead, HandsOn, IsShownAfter, IsTaken, change_of, is_changed, update_of, TurnTaken};
+ghost use Rattle.spf_feed.specs.Following.{is_failure, FailuresHaveCauses, error_at as unread_error, OnlyAllowed, EventRead, HandsOn, IsShownAfter, IsTaken, change_of, is_changed, update_of, TurnTaken};
 
 use crate::follow_error::FollowError;
 use crate::frame::{FrameError, next_frame};
@@ -50,7 +50,7 @@ fn next_event<S: Source>(
     allowed: bool,
     held: Option<&X509Context>,
 ) -> Result<Option<Received>, FrameError>
-    ensures cause { HasFault (S.faults source.old) (S.faults source.new) result }
+    ensures cause { FailureHasCause (S.failures source.old) (S.failures source.new) result }
     ensures allowed { OnlyAllowed allowed result }
     ensures bytes { (rules : Rules) (past : List SessionOf) → ask_of context_in rules past ≡ phase → EventRead rules past allowed (S.left source.old) (S.left source.new) result }
 {
@@ -254,7 +254,7 @@ fn take<P: Publisher, M: MetricsRecorder>(
     requires turn { MayTake limits (is_some snapshot.old) turn }
     requires synced { IsTrue (is_some snapshot.old) → HasStep (P.steps publisher.old) }
     ensures synced { OnOk result (IsTrue (is_some snapshot.new) → HasStep (P.steps publisher.new)) }
-    ensures calm { IfErr result (λ e. is_fault e ≡ false) }
+    ensures calm { IfErr result (λ e. is_failure e ≡ false) }
     ensures turn { TurnTaken limits turn
         (record { kept = snapshot.old; steps = P.steps publisher.old; records = M.records recorder.old })
         (record { kept = snapshot.new; steps = P.steps publisher.new; records = M.records recorder.new }) result }
@@ -284,7 +284,7 @@ fn take<P: Publisher, M: MetricsRecorder>(
 
 /// The result at the end of the input.
 fn at_end(snapshot: &Option<Snapshot>, count: u64) -> Result<u64, FollowError>
-    ensures calm { IfErr result (λ e. is_fault e ≡ false) }
+    ensures calm { IfErr result (λ e. is_failure e ≡ false) }
     ensures answer { result ≡ (if is_some snapshot.now then Ok count else Err answers.NeverSynced) }
 {
     match snapshot {
@@ -343,9 +343,9 @@ pub fn follow_x509<S: Source, K: Sink, P: Publisher, M: MetricsRecorder, C: Svid
         (end_for result) }
 
     // A fault comes only where its count rose.
-    ensures cause { HasFaults
-        (record { reads = S.faults source.old; writes = K.faults sink.old })
-        (record { reads = S.faults source.new; writes = K.faults sink.new }) result }
+    ensures cause { FailuresHaveCauses
+        (record { reads = S.failures source.old; writes = K.failures sink.old })
+        (record { reads = S.failures source.new; writes = K.failures sink.new }) result }
 {
     let rules = SessionRules {
         limits,

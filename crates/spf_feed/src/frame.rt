@@ -2,7 +2,7 @@
 
 ghost use Rattle.std.specs.Prelude.{◌≡◌, ◌≤◌, ◌^◌, take, length as list_len};
 ghost use Rattle.std.specs.Int.{w32, to_be_bytes, from_be_bytes};
-ghost use Rattle.spf_feed.specs.Parts.{PartRead, PartPut, HasFault};
+ghost use Rattle.spf_feed.specs.Parts.{PartRead, PartPut, FailureHasCause};
 ghost use Rattle.spf_feed.specs.Frames.{sized, sized_front, FitsFrame, KindRead, FrameRead, with_payload};
 
 use crate::phase::{Phase, may_stand};
@@ -71,7 +71,7 @@ pub(crate) fn number_of(octets: &[u8; 4]) -> u32
 /// One octet, or the end.
 fn read_kind<S: Source>(source: &mut S) -> Result<Option<u8>, FrameError>
     ensures bytes { KindRead (S.left source.old) (S.left source.new) result }
-    ensures cause { HasFault (S.faults source.old) (S.faults source.new) result }
+    ensures cause { FailureHasCause (S.failures source.old) (S.failures source.new) result }
 {
     let mut octet = [0; 1];
     match fill(source, &mut octet) {
@@ -84,7 +84,7 @@ fn read_kind<S: Source>(source: &mut S) -> Result<Option<u8>, FrameError>
 /// The four octets of a length.
 fn read_length<S: Source>(source: &mut S) -> Result<u32, FrameError>
     ensures bytes { PartRead (to_be_bytes w32) (λ n. n ≤ 2 ^ 24) sized_front (S.left source.old) (S.left source.new) result }
-    ensures cause { HasFault (S.faults source.old) (S.faults source.new) result }
+    ensures cause { FailureHasCause (S.failures source.old) (S.failures source.new) result }
 {
     let mut octets = [0; 4];
     match fill(source, &mut octets) {
@@ -109,7 +109,7 @@ fn read_octets<S: Source>(
     length: u32,
 ) -> Result<(), FrameError>
     ensures bytes { PartPut (λ p. p) (λ p. list_len p ≡ length) (take length) (S.left source.old) (S.left source.new) result payload.new.items }
-    ensures cause { HasFault (S.faults source.old) (S.faults source.new) result }
+    ensures cause { FailureHasCause (S.failures source.old) (S.failures source.new) result }
 {
     match payload.resize(length as usize, 0) {
         Ok(()) => {}
@@ -129,7 +129,7 @@ fn read_octets<S: Source>(
 /// Four octets of length, and the payload, in place of what the buffer held.
 fn read_sized<S: Source>(source: &mut S, payload: &mut Vec<u8>) -> Result<(), FrameError>
     ensures bytes { PartPut sized FitsFrame sized_front (S.left source.old) (S.left source.new) result payload.new.items }
-    ensures cause { HasFault (S.faults source.old) (S.faults source.new) result }
+    ensures cause { FailureHasCause (S.failures source.old) (S.failures source.new) result }
 {
     let length = read_length(source)?;
     read_octets(source, payload, length)?;
@@ -144,7 +144,7 @@ pub(crate) fn next_frame<S: Source>(
     allowed: bool,
 ) -> Result<Option<u8>, FrameError>
     ensures bytes { FrameRead phase allowed (S.left source.old) (S.left source.new) (with_payload result payload.new.items) }
-    ensures cause { HasFault (S.faults source.old) (S.faults source.new) result }
+    ensures cause { FailureHasCause (S.failures source.old) (S.failures source.new) result }
 {
     let Some(kind) = read_kind(source)? else {
         return Ok(None);
@@ -167,7 +167,7 @@ pub fn read_frame<S: Source>(
     allowed: bool,
 ) -> Result<Option<RawFrame>, FrameError>
     ensures bytes { FrameRead phase allowed (S.left source.old) (S.left source.new) result }
-    ensures cause { HasFault (S.faults source.old) (S.faults source.new) result }
+    ensures cause { FailureHasCause (S.failures source.old) (S.failures source.new) result }
 {
     let mut payload = Vec::new(alloc);
     match next_frame(source, &mut payload, phase, allowed) {

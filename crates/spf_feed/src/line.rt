@@ -366,7 +366,7 @@ impl NumberedLine {
         ensures bytes { PutAppends (K.held sink.old) (K.held sink.new) result (decimal number ++ self.old.text) }
         ensures text { self.new.text ≡ self.old.text }
         ensures choice { self.new.shows_choice ≡ self.old.shows_choice }
-        ensures cause { HasCause (K.faults sink.old) (K.faults sink.new) result }
+        ensures cause { HasCause (K.failures sink.old) (K.failures sink.new) result }
     {
         let start = itoa::write_digits(number, &mut self.octets, NUMBER_ROOM);
         sink.put(&self.octets[start..])

@@ -5,7 +5,7 @@ use Rattle.spf_io.specs.Rule.{each, many}
 
 -- four bytes, the cuts 1 and 0, and the third read failing
 source : ℕ → List ℕ → MemoryRead
-source reads left = record { left = left; cuts = 1 ∷ 0 ∷ []; failing = 3 ∷ []; reads = reads; faults = 0 }
+source reads left = record { left = left; cuts = 1 ∷ 0 ∷ []; failing = 3 ∷ []; reads = reads; failures = 0 }
 
 first_cut : given (source 0 (1 ∷ 2 ∷ 3 ∷ 4 ∷ [])) 8 ≡ 1
 unfolding source
@@ -37,7 +37,7 @@ at_the_end = refl
 
 -- room for three bytes, and the second put failing
 sink : ℕ → List ℕ → MemoryPut
-sink puts held = record { held = held; room = 3; failing = 2 ∷ []; puts = puts; faults = 0 }
+sink puts held = record { held = held; room = 3; failing = 2 ∷ []; puts = puts; failures = 0 }
 
 fits : is_refused (sink 0 []) 2 ≡ false
 unfolding sink

@@ -3,30 +3,30 @@ use Rattle.std.specs.Prelude.{ℕ, ◌+◌, ◌-◌, ◌^◌, min, max, List, le
 use Rattle.std.specs.List.{list_any}
 use Rattle.std.specs.Prelude.{slice_get}
 
--- a source: the bytes left, the cuts and the numbers of the reads that fail, and how many reads and faults there were
+-- a source: the bytes left, the cuts and the numbers of the reads that fail, and how many reads and failures there were
 pub record MemoryRead : Type 0 where
   pub left : List ℕ
   pub cuts : List ℕ
   pub failing : List ℕ
   pub reads : ℕ
-  pub faults : ℕ
+  pub failures : ℕ
 
--- a sink: the bytes that it holds, the room for them, the numbers of the puts that fail, and how many puts and faults there were
+-- a sink: the bytes that it holds, the room for them, the numbers of the puts that fail, and how many puts and failures there were
 pub record MemoryPut : Type 0 where
   pub held : List ℕ
   pub room : ℕ
   pub failing : List ℕ
   pub puts : ℕ
-  pub faults : ℕ
+  pub failures : ℕ
 
 -- the number of the next call, in a count of 64 bits that stops at its end
 abbrev pub next_number : ℕ → ℕ
 next_number n = min (n + 1) (2 ^ 64 - 1)
 
--- the count of faults after a call
-abbrev pub faults_after : {T E : Type 0} → Result T E → ℕ → ℕ
-faults_after (Ok _) faults = faults
-faults_after (Err _) faults = next_number faults
+-- the count of failures after a call
+abbrev pub failures_after : {T E : Type 0} → Result T E → ℕ → ℕ
+failures_after (Ok _) failures = failures
+failures_after (Err _) failures = next_number failures
 
 -- whether a call of this number is to fail
 abbrev pub is_failing : List ℕ → ℕ → Bool

@@ -1,4 +1,4 @@
--- What the outside gives and takes, where it tells, and what its count of faults says.
+-- What the outside gives and takes, where it tells, and what its count of failures says.
 use Rattle.std.specs.Prelude.{◌≡◌, ℕ, ◌-◌, ◌^◌, ◌<◌, ◌≤◌, ◌⊎◌, List, take, Option, Result, MatchResult, IsErr}
 use Rattle.std.specs.Io.KnownBytes.{Appends}
 

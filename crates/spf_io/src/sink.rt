@@ -1,7 +1,7 @@
 //! What bytes are put to.
 
 ghost use Rattle.std.specs.Prelude.{◌≡◌, ◌↔◌, ◌++◌, ℕ, List, Option, [], Some, IfOk, IsErr, IsTrue, OnErr, length};
-ghost use Rattle.spf_io.specs.Memory.{faults_after, is_refused, next_number};
+ghost use Rattle.spf_io.specs.Memory.{failures_after, is_refused, next_number};
 ghost use Rattle.spf_io.specs.Outside.{HasCause, PutAppends};
 
 use crate::memory::{Failed, OutOfMemory};
@@ -14,12 +14,12 @@ pub trait Sink {
     // The bytes that the sink holds, where they are known.
     ghost held: { Self → Option (List ℕ) };
     // How often the sink has failed.
-    ghost faults: { Self → ℕ };
+    ghost failures: { Self → ℕ };
 
     /// Appends the piece. A failed call may leave a prefix of it.
     fn put(&mut self, piece: &[u8]) -> Result<(), Failed>
         ensures bytes { PutAppends (held self.old) (held self.new) result piece.now }
-        ensures cause { HasCause (faults self.old) (faults self.new) result };
+        ensures cause { HasCause (failures self.old) (failures self.new) result };
 }
 
 /// A sink in memory with room for a number of bytes, whose puts fail where they are told to.
@@ -38,7 +38,7 @@ impl Model for MemSink {
 
     ghost Value = { MemoryPut };
 
-    ghost view = { λ s. record { held = s.held.items; room = s.room; failing = s.failing.items; puts = s.puts; faults = s.failed } };
+    ghost view = { λ s. record { held = s.held.items; room = s.room; failing = s.failing.items; puts = s.puts; failures = s.failed } };
 
     ghost invariant = { λ s. (vec_len s.held ≤ s.room) × (s.room ≤ vec_capacity s.held) };
 }
@@ -48,8 +48,8 @@ impl MemSink {
     /// the room that is left; it then keeps nothing of the piece.
     pub fn new(alloc: Global, room: usize, failing: Vec<u64>) -> Result<MemSink, OutOfMemory>
         ensures held { IfOk result (λ s. ⟦<MemSink as Sink>⟧.held s ≡ Some []) }
-        ensures faults { IfOk result (λ s. ⟦<MemSink as Sink>⟧.faults s ≡ 0) }
-        ensures made { IfOk result (λ s. s ≡ record { held = []; room = room; failing = failing.items; puts = 0; faults = 0 }) }
+        ensures failures { IfOk result (λ s. ⟦<MemSink as Sink>⟧.failures s ≡ 0) }
+        ensures made { IfOk result (λ s. s ≡ record { held = []; room = room; failing = failing.items; puts = 0; failures = 0 }) }
     {
         let held = Vec::with_capacity(alloc, room)?;
         Ok(MemSink {
@@ -71,14 +71,14 @@ impl MemSink {
 impl Sink for MemSink {
     ghost held = { λ s. Some s.held };
 
-    ghost faults = { λ s. s.faults };
+    ghost failures = { λ s. s.failures };
 
     fn put(&mut self, piece: &[u8]) -> Result<(), Failed>
         ensures bytes { PutAppends (Some self.old.held) (Some self.new.held) result piece.now }
-        ensures cause { HasCause self.old.faults self.new.faults result }
+        ensures cause { HasCause self.old.failures self.new.failures result }
         ensures fails { IsErr result ↔ IsTrue (is_refused self.old (length piece.now)) }
         ensures nothing { OnErr result (self.new.held ≡ self.old.held) }
-        ensures counts { self.new ≡ record self.old { held = self.new.held; puts = next_number self.old.puts; faults = faults_after result self.old.faults } }
+        ensures counts { self.new ≡ record self.old { held = self.new.held; puts = next_number self.old.puts; failures = failures_after result self.old.failures } }
     {
         self.puts = self.puts.saturating_add(1);
         if self.failing.contains(&self.puts) || piece.len() > self.room - self.held.len() {
@@ -103,7 +103,7 @@ pub struct StdSink<W> {
 impl<W: Write> StdSink<W> {
     pub fn new(writer: W) -> StdSink<W>
         ensures held { ⟦<StdSink<W> as Sink>⟧.held result ≡ W.contents writer }
-        ensures faults { ⟦<StdSink<W> as Sink>⟧.faults result ≡ 0 }
+        ensures failures { ⟦<StdSink<W> as Sink>⟧.failures result ≡ 0 }
     {
         StdSink { writer, failed: 0 }
     }
@@ -112,12 +112,12 @@ impl<W: Write> StdSink<W> {
 impl<W: Write> Sink for StdSink<W> {
     ghost held = { λ s. W.contents s.writer };
 
-    ghost faults = { λ s. s.failed };
+    ghost failures = { λ s. s.failed };
 
     fn put(&mut self, piece: &[u8]) -> Result<(), Failed>
         ensures bytes { PutAppends (⟦<StdSink<W> as Sink>⟧.held self.old) (⟦<StdSink<W> as Sink>⟧.held self.new) result piece.now }
-        ensures cause { HasCause (⟦<StdSink<W> as Sink>⟧.faults self.old) (⟦<StdSink<W> as Sink>⟧.faults self.new) result }
-        ensures counts { ⟦<StdSink<W> as Sink>⟧.faults self.new ≡ faults_after result (⟦<StdSink<W> as Sink>⟧.faults self.old) }
+        ensures cause { HasCause (⟦<StdSink<W> as Sink>⟧.failures self.old) (⟦<StdSink<W> as Sink>⟧.failures self.new) result }
+        ensures counts { ⟦<StdSink<W> as Sink>⟧.failures self.new ≡ failures_after result (⟦<StdSink<W> as Sink>⟧.failures self.old) }
     {
         let mut at = 0;
         while at < piece.len() {

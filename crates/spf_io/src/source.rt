@@ -3,7 +3,7 @@
 ghost use Rattle.std.specs.Prelude.{◌≡◌, ◌↔◌, ℕ, List, Option, Some, IfOk, IsErr, IsTrue, length, option_map};
 ghost use Rattle.std.specs.Io.{ReadsAtMost};
 ghost use Rattle.std.specs.Io.KnownBytes.{ReadConsumes};
-ghost use Rattle.spf_io.specs.Memory.{cut_to, given, faults_after, is_failing, next_number};
+ghost use Rattle.spf_io.specs.Memory.{cut_to, given, failures_after, is_failing, next_number};
 ghost use Rattle.spf_io.specs.Outside.{HasCause};
 
 use crate::memory::Failed;
@@ -15,13 +15,13 @@ pub trait Source {
     // The bytes that reads return from here on, where they are known.
     ghost left: { Self → Option (List ℕ) };
     // How often the source has failed.
-    ghost faults: { Self → ℕ };
+    ghost failures: { Self → ℕ };
 
     /// Reads the first of the bytes left. 0 into a buffer with room is the end of input.
     fn read(&mut self, buf: &mut [u8]) -> Result<usize, Failed>
         ensures bound { ReadsAtMost result buf.new }
         ensures bytes { ReadConsumes (left self.old) (left self.new) result buf.new }
-        ensures cause { HasCause (faults self.old) (faults self.new) result };
+        ensures cause { HasCause (failures self.old) (failures self.new) result };
 }
 
 /// A source of bytes in memory, whose reads are cut and fail where they are told to.
@@ -41,7 +41,7 @@ impl Model for MemSource {
 
     ghost Value = { MemoryRead };
 
-    ghost view = { λ s. record { left = drop s.at s.bytes.items; cuts = s.cuts.items; failing = s.failing.items; reads = s.reads; faults = s.failed } };
+    ghost view = { λ s. record { left = drop s.at s.bytes.items; cuts = s.cuts.items; failing = s.failing.items; reads = s.reads; failures = s.failed } };
 
     ghost invariant = { λ s. s.at ≤ vec_len s.bytes };
 }
@@ -51,8 +51,8 @@ impl MemSource {
     /// counting as 1, and as many as fit after the cuts are used.
     pub fn new(bytes: Vec<u8>, cuts: Vec<usize>, failing: Vec<u64>) -> MemSource
         ensures left { ⟦<MemSource as Source>⟧.left result ≡ Some bytes.items }
-        ensures faults { ⟦<MemSource as Source>⟧.faults result ≡ 0 }
-        ensures made { result ≡ record { left = bytes.items; cuts = cuts.items; failing = failing.items; reads = 0; faults = 0 } }
+        ensures failures { ⟦<MemSource as Source>⟧.failures result ≡ 0 }
+        ensures made { result ≡ record { left = bytes.items; cuts = cuts.items; failing = failing.items; reads = 0; failures = 0 } }
     {
         MemSource {
             bytes,
@@ -78,15 +78,15 @@ fn within(cut: Option<&usize>, n: usize) -> usize
 impl Source for MemSource {
     ghost left = { λ s. Some s.left };
 
-    ghost faults = { λ s. s.faults };
+    ghost failures = { λ s. s.failures };
 
     fn read(&mut self, buf: &mut [u8]) -> Result<usize, Failed>
         ensures bound { ReadsAtMost result buf.new }
         ensures bytes { ReadConsumes (Some self.old.left) (Some self.new.left) result buf.new }
-        ensures cause { HasCause self.old.faults self.new.faults result }
+        ensures cause { HasCause self.old.failures self.new.failures result }
         ensures fails { IsErr result ↔ IsTrue (is_failing self.old.failing (next_number self.old.reads)) }
         ensures gives { IfOk result (λ n. n ≡ given self.old (length buf.old)) }
-        ensures counts { self.new ≡ record self.old { left = self.new.left; reads = next_number self.old.reads; faults = faults_after result self.old.faults } }
+        ensures counts { self.new ≡ record self.old { left = self.new.left; reads = next_number self.old.reads; failures = failures_after result self.old.failures } }
     {
         self.reads = self.reads.saturating_add(1);
         if self.failing.contains(&self.reads) {
@@ -111,7 +111,7 @@ pub struct StdSource<R> {
 impl<R: Read> StdSource<R> {
     pub fn new(reader: R) -> StdSource<R>
         ensures left { ⟦<StdSource<R> as Source>⟧.left result ≡ R.remaining reader }
-        ensures faults { ⟦<StdSource<R> as Source>⟧.faults result ≡ 0 }
+        ensures failures { ⟦<StdSource<R> as Source>⟧.failures result ≡ 0 }
     {
         StdSource { reader, failed: 0 }
     }
@@ -120,13 +120,13 @@ impl<R: Read> StdSource<R> {
 impl<R: Read> Source for StdSource<R> {
     ghost left = { λ s. R.remaining s.reader };
 
-    ghost faults = { λ s. s.failed };
+    ghost failures = { λ s. s.failed };
 
     fn read(&mut self, buf: &mut [u8]) -> Result<usize, Failed>
         ensures bound { ReadsAtMost result buf.new }
         ensures bytes { ReadConsumes (⟦<StdSource<R> as Source>⟧.left self.old) (⟦<StdSource<R> as Source>⟧.left self.new) result buf.new }
-        ensures cause { HasCause (⟦<StdSource<R> as Source>⟧.faults self.old) (⟦<StdSource<R> as Source>⟧.faults self.new) result }
-        ensures counts { ⟦<StdSource<R> as Source>⟧.faults self.new ≡ faults_after result (⟦<StdSource<R> as Source>⟧.faults self.old) }
+        ensures cause { HasCause (⟦<StdSource<R> as Source>⟧.failures self.old) (⟦<StdSource<R> as Source>⟧.failures self.new) result }
+        ensures counts { ⟦<StdSource<R> as Source>⟧.failures self.new ≡ failures_after result (⟦<StdSource<R> as Source>⟧.failures self.old) }
     {
         match self.reader.read(buf) {
             Ok(n) => Ok(n),

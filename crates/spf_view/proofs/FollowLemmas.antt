@@ -72,7 +72,7 @@ begins s o max_frames old = record {
   records = grows_nil old.records;
 }
 
--- only the source, and the count of its faults, changed
+-- only the source, and the count of its failures, changed
 pub record OnlyRead {X Y : Type 0} (cur new : Ports X Y) : Type 0 where
   pub held : new.held ≡ cur.held
   pub steps : new.steps ≡ cur.steps
@@ -185,15 +185,15 @@ none_more : {E A : Type 0} (s : Stream E A) (max_frames : ℕ) (left : Option (L
 none_more s max_frames left text es true n r count is = subst (TakenAtEnd s max_frames left text es []) (sym is) (count, refl)
 none_more s max_frames left text es false n r count is = subst (TakenAtEnd s max_frames left text es []) (sym is) refl
 
-no_fault : {A : Type 0} (b : Bool) (n : ℕ) (r : End A) → r ≡ cond b (Whole n) NeverSynced → r ≡ ReadFault → ⊥
-no_fault true n r is fault = cc
-no_fault false n r is fault = cc
+no_failure : {A : Type 0} (b : Bool) (n : ℕ) (r : End A) → r ≡ cond b (Whole n) NeverSynced → r ≡ ReadFault → ⊥
+no_failure true n r is fault = cc
+no_failure false n r is fault = cc
 
 -- the source is at its end
 pub followed_end : {E A X Y : Type 0} (s : Stream E A) (o : Outputs E X Y) (max_frames : ℕ) (old cur new : Ports X Y) (past : List E) (count : ℕ) (r : End A)
     → SoFar s o max_frames old cur past count → OnlyRead cur new → Consumes cur.left new.left [] → IsAtEnd cur.left → r ≡ cond (s.synced past) (Whole count) NeverSynced → Followed s o max_frames old new r
 followed_end {E} {A} s o max_frames old cur new past count r f same took end is =
-    followed_before s o max_frames old cur new past count [] r f same took (none_more s max_frames old.left f.text f.es (s.synced past) count r (sym f.count_is) is) (λ e. absurd (no_fault (s.synced past) count r is e))
+    followed_before s o max_frames old cur new past count [] r f same took (none_more s max_frames old.left f.text f.es (s.synced past) count r (sym f.count_is) is) (λ e. absurd (no_failure (s.synced past) count r is e))
     (known s max_frames f.es r old.left cur.left f.text f.taken (λ ys e.
     let none : ys ≡ [] = at_end cur.left ys e end in
     record {
@@ -247,10 +247,10 @@ followed_bad s o max_frames old cur new past count given f same lt took some fro
     fronts (Some bytes) h = subst (λ p. frame_front (s.allows p) bytes ≡ given) (sym f.history) h.1
 
 -- a read failed
-pub followed_fault : {E A X Y : Type 0} (s : Stream E A) (o : Outputs E X Y) (max_frames : ℕ) (old cur new : Ports X Y) (past : List E) (count : ℕ) (given : List ℕ)
+pub followed_failure : {E A X Y : Type 0} (s : Stream E A) (o : Outputs E X Y) (max_frames : ℕ) (old cur new : Ports X Y) (past : List E) (count : ℕ) (given : List ℕ)
     → SoFar s o max_frames old cur past count → OnlyRead cur new → Consumes cur.left new.left given → NoFrameAt s past given → frame_front (s.allows past) given ≡ given → (ltb count max_frames ≡ false → given ≡ [])
     → Followed s o max_frames old new ReadFault
-followed_fault s o max_frames old cur new past count given f same took none front full =
+followed_failure s o max_frames old cur new past count given f same took none front full =
     followed_before s o max_frames old cur new past count given ReadFault f same took (reads_on s o max_frames old cur past count given f (room (ltb count max_frames) refl full) front) (λ e. none)
     (free s max_frames f.es ReadFault old.left refl)
   where
@@ -424,7 +424,7 @@ pub followed_closed : {E A X Y : Type 0} (s : Stream E A) (o : Outputs E X Y) (m
     → SoFar s o max_frames old cur past count → IsNext s max_frames cur.left new.left past count e → s.refusal past e ≡ None → s.closes e ≡ true → AddsAll o past e cur new
     → r ≡ cond (s.synced (e ∷ past)) (Whole (count + 1)) NeverSynced → Followed s o max_frames old new r
 followed_closed {E} s o max_frames old cur new past count e r f n none closed adds is =
-    followed_after s o max_frames old cur new past count e r f n none (none_more s max_frames old.left (f.text ++ n.front) more (s.synced (e ∷ past)) (count + 1) r number is) (no_fault (s.synced (e ∷ past)) (count + 1) r is)
+    followed_after s o max_frames old cur new past count e r f n none (none_more s max_frames old.left (f.text ++ n.front) more (s.synced (e ∷ past)) (count + 1) r number is) (no_failure (s.synced (e ∷ past)) (count + 1) r is)
     (adds_all o past e cur new (cuts_line r) (cuts_steps r) adds)
     (known s max_frames more r old.left new.left (f.text ++ n.front) (Consumes-trans old.left cur.left new.left f.text n.front f.taken n.took) (λ ys same. record {
       rest = ys;

@@ -22,7 +22,7 @@ pub(crate) fn bench<K: Sink>(
     out: &mut K,
 ) -> Result<(), ExitReason>
     ensures text { Puts (IsSummary arguments) (K.held out.old) (K.held out.new) result }
-    ensures cause { HasCauses 0 0 (K.faults out.old) (K.faults out.new) result }
+    ensures cause { HasCauses 0 0 (K.failures out.old) (K.failures out.new) result }
 {
     let mut source = GeneratedSource::new(alloc, arguments)?;
     let mut tally = Tally::new(alloc);

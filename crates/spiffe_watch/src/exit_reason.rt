@@ -118,7 +118,7 @@ fn message_of(reason: ExitReason) -> &'static str
 /// Writes the line of the reason to `errors`, and returns the exit status. A failure of `errors` changes nothing.
 pub(crate) fn report<E: Sink>(errors: &mut E, reason: ExitReason) -> u8
     ensures status { result ≡ status reason }
-    ensures line { IsReported (side (E.held errors.old) (E.faults errors.old)) (side (E.held errors.new) (E.faults errors.new)) (reason_line reason) }
+    ensures line { IsReported (side (E.held errors.old) (E.failures errors.old)) (side (E.held errors.new) (E.failures errors.new)) (reason_line reason) }
 {
     let _ = put_line(errors, reason);
     status_of(reason)
@@ -127,7 +127,7 @@ pub(crate) fn report<E: Sink>(errors: &mut E, reason: ExitReason) -> u8
 /// Writes the line of the reason, without allocating.
 fn put_line<E: Sink>(errors: &mut E, reason: ExitReason) -> Result<(), Failed>
     ensures bytes { PutAppends (E.held errors.old) (E.held errors.new) result (reason_line reason) }
-    ensures cause { HasCause (E.faults errors.old) (E.faults errors.new) result }
+    ensures cause { HasCause (E.failures errors.old) (E.failures errors.new) result }
 {
     errors.put(message_of(reason).as_bytes())?;
     put_number(errors, frame_of(reason))
@@ -146,7 +146,7 @@ fn frame_of(reason: ExitReason) -> Option<u64>
 /// Writes a number and ends its line, if there is a number.
 fn put_number<E: Sink>(errors: &mut E, number: Option<u64>) -> Result<(), Failed>
     ensures bytes { PutAppends (E.held errors.old) (E.held errors.new) result (number_text number) }
-    ensures cause { HasCause (E.faults errors.old) (E.faults errors.new) result }
+    ensures cause { HasCause (E.failures errors.old) (E.failures errors.new) result }
 {
     let Some(number) = number else {
         return Ok(());

@@ -36,7 +36,7 @@ impl GeneratedSource {
         arguments: MakeArguments,
     ) -> Result<GeneratedSource, OutOfMemory>
         ensures left { IfOk result (λ s. ⟦<GeneratedSource as Source>⟧.left s ≡ Some (made_session arguments)) }
-        ensures faults { IfOk result (λ s. ⟦<GeneratedSource as Source>⟧.faults s ≡ 0) }
+        ensures failures { IfOk result (λ s. ⟦<GeneratedSource as Source>⟧.failures s ≡ 0) }
     {
         let mut frames = Vec::new(alloc);
         let session = GeneratedSession::open(alloc, arguments, &mut frames)?;
@@ -85,7 +85,7 @@ impl Source for GeneratedSource {
 
     ghost left = { λ s. Some (s.ready ++ s.later) };
 
-    ghost faults = { λ s. s.failures };
+    ghost failures = { λ s. s.failures };
 
     fn read(&mut self, buf: &mut [u8]) -> Result<usize, Failed> {
         self.ready()?;

@@ -10,7 +10,7 @@ use spf_io::{Failed, Sink};
 /// Writes a piece of what is asked for.
 pub(crate) fn put<K: Sink>(out: &mut K, piece: &[u8]) -> Result<(), ExitReason>
     ensures text { Puts (λ text. text ≡ piece.now) (K.held out.old) (K.held out.new) result }
-    ensures cause { HasCauses 0 0 (K.faults out.old) (K.faults out.new) result }
+    ensures cause { HasCauses 0 0 (K.failures out.old) (K.failures out.new) result }
 {
     match out.put(piece) {
         Ok(()) => Ok(()),

@@ -34,7 +34,7 @@ impl Model for Tally {
 impl Tally {
     pub(crate) fn new(alloc: Global) -> Tally
         ensures held { ⟦<Tally as Sink>⟧.held result ≡ Some [] }
-        ensures failures { ⟦<Tally as Sink>⟧.faults result ≡ 0 }
+        ensures failures { ⟦<Tally as Sink>⟧.failures result ≡ 0 }
     {
         Tally {
             counts: Counts {
@@ -89,7 +89,7 @@ impl Tally {
 impl Sink for Tally {
     ghost held = { λ t. Some t.held };
 
-    ghost faults = { λ t. t.failures };
+    ghost failures = { λ t. t.failures };
 
     fn put(&mut self, piece: &[u8]) -> Result<(), Failed> {
         let mut at = 0;

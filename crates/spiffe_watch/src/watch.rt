@@ -34,19 +34,19 @@ pub fn watch<S: Source, K: Sink, E: Sink>(
     ensures arguments { (result ≡ 1) ↔ (command_in (map string_bytes arguments.now) ≡ None) }
     // What the arguments ask for is done, and the status and the line on `errors` say how it ended. Of a session, what is read,
     // written and returned belongs to one list of events; `make` and `bench` write a generated session, and its summary.
-    ensures does { let before : Streams = record { input = side (S.left source.old) (S.faults source.old); output = side (K.held out.old) (K.faults out.old); errors = side (E.held errors.old) (E.faults errors.old) } in
-        let after : Streams = record { input = side (S.left source.new) (S.faults source.new); output = side (K.held out.new) (K.faults out.new); errors = side (E.held errors.new) (E.faults errors.new) } in
+    ensures does { let before : Streams = record { input = side (S.left source.old) (S.failures source.old); output = side (K.held out.old) (K.failures out.old); errors = side (E.held errors.old) (E.failures errors.old) } in
+        let after : Streams = record { input = side (S.left source.new) (S.failures source.new); output = side (K.held out.new) (K.failures out.new); errors = side (E.held errors.new) (E.failures errors.new) } in
         Ended (command_in (map string_bytes arguments.now)) before after result }
     // Status 0: the input held a whole session, and the output is one line for each event.
-    ensures headline { let before : Streams = record { input = side (S.left source.old) (S.faults source.old); output = side (K.held out.old) (K.faults out.old); errors = side (E.held errors.old) (E.faults errors.old) } in
-        let after : Streams = record { input = side (S.left source.new) (S.faults source.new); output = side (K.held out.new) (K.faults out.new); errors = side (E.held errors.new) (E.faults errors.new) } in
+    ensures headline { let before : Streams = record { input = side (S.left source.old) (S.failures source.old); output = side (K.held out.old) (K.failures out.old); errors = side (E.held errors.old) (E.failures errors.old) } in
+        let after : Streams = record { input = side (S.left source.new) (S.failures source.new); output = side (K.held out.new) (K.failures out.new); errors = side (E.held errors.new) (E.failures errors.new) } in
         result ≡ 0 → Headline (command_in (map string_bytes arguments.now)) before after }
     // A whole session with an accepted event, within the bound and without a failure, ends with 0, or out of memory.
-    ensures complete { let before : Streams = record { input = side (S.left source.old) (S.faults source.old); output = side (K.held out.old) (K.faults out.old); errors = side (E.held errors.old) (E.faults errors.old) } in
-        let after : Streams = record { input = side (S.left source.new) (S.faults source.new); output = side (K.held out.new) (K.faults out.new); errors = side (E.held errors.new) (E.faults errors.new) } in
+    ensures complete { let before : Streams = record { input = side (S.left source.old) (S.failures source.old); output = side (K.held out.old) (K.failures out.old); errors = side (E.held errors.old) (E.failures errors.old) } in
+        let after : Streams = record { input = side (S.left source.new) (S.failures source.new); output = side (K.held out.new) (K.failures out.new); errors = side (E.held errors.new) (E.failures errors.new) } in
         Completes (command_in (map string_bytes arguments.now)) before after result }
-    ensures read_fault { result ≡ 3 → Rose (S.faults source.old) (S.faults source.new) }
-    ensures write_fault { result ≡ 4 → Rose (K.faults out.old) (K.faults out.new) }
+    ensures read_fault { result ≡ 3 → Rose (S.failures source.old) (S.failures source.new) }
+    ensures write_fault { result ≡ 4 → Rose (K.failures out.old) (K.failures out.new) }
 {
     match run(alloc, arguments, source, out) {
         Ok(()) => 0,
@@ -63,10 +63,10 @@ fn run<S: Source, K: Sink>(
     ensures arguments { (result ≡ Err reasons.BadArguments) ↔ (command_in (map string_bytes arguments.now) ≡ None) }
     // whatever the error output holds
     ensures does { (errors errors' : Side) →
-        let before : Streams = record { input = side (S.left source.old) (S.faults source.old); output = side (K.held out.old) (K.faults out.old); errors = errors } in
-        let after : Streams = record { input = side (S.left source.new) (S.faults source.new); output = side (K.held out.new) (K.faults out.new); errors = errors' } in
+        let before : Streams = record { input = side (S.left source.old) (S.failures source.old); output = side (K.held out.old) (K.failures out.old); errors = errors } in
+        let after : Streams = record { input = side (S.left source.new) (S.failures source.new); output = side (K.held out.new) (K.failures out.new); errors = errors' } in
         Does (command_in (map string_bytes arguments.now)) before after result }
-    ensures cause { HasCauses (S.faults source.old) (S.faults source.new) (K.faults out.old) (K.faults out.new) result }
+    ensures cause { HasCauses (S.failures source.old) (S.failures source.new) (K.failures out.old) (K.failures out.new) result }
 {
     match parse_command(arguments) {
         None => Err(ExitReason::BadArguments),
@@ -95,7 +95,7 @@ fn follow<S: Source, K: Sink>(
 ) -> Result<(), ExitReason>
     ensures arguments { IfErr result (λ e. is_bad_arguments e ≡ false) }
     ensures session { FollowsSession arguments.entry (S.left source.old) (S.left source.new) (K.held out.old) (K.held out.new) result }
-    ensures cause { HasCauses (S.faults source.old) (S.faults source.new) (K.faults out.old) (K.faults out.new) result }
+    ensures cause { HasCauses (S.failures source.old) (S.failures source.new) (K.failures out.old) (K.failures out.new) result }
 {
     let picker = picker_of(alloc, arguments.hint)?;
     let followed = follow_x509(
@@ -126,7 +126,7 @@ fn end_of(followed: Result<u64, FollowError>) -> Result<(), ExitReason>
 /// Writes a generated session, the frames of one operation after another.
 fn make<K: Sink>(alloc: Global, arguments: MakeArguments, out: &mut K) -> Result<(), ExitReason>
     ensures text { Puts (λ text. text ≡ made_session arguments) (K.held out.old) (K.held out.new) result }
-    ensures cause { HasCauses 0 0 (K.faults out.old) (K.faults out.new) result }
+    ensures cause { HasCauses 0 0 (K.failures out.old) (K.failures out.new) result }
 {
     let mut frames = Vec::new(alloc);
     let mut session = GeneratedSession::open(alloc, arguments, &mut frames)?;
@@ -141,7 +141,7 @@ fn put_rest<K: Sink>(
     out: &mut K,
 ) -> Result<(), ExitReason>
     ensures text { Puts (λ text. text ≡ session.old) (K.held out.old) (K.held out.new) result }
-    ensures cause { HasCauses 0 0 (K.faults out.old) (K.faults out.new) result }
+    ensures cause { HasCauses 0 0 (K.failures out.old) (K.failures out.new) result }
 {
     while session.next(frames)? {
         put(out, frames.as_slice())?;

@@ -3,12 +3,12 @@ use Rattle.std.specs.Option.{option_map}
 use Rattle.std.proofs.lemmas.Result.{err_from_is_err_and}
 use Rattle.spf_view.proofs.FollowLemmas.{followed_early}
 use Rattle.spf_feed.specs.Items.{Rules, rules_with}
-use Rattle.spf_feed.proofs.FaultLemmas.{no_fault}
+use Rattle.spf_feed.proofs.FailureLemmas.{no_failure}
 use Rattle.spf_feed.proofs.Loop.{loop_begins, next_of, exit_end, exit_unread, went_through, exit_turn, lined_on, exit_no_line, exit_unput, exit_close, loop_on}
 use Rattle.spf_feed.proofs.following.follow_x509.Goals as goal
 
 pub returns-in-Ok-None-clause-cause : goal.returns-in-Ok-None-clause-cause
-returns-in-Ok-None-clause-cause g c = no_fault _ _ c.at_end.result c.at_end.ensures.calm (search rules) (search rules)
+returns-in-Ok-None-clause-cause g c = no_failure _ _ c.at_end.result c.at_end.ensures.calm (search rules) (search rules)
 
 pub events-init : goal.events-init
 events-init g c = record {

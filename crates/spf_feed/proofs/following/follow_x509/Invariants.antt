@@ -10,8 +10,8 @@ abbrev pub invariant-events : goal.invariant-events
 invariant-events g l = record {
   bound : l.count ≤ l.max_frames;
   synced : IsTrue (is_some l.snapshot) → HasStep (g.P.Publisher.steps l.publisher);
-  reads : g.S.Source.faults l.initial.source ≤ g.S.Source.faults l.source;
-  writes : g.K.Sink.faults l.initial.sink ≤ g.K.Sink.faults l.sink;
+  reads : g.S.Source.failures l.initial.source ≤ g.S.Source.failures l.source;
+  writes : g.K.Sink.failures l.initial.sink ≤ g.K.Sink.failures l.sink;
   session : LoopAt (rules_with l.fn.limits l.fn.deadline l.fn.ready (option_map (λ p. g.C.SvidPicker.picks p.now) l.fn.picker)) l.max_frames
       (record {
         left = g.S.Source.left l.initial.source;
