@@ -1,5 +1,6 @@
 -- What the outside gives and takes, where it tells, and what its count of failures says.
-use Rattle.std.specs.Prelude.{◌≡◌, ℕ, ◌-◌, ◌^◌, ◌<◌, ◌≤◌, ◌⊎◌, List, take, Option, Result, MatchResult, IsErr}
+use Rattle.std.specs.Prelude.{◌≡◌, ℕ, ◌-◌, ◌^◌, ◌<◌, ◌≤◌, ◌⊎◌, List, take, Option, Result}
+use Rattle.std.specs.Prelude.{MatchResult, IsErr}
 use Rattle.std.specs.Io.KnownBytes.{Appends}
 
 -- a count rose: it is greater than before, or stands at the end of its type
@@ -12,5 +13,7 @@ pub record HasCause {T E : Type 0} (before now : ℕ) (result : Result T E) : Ty
   pub failed : IsErr result → Rose before now
 
 -- a put appends the piece, and a failed one a prefix of it
-abbrev pub PutAppends : {T E : Type 0} → Option (List ℕ) → Option (List ℕ) → Result T E → List ℕ → Type 0
-PutAppends old new r piece = MatchResult r (λ _. Appends old new piece) (λ _. (n : ℕ) × Appends old new (take n piece))
+abbrev pub PutAppends : {T E : Type 0} → Option (List ℕ) → Option (List ℕ) → Result T E → List ℕ
+    → Type 0
+PutAppends old new r piece =
+    MatchResult r (λ _. Appends old new piece) (λ _. (n : ℕ) × Appends old new (take n piece))
