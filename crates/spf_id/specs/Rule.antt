@@ -1,12 +1,18 @@
 -- The rules of trust domains and SPIFFE IDs, in order (SPIFFE-ID section 2).
-use Rattle.std.specs.Prelude.{◌≡◌, ℕ, Bool, true, false, ◌||◌, not, List, [], ◌∷◌, length, take, drop, Result, Ok, Err, nat_lt, ◌==◌, nat_eq, if◌then◌else◌, codes}
+use Rattle.std.specs.Prelude.{◌≡◌, ℕ, Bool, true, false, ◌||◌, not, List, [], ◌∷◌, length, take}
+use Rattle.std.specs.Prelude.{drop, Result, Ok, Err, nat_lt, ◌==◌, nat_eq, if◌then◌else◌, codes}
 use Rattle.std.specs.Char.{is_ascii_digit, is_ascii_lowercase, is_ascii_alphanumeric}
 use Rattle.std.specs.List.{flat_map, slice_split, list_all, starts_with}
 use Rattle.std.specs.Str.{bytes_eq, str_eq_ignore_ascii_case}
 use Rattle.spf_io.specs.Rule.{◌>>=◌}
 use Rattle.spf_id.specs.Id.{Id, id_text}
 use Rattle.spf_id.specs.declared.error.SpiffeIdError.{SpiffeIdError}
-use Rattle.spf_id.specs.declared.error.SpiffeIdError.TheVariants.{Empty, TooLong, WrongScheme, MissingTrustDomain, TrustDomainTooLong, BadTrustDomainChar, EmptySegment, DotSegment, BadPathChar, TrailingSlash, OutOfMemory}
+use Rattle.spf_id.specs.declared.error.SpiffeIdError.TheVariants.{Empty, TooLong, WrongScheme}
+use Rattle.spf_id.specs.declared.error.SpiffeIdError.TheVariants.{MissingTrustDomain}
+use Rattle.spf_id.specs.declared.error.SpiffeIdError.TheVariants.{TrustDomainTooLong}
+use Rattle.spf_id.specs.declared.error.SpiffeIdError.TheVariants.{BadTrustDomainChar, EmptySegment}
+use Rattle.spf_id.specs.declared.error.SpiffeIdError.TheVariants.{DotSegment, BadPathChar}
+use Rattle.spf_id.specs.declared.error.SpiffeIdError.TheVariants.{TrailingSlash, OutOfMemory}
 
 -- whether an error says that memory ran out
 abbrev pub is_memory : SpiffeIdError → Bool
@@ -43,7 +49,8 @@ segment_rule empty segment =
 abbrev pub segments_rule : List (List ℕ) → Result (Unit {0}) SpiffeIdError
 segments_rule [] = Ok tt
 segments_rule (segment ∷ []) = segment_rule TrailingSlash segment
-segments_rule (segment ∷ next ∷ others) = segment_rule EmptySegment segment >>= λ _. segments_rule (next ∷ others)
+segments_rule (segment ∷ next ∷ others) =
+    segment_rule EmptySegment segment >>= λ _. segments_rule (next ∷ others)
 
 -- the path of these segments: `/` and a segment for each
 abbrev pub path_of : List (List ℕ) → List ℕ
@@ -59,7 +66,8 @@ unfoldable pub parts_rule : List (List ℕ) → Result Id SpiffeIdError
 parts_rule [] = Err MissingTrustDomain
 parts_rule (domain ∷ segments) =
     if length domain == 0 then Err MissingTrustDomain
-    else (domain_rule domain >>= λ _. segments_rule segments >>= λ _. Ok (record { domain = domain; path = path_of segments }))
+    else (domain_rule domain >>= λ _. segments_rule segments
+    >>= λ _. Ok (record { domain = domain; path = path_of segments }))
 
 -- IdRule: the trust domain and the path of an ID, or the first broken rule
 unfoldable pub id_rule : List ℕ → Result Id SpiffeIdError
