@@ -22,7 +22,7 @@ first_index c xs (Some k) h = (
       (λ j lt. false_from_ne_true _ (h.0.before j (omega arith) lt)) (λ lt. h.1),
 )
 
--- where no octet is of the kind, the front is the whole
+-- where no octet is of the kind, the part before the first is the whole
 pub front_whole : (p : ℕ → Bool) (xs : List ℕ) → position_or_len p xs ≡ length xs
     → before_first p xs ≡ xs
 front_whole p xs whole = take_all (position_or_len p xs) xs (omega arith)

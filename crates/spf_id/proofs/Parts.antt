@@ -57,7 +57,7 @@ path_step true x xs is h =
     ap (λ (s : List ℕ). 47 ∷ s) (h ∙ ap (λ (y : ℕ). y ∷ xs) (sym e))
 path_step false x xs is h = onto_path x (slice_split is_slash xs) xs h
 
--- the path of the segments of a text is that text behind a slash
+-- the path of the segments of a text is a slash and that text
 pub path_of-split : (xs : List ℕ) → path_of (slice_split is_slash xs) ≡ 47 ∷ xs
 path_of-split [] = refl
 path_of-split (x ∷ xs) = path_step (is_slash x) x xs refl (path_of-split xs)

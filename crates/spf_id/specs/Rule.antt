@@ -19,16 +19,32 @@ abbrev pub is_memory : SpiffeIdError → Bool
 is_memory OutOfMemory = true
 is_memory _ = false
 
+abbrev pub SLASH : ℕ
+SLASH = 47
+
+abbrev pub FULL_STOP : ℕ
+FULL_STOP = 46
+
+abbrev pub HYPHEN : ℕ
+HYPHEN = 45
+
+abbrev pub UNDERSCORE : ℕ
+UNDERSCORE = 95
+
 abbrev pub is_slash : ℕ → Bool
-is_slash c = c == 47
+is_slash c = c == SLASH
+
+-- whether an octet is `.`, `-` or `_`
+abbrev pub is_mark : ℕ → Bool
+is_mark c = c == FULL_STOP || c == HYPHEN || c == UNDERSCORE
 
 -- a-z, 0-9, `.`, `-`, `_`
 abbrev pub is_domain_octet : ℕ → Bool
-is_domain_octet c = is_ascii_lowercase c || is_ascii_digit c || c == 46 || c == 45 || c == 95
+is_domain_octet c = is_ascii_lowercase c || is_ascii_digit c || is_mark c
 
 -- letters and digits of ASCII, `.`, `-`, `_`
 abbrev pub is_path_octet : ℕ → Bool
-is_path_octet c = is_ascii_alphanumeric c || c == 46 || c == 45 || c == 95
+is_path_octet c = is_ascii_alphanumeric c || is_mark c
 
 -- the rules of a trust domain that is not empty
 unfoldable pub domain_rule : List ℕ → Result (Unit {0}) SpiffeIdError
@@ -37,7 +53,7 @@ domain_rule domain =
     else (if not (list_all is_domain_octet domain) then Err BadTrustDomainChar
     else Ok tt)
 
--- the rules of a segment, with the answer to an empty one
+-- the rules of a segment; `empty` is the error of an empty one
 unfoldable pub segment_rule : SpiffeIdError → List ℕ → Result (Unit {0}) SpiffeIdError
 segment_rule empty segment =
     if length segment == 0 then Err empty
@@ -54,7 +70,7 @@ segments_rule (segment ∷ next ∷ others) =
 
 -- the path of these segments: `/` and a segment for each
 abbrev pub path_of : List (List ℕ) → List ℕ
-path_of segments = flat_map (λ segment. 47 ∷ segment) segments
+path_of segments = flat_map (λ segment. SLASH ∷ segment) segments
 
 -- the segments of a path, which is empty or begins with `/`
 abbrev pub segments_of : List ℕ → List (List ℕ)
@@ -82,7 +98,7 @@ pub record IsTextOf (id : Id) (t : List ℕ) : Type 0 where
   pub text : t ≡ id_text id
   pub rule : id_rule t ≡ Ok id
 
--- whether `:/` stands somewhere in a text
+-- whether a text contains `:/`
 abbrev pub holds_colon_slash : List ℕ → Bool
 holds_colon_slash [] = false
 holds_colon_slash (c ∷ text) = starts_with nat_eq (c ∷ text) (codes ":/") || holds_colon_slash text

@@ -1,4 +1,4 @@
--- How memory answers at named values, and rules in order.
+-- A source and a sink in memory at named values, and rules in order.
 use Rattle.std.proofs.Common.{◌≡◌, ℕ, zero, suc, ◌^◌, ◌-◌, true, false, refl, List, [], ◌∷◌, Result}
 use Rattle.std.proofs.Common.{Ok, Err}
 use Rattle.spf_io.specs.Memory.{MemoryRead, MemoryPut, next_number, given, is_failing, is_refused}

@@ -23,7 +23,7 @@ pub trait Sink {
         ensures cause { HasCause (failures self.old) (failures self.new) result };
 }
 
-/// A sink in memory with room for a number of bytes, whose puts fail where they are told to.
+/// A sink in memory with room for a number of bytes, whose puts fail as configured.
 #[derive(Debug, Drop)]
 pub struct MemSink {
     held: Vec<u8>,

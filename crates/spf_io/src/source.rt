@@ -25,7 +25,7 @@ pub trait Source {
         ensures cause { HasCause (failures self.old) (failures self.new) result };
 }
 
-/// A source of bytes in memory, whose reads are cut and fail where they are told to.
+/// A source of bytes in memory, whose reads are short and fail as configured.
 #[derive(Debug, Drop)]
 pub struct MemSource {
     bytes: Vec<u8>,

@@ -1,4 +1,4 @@
--- A session behind a history, and one event more.
+-- A session after a history, and after one more event.
 use Rattle.std.proofs.Common.{◌≡◌, Bool, true, false, not, cond, ◌||◌, List, [], ◌∷◌, ◌++◌, reverse}
 use Rattle.std.proofs.Common.{Option, None, Some, refl, sym, ap, ◌∙◌, subst}
 use Rattle.std.specs.Prelude.{ℤ, is_some}

@@ -18,7 +18,7 @@ min_raised n k = omega arith
 pub raised_below : (r : ℕ) → r < 2 ^ 64 - 1 → raised r ≡ r + 1
 raised_below r h = omega arith
 
--- a step behind others
+-- a step after others
 revision_step : {M L D : Type 0} (E : M → M → Bool) (s : Step M L D) (past : List (Step M L D))
     (b : Bool) → (past ≡ [] → ⊥)
     → same_view E (view_of (map done past)) (view_of (done s ∷ map done past)) ≡ b

@@ -21,7 +21,7 @@ abbrev pub ShowsIf : {M D : Type 0} → Option (Kept M D) → Type 0
 ShowsIf None = Unit {0}
 ShowsIf (Some kept) = IsShowing kept.view
 
--- Behind a history a session is where its steps put it.
+-- After a history a session stands where its steps put it.
 pub record IsAt {E M L D : Type 0} (s : Subject E M L D) (past : List E) (now : Option ℤ)
     (kept : Option (Kept M D)) : Type 0 where
   pub stands : KeptAfter s (reverse past) now kept

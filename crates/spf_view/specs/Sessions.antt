@@ -38,7 +38,7 @@ NoFrameAt {E} s past bytes = (e : E) (front rest : List ℕ) → IsFrame s past 
 abbrev pub ends : {E A : Type 0} → Stream E A → List E → E → Bool
 ends s past e = is_some (s.refusal past e) || s.closes e
 
--- One event more, whose frame begins the bytes.
+-- One more event, whose frame begins the bytes.
 pub record IsEvent {E A : Type 0} (s : Stream E A) (past : List E) (bytes front rest : List ℕ)
     (e : E) : Type 0 where
   pub text : bytes ≡ front ++ rest
@@ -60,7 +60,7 @@ pub record Reads {E A : Type 0} (s : Stream E A) (max_frames : ℕ) (bytes : Lis
   pub session : IsSession s [] text es
   pub bound : length es ≤ max_frames
 
--- The reading of the bytes: the longest list of events that they begin with, and the rest.
+-- The reading of the bytes: the longest list of events with which they begin, and the rest.
 pub record IsReading {E A : Type 0} (s : Stream E A) (max_frames : ℕ) (bytes : List ℕ) (es : List E)
     (rest : List ℕ) : Type 0 where
   pub reads : Reads s max_frames bytes es rest
