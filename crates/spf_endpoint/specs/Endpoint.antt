@@ -1,5 +1,7 @@
 -- The endpoint rule: the endpoint that a text names, or the first broken rule.
-use Rattle.std.specs.Prelude.{ℕ, Bool, true, false, not, ◌&&◌, ◌||◌, ◌==◌, nat_eq, if◌then◌else◌, List, ◌++◌, length, drop, codes, bytes_eq, Option, None, Some, is_some, Result, Ok, Err}
+use Rattle.std.specs.Prelude.{ℕ, Bool, true, false, not, ◌&&◌, ◌||◌, ◌==◌, nat_eq, if◌then◌else◌}
+use Rattle.std.specs.Prelude.{List, ◌++◌, length, drop, codes, bytes_eq, Option, None, Some}
+use Rattle.std.specs.Prelude.{is_some, Result, Ok, Err}
 use Rattle.std.specs.Int.{w32, from_be_bytes}
 use Rattle.std.specs.List.{starts_with}
 use Rattle.std.specs.Net.Addr.{ipv4_bits, ipv6_bits}
@@ -23,11 +25,14 @@ abbrev pub is_memory : EndpointError → Bool
 is_memory errors.OutOfMemory = true
 is_memory _ = false
 
--- `unix:/` without a second slash stands for `unix:///`, and `tcp:` without two slashes for `tcp://`
+-- `unix:/` without a second slash stands for `unix:///`,
+-- and `tcp:` without two slashes for `tcp://`
 abbrev pub rewritten : List ℕ → List ℕ
 rewritten text =
-    if not (starts_with nat_eq text (codes "unix://")) && starts_with nat_eq text (codes "unix:/") then codes "unix:///" ++ drop 6 text
-    else (if not (starts_with nat_eq text (codes "tcp://")) && starts_with nat_eq text (codes "tcp:") then codes "tcp://" ++ drop 4 text else text)
+    if not (starts_with nat_eq text (codes "unix://")) && starts_with nat_eq text (codes "unix:/")
+    then codes "unix:///" ++ drop 6 text
+    else (if not (starts_with nat_eq text (codes "tcp://"))
+    && starts_with nat_eq text (codes "tcp:") then codes "tcp://" ++ drop 4 text else text)
 
 abbrev pub no_url : EndpointParseError
 no_url = record {}
@@ -47,7 +52,8 @@ check_common url =
 abbrev pub unix_rule : Parts → Result Endpoint EndpointError
 unix_rule url =
     if has_host url then Err errors.UnixAuthorityNotAllowed
-    else (if bytes_eq url.path (codes "/") || not (starts_with nat_eq url.path (codes "/")) then Err errors.UnixMissingPath else Ok (endpoints.Unix url.path))
+    else (if bytes_eq url.path (codes "/") || not (starts_with nat_eq url.path (codes "/"))
+    then Err errors.UnixMissingPath else Ok (endpoints.Unix url.path))
 
 -- four decimal numbers up to 255, without leading zeros, in the bits of their octets
 abbrev pub ipv4_in : List ℕ → Option ℕ
@@ -66,7 +72,8 @@ abbrev pub tcp_after_host : Parts → Option EndpointHost → Option ℕ → Res
 tcp_after_host url None port = Err errors.TcpHostNotIp
 tcp_after_host url (Some host) None = Err errors.TcpMissingPort
 tcp_after_host url (Some host) (Some port) =
-    if not (length url.path == 0) && not (bytes_eq url.path (codes "/")) then Err errors.TcpUnexpectedPath else Ok (endpoints.Tcp host port)
+    if not (length url.path == 0) && not (bytes_eq url.path (codes "/"))
+    then Err errors.TcpUnexpectedPath else Ok (endpoints.Tcp host port)
 
 abbrev pub tcp_rule : Parts → Result Endpoint EndpointError
 tcp_rule url = tcp_after_host url (tcp_host_in url) url.port

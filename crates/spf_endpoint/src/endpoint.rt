@@ -3,7 +3,9 @@
 ghost use Rattle.std.specs.Prelude.{◌≡◌, None, IfOk, string_bytes};
 ghost use Rattle.spf_io.specs.Rule.{Gives};
 ghost use Rattle.url.specs.Parser.{parse_url};
-ghost use Rattle.spf_endpoint.specs.Endpoint.{is_memory, parsed, rewritten as rewritten_text, check_common as common_rule, unix_rule, ipv4_in, tcp_host_in, tcp_rule, scheme_rule, endpoint_rule};
+ghost use Rattle.spf_endpoint.specs.Endpoint.{is_memory, parsed, rewritten as rewritten_text};
+ghost use Rattle.spf_endpoint.specs.Endpoint.{check_common as common_rule, unix_rule, ipv4_in};
+ghost use Rattle.spf_endpoint.specs.Endpoint.{tcp_host_in, tcp_rule, scheme_rule, endpoint_rule};
 
 use spf_api::{EndpointError, EndpointParseError};
 use spf_io::{OutOfMemory, Text};
@@ -135,8 +137,9 @@ fn by_scheme(alloc: Global, url: &Url) -> Result<Endpoint, EndpointError>
 }
 
 impl Endpoint {
-    /// The endpoint that a text names, as `unix:///run/agent.sock` or `tcp://127.0.0.1:8081`, or the first broken rule, in the
-    /// order of `EndpointError`. The path of a socket keeps the escapes that a URL gives it.
+    /// The endpoint that a text names, as `unix:///run/agent.sock` or
+    /// `tcp://127.0.0.1:8081`, or the first broken rule, in the order of
+    /// `EndpointError`. The path of a socket keeps the escapes that a URL gives it.
     #[tactic(auto, unfolding(crate::specs::Endpoint::endpoint_rule))]
     pub fn parse(alloc: Global, input: &str) -> Result<Endpoint, EndpointError>
         ensures { Gives is_memory (λ e. e) result (endpoint_rule input.now) }

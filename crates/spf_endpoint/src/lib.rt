@@ -1,4 +1,5 @@
-//! Endpoints of the Workload API: a Unix socket, or a TCP address (SPIFFE Workload Endpoint section 4).
+//! Endpoints of the Workload API: a Unix socket, or a
+//! TCP address (SPIFFE Workload Endpoint section 4).
 #![tactic(auto)]
 
 mod endpoint;

@@ -1,5 +1,6 @@
 -- The equality and the order of IDs, and their texts.
-use Rattle.std.proofs.Common.{◌≡◌, Bool, true, ℕ, ◌+◌, List, length, drop, nat_eq, refl, ap, sym, ◌∙◌, Ok}
+use Rattle.std.proofs.Common.{◌≡◌, Bool, true, ℕ, ◌+◌, List, length, drop, nat_eq, refl, ap, sym}
+use Rattle.std.proofs.Common.{◌∙◌, Ok}
 use Rattle.std.specs.declared.cmp.Ordering.{Ordering}
 use Rattle.std.specs.declared.cmp.Ordering.TheVariants.{Less, Equal, Greater}
 use Rattle.std.specs.Ordering.{nat_cmp, ordering_then, is_eq}
@@ -31,7 +32,8 @@ same_id a b (text, domain) =
 pub id_exact : IsExact Id id_eq
 id_exact a b =
     Decides-like _ (same_id a b) (λ (e : a ≡ b). (ap id_text e, ap (λ (x : Id). x.domain) e))
-    (Decides-and (pointwise nat_eq (id_text a) (id_text b)) (pointwise nat_eq a.domain b.domain) (bytes_exact (id_text a) (id_text b)) (bytes_exact a.domain b.domain))
+    (Decides-and (pointwise nat_eq (id_text a) (id_text b)) (pointwise nat_eq a.domain b.domain)
+    (bytes_exact (id_text a) (id_text b)) (bytes_exact a.domain b.domain))
 
 -- names of which neither stands before the other are equal
 pub name_ties : (x y : List ℕ) → slice_cmp nat_cmp x y ≡ Equal → x ≡ y
@@ -48,7 +50,8 @@ both_tie Greater p h = absurd (cc)
 -- and so are IDs
 pub id_ties : (a b : Id) → id_cmp a b ≡ Equal → a ≡ b
 id_ties a b h =
-    let both = both_tie (slice_cmp nat_cmp (id_text a) (id_text b)) (slice_cmp nat_cmp a.domain b.domain) h in
+    let both = both_tie (slice_cmp nat_cmp (id_text a) (id_text b))
+    (slice_cmp nat_cmp a.domain b.domain) h in
     same_id a b (name_ties (id_text a) (id_text b) both.0, name_ties a.domain b.domain both.1)
 
 first_decides : (o p : Ordering) → (is_eq o ≡ true → is_eq p ≡ true) → ordering_then o p ≡ o
@@ -59,13 +62,17 @@ first_decides Equal Greater h = absurd (let e = h refl in cc)
 first_decides Greater p h = refl
 
 -- IDs whose texts are IDs by the rules are in the order of the texts
-pub order_of_text : (a b : Id) → (id_text a ≡ id_text b → a ≡ b) → id_cmp a b ≡ slice_cmp nat_cmp (id_text a) (id_text b)
+pub order_of_text : (a b : Id) → (id_text a ≡ id_text b → a ≡ b)
+    → id_cmp a b ≡ slice_cmp nat_cmp (id_text a) (id_text b)
 order_of_text a b same =
     first_decides (slice_cmp nat_cmp (id_text a) (id_text b)) (slice_cmp nat_cmp a.domain b.domain)
-    (λ tie. names_tie a.domain b.domain (ap (λ (x : Id). x.domain) (same ((bytes_exact (id_text a) (id_text b)).0 (texts_ties (id_text a) (id_text b) ∙ tie)))))
+    (λ tie. names_tie a.domain b.domain
+    (ap (λ (x : Id). x.domain)
+    (same ((bytes_exact (id_text a) (id_text b)).0 (texts_ties (id_text a) (id_text b) ∙ tie)))))
 
 -- since the rules give one ID for a text
-pub one_id : (a b : Id) (s t : List ℕ) → s ≡ id_text a → id_rule s ≡ Ok a → t ≡ id_text b → id_rule t ≡ Ok b → id_text a ≡ id_text b → a ≡ b
+pub one_id : (a b : Id) (s t : List ℕ) → s ≡ id_text a → id_rule s ≡ Ok a → t ≡ id_text b
+    → id_rule t ≡ Ok b → id_text a ≡ id_text b → a ≡ b
 one_id a b s t of_a rule_a of_b rule_b text =
     let both : id_rule s ≡ id_rule t = ap id_rule (of_a ∙ text ∙ sym of_b) in
     cc

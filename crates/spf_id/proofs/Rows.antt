@@ -1,9 +1,14 @@
 -- The rules at named texts.
 use Rattle.std.proofs.Common.{◌≡◌, true, false, refl, Ok, Err}
 use Rattle.std.specs.Prelude.{codes}
-use Rattle.spf_id.specs.declared.error.SpiffeIdError.TheVariants.{Empty, WrongScheme, MissingTrustDomain, BadTrustDomainChar, EmptySegment, DotSegment, BadPathChar, TrailingSlash}
+use Rattle.spf_id.specs.declared.error.SpiffeIdError.TheVariants.{Empty, WrongScheme}
+use Rattle.spf_id.specs.declared.error.SpiffeIdError.TheVariants.{MissingTrustDomain}
+use Rattle.spf_id.specs.declared.error.SpiffeIdError.TheVariants.{BadTrustDomainChar, EmptySegment}
+use Rattle.spf_id.specs.declared.error.SpiffeIdError.TheVariants.{DotSegment, BadPathChar}
+use Rattle.spf_id.specs.declared.error.SpiffeIdError.TheVariants.{TrailingSlash}
 use Rattle.spf_id.specs.Id.{id_text}
-use Rattle.spf_id.specs.Rule.{domain_rule, segment_rule, parts_rule, id_rule, name_rule, has_spiffe_scheme}
+use Rattle.spf_id.specs.Rule.{domain_rule, segment_rule, parts_rule, id_rule, name_rule}
+use Rattle.spf_id.specs.Rule.{has_spiffe_scheme}
 
 name_of_id : name_rule (codes "spiffe://other.org") ≡ Ok (codes "other.org")
 unfolding name_rule id_rule parts_rule domain_rule
@@ -17,11 +22,13 @@ no_name : name_rule (codes "") ≡ Err Empty
 unfolding name_rule
 no_name = refl
 
-id : id_rule (codes "spiffe://example.org/w") ≡ Ok (record { domain = codes "example.org"; path = codes "/w" })
+id : id_rule (codes "spiffe://example.org/w")
+    ≡ Ok (record { domain = codes "example.org"; path = codes "/w" })
 unfolding id_rule parts_rule domain_rule segment_rule
 id = refl
 
-text_of_id : id_text (record { domain = codes "example.org"; path = codes "/w" }) ≡ codes "spiffe://example.org/w"
+text_of_id : id_text (record { domain = codes "example.org"; path = codes "/w" })
+    ≡ codes "spiffe://example.org/w"
 unfolding id_text
 text_of_id = refl
 

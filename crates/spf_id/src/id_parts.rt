@@ -25,7 +25,8 @@ fn halves(text: &str) -> (&str, &str)
 #[tactic(auto, using(crate::proofs::Parts::parts_by_halves))]
 fn parts_after_scheme(rest: &str) -> Result<(&str, &str), SpiffeIdError>
     ensures { MatchResult result
-        (λ p. parts_rule (slice_split is_slash rest.now) ≡ Ok (record { domain = p.0.now; path = p.1.now }))
+        (λ p. parts_rule (slice_split is_slash rest.now)
+        ≡ Ok (record { domain = p.0.now; path = p.1.now }))
         (λ e. parts_rule (slice_split is_slash rest.now) ≡ Err e) }
 {
     let (domain, path) = halves(rest);

@@ -1,6 +1,7 @@
 ghost use Rattle.std.specs.Prelude.{◌≡◌};
 ghost use Rattle.std.specs.List.{list_all, slice_split};
-ghost use Rattle.spf_id.specs.Rule.{is_slash, is_path_octet, segment_rule, segments_of, segments_rule};
+ghost use Rattle.spf_id.specs.Rule.{is_slash, is_path_octet, segment_rule, segments_of};
+ghost use Rattle.spf_id.specs.Rule.{segments_rule};
 
 use crate::error::SpiffeIdError;
 use crate::separator::cut;

@@ -12,7 +12,8 @@ use std::fmt;
 use std::hash::{Hash, Hasher};
 use std::marker::Model;
 
-/// A SPIFFE ID, which contracts see as its trust domain and its path. Its equality, order and hash are those of its text.
+/// A SPIFFE ID, which contracts see as its trust domain and its
+/// path. Its equality, order and hash are those of its text.
 #[derive(Debug, PartialEq, Eq, PartialOrd, Ord, Drop)]
 pub struct SpiffeId {
     text: Text,
@@ -29,7 +30,8 @@ impl Model for SpiffeId {
 
     ghost view = { λ a. record { domain = a.domain; path = drop (9 + length a.domain) a.text } };
 
-    ghost invariant = { λ a. IsTextOf (record { domain = a.domain; path = drop (9 + length a.domain) a.text }) a.text };
+    ghost invariant = { λ a.
+        IsTextOf (record { domain = a.domain; path = drop (9 + length a.domain) a.text }) a.text };
 
     ghost inverse = { λ v. record { text = id_text v; domain = v.domain } };
 

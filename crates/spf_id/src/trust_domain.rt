@@ -56,7 +56,8 @@ fn is_read_as_id(octets: &[u8]) -> bool
 /// The name in a text, or the first broken rule.
 #[tactic(auto, unfolding(crate::specs::Rule::name_rule))]
 fn name_in(text: &str) -> Result<&str, SpiffeIdError>
-    ensures { MatchResult result (λ name. name_rule text.now ≡ Ok name.now) (λ e. name_rule text.now ≡ Err e) }
+    ensures { MatchResult result (λ name. name_rule text.now ≡ Ok name.now)
+        (λ e. name_rule text.now ≡ Err e) }
 {
     if is_read_as_id(text.as_bytes()) {
         let (domain, _) = parts(text)?;
@@ -70,7 +71,8 @@ fn name_in(text: &str) -> Result<&str, SpiffeIdError>
 }
 
 impl TrustDomain {
-    /// The trust domain that a text names. A text that holds `:/` is read as an ID, and its trust domain is taken.
+    /// The trust domain that a text names. A text that holds
+    /// `:/` is read as an ID, and its trust domain is taken.
     pub fn new(alloc: Global, text: &str) -> Result<TrustDomain, SpiffeIdError>
         ensures { Gives is_memory (λ t. t) result (name_rule text.now) }
     {

@@ -1,4 +1,5 @@
--- An equality test that decides `≡`: for lists of values whose test does, and so for texts and bytes.
+-- An equality test that decides `≡`: for lists of
+-- values whose test does, and so for texts and bytes.
 use Rattle.std.proofs.Common.{Bool, ℕ, nat_eq, List, refl}
 use Rattle.std.specs.Cmp.Lexicographic.{pointwise}
 use Rattle.std.proofs.lemmas.Bool.Decides.{Decides-eqb}

@@ -1,11 +1,13 @@
--- How memory answers at named values, and rules in order.
-use Rattle.std.proofs.Common.{◌≡◌, ℕ, zero, suc, ◌^◌, ◌-◌, true, false, refl, List, [], ◌∷◌, Result, Ok, Err}
+-- A source and a sink in memory at named values, and rules in order.
+use Rattle.std.proofs.Common.{◌≡◌, ℕ, zero, suc, ◌^◌, ◌-◌, true, false, refl, List, [], ◌∷◌, Result}
+use Rattle.std.proofs.Common.{Ok, Err}
 use Rattle.spf_io.specs.Memory.{MemoryRead, MemoryPut, next_number, given, is_failing, is_refused}
 use Rattle.spf_io.specs.Rule.{each, many}
 
 -- four bytes, the cuts 1 and 0, and the third read failing
 source : ℕ → List ℕ → MemoryRead
-source reads left = record { left = left; cuts = 1 ∷ 0 ∷ []; failing = 3 ∷ []; reads = reads; failures = 0 }
+source reads left =
+    record { left = left; cuts = 1 ∷ 0 ∷ []; failing = 3 ∷ []; reads = reads; failures = 0 }
 
 first_cut : given (source 0 (1 ∷ 2 ∷ 3 ∷ 4 ∷ [])) 8 ≡ 1
 unfolding source

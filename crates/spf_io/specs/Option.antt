@@ -1,4 +1,4 @@
--- Steps of a reader: each may find nothing, and then nothing is found.
+-- Optional steps in order: where one finds nothing, nothing is found.
 use Rattle.std.specs.Prelude.{Option, Some, None}
 
 infixl 10 ◌>>=◌

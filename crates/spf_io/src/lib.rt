@@ -1,5 +1,5 @@
-//! What every crate stands on: the relation between a result and a rule, small values that contracts see as lists, and
-//! the sources and sinks through which the outside is reached.
+//! What every crate stands on: the relation between a result and a rule, small values that
+//! contracts see as lists, and the sources and sinks through which the outside is reached.
 #![tactic(auto)]
 
 mod bytes;

@@ -1,6 +1,7 @@
 //! What bytes are put to.
 
-ghost use Rattle.std.specs.Prelude.{◌≡◌, ◌↔◌, ◌++◌, ℕ, List, Option, [], Some, IfOk, IsErr, IsTrue, OnErr, length};
+ghost use Rattle.std.specs.Prelude.{◌≡◌, ◌↔◌, ◌++◌, ℕ, List, Option, [], Some, IfOk, IsErr, IsTrue};
+ghost use Rattle.std.specs.Prelude.{OnErr, length};
 ghost use Rattle.spf_io.specs.Memory.{failures_after, is_refused, next_number};
 ghost use Rattle.spf_io.specs.Outside.{HasCause, PutAppends};
 
@@ -22,7 +23,7 @@ pub trait Sink {
         ensures cause { HasCause (failures self.old) (failures self.new) result };
 }
 
-/// A sink in memory with room for a number of bytes, whose puts fail where they are told to.
+/// A sink in memory with room for a number of bytes, whose puts fail as configured.
 #[derive(Debug, Drop)]
 pub struct MemSink {
     held: Vec<u8>,
@@ -38,18 +39,31 @@ impl Model for MemSink {
 
     ghost Value = { MemoryPut };
 
-    ghost view = { λ s. record { held = s.held.items; room = s.room; failing = s.failing.items; puts = s.puts; failures = s.failed } };
+    ghost view = { λ s. record {
+      held = s.held.items;
+      room = s.room;
+      failing = s.failing.items;
+      puts = s.puts;
+      failures = s.failed;
+    } };
 
     ghost invariant = { λ s. (vec_len s.held ≤ s.room) × (s.room ≤ vec_capacity s.held) };
 }
 
 impl MemSink {
-    /// Takes its room at once. Put number k, from 1, fails exactly where k is in `failing` or the piece does not fit in
-    /// the room that is left; it then keeps nothing of the piece.
+    /// Takes its room at once. Put number k, from 1, fails exactly where k is in `failing` or the
+    /// piece does not fit in the room that is left; it then keeps nothing of the piece.
     pub fn new(alloc: Global, room: usize, failing: Vec<u64>) -> Result<MemSink, OutOfMemory>
         ensures held { IfOk result (λ s. ⟦<MemSink as Sink>⟧.held s ≡ Some []) }
         ensures failures { IfOk result (λ s. ⟦<MemSink as Sink>⟧.failures s ≡ 0) }
-        ensures made { IfOk result (λ s. s ≡ record { held = []; room = room; failing = failing.items; puts = 0; failures = 0 }) }
+        ensures made { IfOk result
+            (λ s. s ≡ record {
+              held = [];
+              room = room;
+              failing = failing.items;
+              puts = 0;
+              failures = 0;
+            }) }
     {
         let held = Vec::with_capacity(alloc, room)?;
         Ok(MemSink {
@@ -78,7 +92,11 @@ impl Sink for MemSink {
         ensures cause { HasCause self.old.failures self.new.failures result }
         ensures fails { IsErr result ↔ IsTrue (is_refused self.old (length piece.now)) }
         ensures nothing { OnErr result (self.new.held ≡ self.old.held) }
-        ensures counts { self.new ≡ record self.old { held = self.new.held; puts = next_number self.old.puts; failures = failures_after result self.old.failures } }
+        ensures counts { self.new ≡ record self.old {
+          held = self.new.held;
+          puts = next_number self.old.puts;
+          failures = failures_after result self.old.failures;
+        } }
     {
         self.puts = self.puts.saturating_add(1);
         if self.failing.contains(&self.puts) || piece.len() > self.room - self.held.len() {
@@ -92,8 +110,8 @@ impl Sink for MemSink {
     }
 }
 
-/// A sink over a writer of std, whose bytes are known where those of the writer are: not for a file or a terminal. A
-/// write that takes nothing of a piece is a failure.
+/// A sink over a writer of std, whose bytes are known where those of the writer are: not for a file
+/// or a terminal. A write that takes nothing of a piece is a failure.
 #[derive(Debug, Drop)]
 pub struct StdSink<W> {
     writer: W,
@@ -115,9 +133,12 @@ impl<W: Write> Sink for StdSink<W> {
     ghost failures = { λ s. s.failed };
 
     fn put(&mut self, piece: &[u8]) -> Result<(), Failed>
-        ensures bytes { PutAppends (⟦<StdSink<W> as Sink>⟧.held self.old) (⟦<StdSink<W> as Sink>⟧.held self.new) result piece.now }
-        ensures cause { HasCause (⟦<StdSink<W> as Sink>⟧.failures self.old) (⟦<StdSink<W> as Sink>⟧.failures self.new) result }
-        ensures counts { ⟦<StdSink<W> as Sink>⟧.failures self.new ≡ failures_after result (⟦<StdSink<W> as Sink>⟧.failures self.old) }
+        ensures bytes { PutAppends (⟦<StdSink<W> as Sink>⟧.held self.old)
+            (⟦<StdSink<W> as Sink>⟧.held self.new) result piece.now }
+        ensures cause { HasCause (⟦<StdSink<W> as Sink>⟧.failures self.old)
+            (⟦<StdSink<W> as Sink>⟧.failures self.new) result }
+        ensures counts { ⟦<StdSink<W> as Sink>⟧.failures self.new
+            ≡ failures_after result (⟦<StdSink<W> as Sink>⟧.failures self.old) }
     {
         let mut at = 0;
         while at < piece.len() {

@@ -1,6 +1,7 @@
 //! What bytes are read from.
 
-ghost use Rattle.std.specs.Prelude.{◌≡◌, ◌↔◌, ℕ, List, Option, Some, IfOk, IsErr, IsTrue, length, option_map};
+ghost use Rattle.std.specs.Prelude.{◌≡◌, ◌↔◌, ℕ, List, Option, Some, IfOk, IsErr, IsTrue, length};
+ghost use Rattle.std.specs.Prelude.{option_map};
 ghost use Rattle.std.specs.Io.{ReadsAtMost};
 ghost use Rattle.std.specs.Io.KnownBytes.{ReadConsumes};
 ghost use Rattle.spf_io.specs.Memory.{cut_to, given, failures_after, is_failing, next_number};
@@ -24,7 +25,7 @@ pub trait Source {
         ensures cause { HasCause (failures self.old) (failures self.new) result };
 }
 
-/// A source of bytes in memory, whose reads are cut and fail where they are told to.
+/// A source of bytes in memory, whose reads are short and fail as configured.
 #[derive(Debug, Drop)]
 pub struct MemSource {
     bytes: Vec<u8>,
@@ -41,18 +42,30 @@ impl Model for MemSource {
 
     ghost Value = { MemoryRead };
 
-    ghost view = { λ s. record { left = drop s.at s.bytes.items; cuts = s.cuts.items; failing = s.failing.items; reads = s.reads; failures = s.failed } };
+    ghost view = { λ s. record {
+      left = drop s.at s.bytes.items;
+      cuts = s.cuts.items;
+      failing = s.failing.items;
+      reads = s.reads;
+      failures = s.failed;
+    } };
 
     ghost invariant = { λ s. s.at ≤ vec_len s.bytes };
 }
 
 impl MemSource {
-    /// Read number k, from 1, fails if k is in `failing`. Otherwise it returns at most `cuts[k - 1]` bytes, a cut of 0
-    /// counting as 1, and as many as fit after the cuts are used.
+    /// Read number k, from 1, fails if k is in `failing`. Otherwise it returns at most
+    /// `cuts[k - 1]` bytes, a cut of 0 counting as 1, and as many as fit after the cuts are used.
     pub fn new(bytes: Vec<u8>, cuts: Vec<usize>, failing: Vec<u64>) -> MemSource
         ensures left { ⟦<MemSource as Source>⟧.left result ≡ Some bytes.items }
         ensures failures { ⟦<MemSource as Source>⟧.failures result ≡ 0 }
-        ensures made { result ≡ record { left = bytes.items; cuts = cuts.items; failing = failing.items; reads = 0; failures = 0 } }
+        ensures made { result ≡ record {
+          left = bytes.items;
+          cuts = cuts.items;
+          failing = failing.items;
+          reads = 0;
+          failures = 0;
+        } }
     {
         MemSource {
             bytes,
@@ -84,9 +97,14 @@ impl Source for MemSource {
         ensures bound { ReadsAtMost result buf.new }
         ensures bytes { ReadConsumes (Some self.old.left) (Some self.new.left) result buf.new }
         ensures cause { HasCause self.old.failures self.new.failures result }
-        ensures fails { IsErr result ↔ IsTrue (is_failing self.old.failing (next_number self.old.reads)) }
+        ensures fails { IsErr result
+            ↔ IsTrue (is_failing self.old.failing (next_number self.old.reads)) }
         ensures gives { IfOk result (λ n. n ≡ given self.old (length buf.old)) }
-        ensures counts { self.new ≡ record self.old { left = self.new.left; reads = next_number self.old.reads; failures = failures_after result self.old.failures } }
+        ensures counts { self.new ≡ record self.old {
+          left = self.new.left;
+          reads = next_number self.old.reads;
+          failures = failures_after result self.old.failures;
+        } }
     {
         self.reads = self.reads.saturating_add(1);
         if self.failing.contains(&self.reads) {
@@ -101,7 +119,8 @@ impl Source for MemSource {
     }
 }
 
-/// A source over a reader of std, whose bytes are known where those of the reader are: not for a file or a terminal.
+/// A source over a reader of std, whose bytes are known where
+/// those of the reader are: not for a file or a terminal.
 #[derive(Debug, Drop)]
 pub struct StdSource<R> {
     reader: R,
@@ -124,9 +143,12 @@ impl<R: Read> Source for StdSource<R> {
 
     fn read(&mut self, buf: &mut [u8]) -> Result<usize, Failed>
         ensures bound { ReadsAtMost result buf.new }
-        ensures bytes { ReadConsumes (⟦<StdSource<R> as Source>⟧.left self.old) (⟦<StdSource<R> as Source>⟧.left self.new) result buf.new }
-        ensures cause { HasCause (⟦<StdSource<R> as Source>⟧.failures self.old) (⟦<StdSource<R> as Source>⟧.failures self.new) result }
-        ensures counts { ⟦<StdSource<R> as Source>⟧.failures self.new ≡ failures_after result (⟦<StdSource<R> as Source>⟧.failures self.old) }
+        ensures bytes { ReadConsumes (⟦<StdSource<R> as Source>⟧.left self.old)
+            (⟦<StdSource<R> as Source>⟧.left self.new) result buf.new }
+        ensures cause { HasCause (⟦<StdSource<R> as Source>⟧.failures self.old)
+            (⟦<StdSource<R> as Source>⟧.failures self.new) result }
+        ensures counts { ⟦<StdSource<R> as Source>⟧.failures self.new
+            ≡ failures_after result (⟦<StdSource<R> as Source>⟧.failures self.old) }
     {
         match self.reader.read(buf) {
             Ok(n) => Ok(n),

@@ -18,4 +18,5 @@ grown current max_delay word = jittered (min (2 * current) max_delay) word
 
 -- the same while no identity is issued: from one second on, up to ten
 abbrev pub grown_without_identity : ℕ → ℕ → ℕ → ℕ
-grown_without_identity current max_delay word = grown (max current 1_000) (min max_delay 10_000) word
+grown_without_identity current max_delay word =
+    grown (max current 1_000) (min max_delay 10_000) word

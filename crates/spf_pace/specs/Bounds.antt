@@ -6,7 +6,8 @@ use Rattle.spf_pace.specs.declared.reconnect_config.ReconnectConfig.{ReconnectCo
 -- the bounds, swapped where the least is above the greatest
 abbrev pub normalized : ReconnectConfig → ReconnectConfig
 normalized bounds =
-    if nat_lt (as_nanos bounds.max_backoff) (as_nanos bounds.min_backoff) then record { min_backoff = bounds.max_backoff; max_backoff = bounds.min_backoff }
+    if nat_lt (as_nanos bounds.max_backoff) (as_nanos bounds.min_backoff)
+    then record { min_backoff = bounds.max_backoff; max_backoff = bounds.min_backoff }
     else bounds
 
 -- 200 milliseconds to 10 seconds

@@ -1,7 +1,11 @@
 -- Errors of one kind in a row.
-use Rattle.std.specs.Prelude.{◌+◌, ◌-◌, ◌^◌, min, Bool, true, false, nat_lt, if◌then◌else◌, Option, None, Some}
+use Rattle.std.specs.Prelude.{◌+◌, ◌-◌, ◌^◌, min, Bool, true, false, nat_lt, if◌then◌else◌, Option}
+use Rattle.std.specs.Prelude.{None, Some}
 use Rattle.spf_pace.specs.declared.error_tracker.ErrorKey.{ErrorKey}
-use Rattle.spf_pace.specs.declared.error_tracker.ErrorKey.TheVariants.{ClientCreation, StreamConnect, UpdateRejected, NoIdentityIssued}
+use Rattle.spf_pace.specs.declared.error_tracker.ErrorKey.TheVariants.{ClientCreation}
+use Rattle.spf_pace.specs.declared.error_tracker.ErrorKey.TheVariants.{StreamConnect}
+use Rattle.spf_pace.specs.declared.error_tracker.ErrorKey.TheVariants.{UpdateRejected}
+use Rattle.spf_pace.specs.declared.error_tracker.ErrorKey.TheVariants.{NoIdentityIssued}
 use Rattle.spf_pace.specs.declared.error_tracker.ErrorTracker.{ErrorTracker}
 
 abbrev pub same_key : ErrorKey → ErrorKey → Bool

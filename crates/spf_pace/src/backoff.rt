@@ -2,7 +2,8 @@
 
 ghost use Rattle.std.specs.Prelude.{◌≡◌, ◌*◌};
 ghost use Rattle.std.specs.Duration.{as_nanos};
-ghost use Rattle.spf_pace.specs.Backoff.{millis as millis_of, grown as grown_of, grown_without_identity, NANOS_PER_MILLI};
+ghost use Rattle.spf_pace.specs.Backoff.{millis as millis_of, grown as grown_of};
+ghost use Rattle.spf_pace.specs.Backoff.{grown_without_identity, NANOS_PER_MILLI};
 
 use std::time::Duration;
 
@@ -28,17 +29,22 @@ fn grown(current: u64, max: u64, word: u64) -> u64
     base - jitter + word % (jitter + 1)
 }
 
-/// The delay after `current`: twice as long, at most `max`, in whole milliseconds, less a part of its tenth that the random
+/// The delay after `current`: twice as long, at most `max`, in
+/// whole milliseconds, less a part of its tenth that the random
 /// `word` chooses.
 pub fn next_backoff(current: Duration, max: Duration, word: u64) -> Duration
-    ensures { as_nanos result ≡ grown_of (millis_of (as_nanos current)) (millis_of (as_nanos max)) word * NANOS_PER_MILLI }
+    ensures { as_nanos result
+        ≡ grown_of (millis_of (as_nanos current)) (millis_of (as_nanos max)) word
+        * NANOS_PER_MILLI }
 {
     Duration::from_millis(grown(millis(current), millis(max), word))
 }
 
 /// The same while no identity is issued: from at least one second on, and up to at most ten.
 pub fn next_backoff_for_no_identity(current: Duration, max: Duration, word: u64) -> Duration
-    ensures { as_nanos result ≡ grown_without_identity (millis_of (as_nanos current)) (millis_of (as_nanos max)) word * NANOS_PER_MILLI }
+    ensures { as_nanos result
+        ≡ grown_without_identity (millis_of (as_nanos current)) (millis_of (as_nanos max)) word
+        * NANOS_PER_MILLI }
 {
     let current = millis(current).max(MIN_WITHOUT_IDENTITY);
     let max = millis(max).min(MAX_WITHOUT_IDENTITY);

@@ -36,7 +36,8 @@ impl ErrorTracker {
         }
     }
 
-    /// Whether the error is news: its kind differs from that of the last one, or fewer than `max` of its kind came in a row.
+    /// Whether the error is news: its kind differs from that of the
+    /// last one, or fewer than `max` of its kind came in a row.
     pub fn record_error(&mut self, key: ErrorKey) -> bool
         ensures news { result ≡ is_news self.old key }
         ensures count { self.new ≡ tracked_after self.old key }

@@ -6,7 +6,8 @@ ghost use Rattle.spf_pace.specs.Bounds.{normalized};
 
 use crate::reconnect_config::ReconnectConfig;
 
-/// A grown delay lies between its base less a tenth and its base, the smaller of twice the current and the greatest delay.
+/// A grown delay lies between its base less a tenth and its base,
+/// the smaller of twice the current and the greatest delay.
 pub fn jitter_is_a_tenth()
     ensures { (current max_delay word : ℕ) → let base = min (2 * current) max_delay in
         (base - base / 10 ≤ grown current max_delay word) × (grown current max_delay word ≤ base) }

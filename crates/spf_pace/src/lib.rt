@@ -1,5 +1,6 @@
-//! How long a live source pauses between attempts, and how often it has met the same error. Nothing here takes memory or
-//! looks at a clock: delays, and the random words for their jitter, are values.
+//! How long a live source pauses between attempts, and how often it
+//! has met the same error. Nothing here takes memory or looks at a
+//! clock: delays, and the random words for their jitter, are values.
 #![tactic(auto)]
 
 mod backoff;

@@ -2,7 +2,8 @@
 
 ghost use Rattle.std.specs.Prelude.{◌≡◌, [], ◌∷◌, List};
 ghost use Rattle.std.specs.Duration.{as_nanos};
-ghost use Rattle.spf_pace.specs.Delays.{PaceStep, Synchronised, Ended, StandsAfter, does_grow, grown_at, delays_of};
+ghost use Rattle.spf_pace.specs.Delays.{PaceStep, Synchronised, Ended, StandsAfter, does_grow};
+ghost use Rattle.spf_pace.specs.Delays.{grown_at, delays_of};
 ghost use Rattle.spf_pace.specs.Delays as spec;
 
 use crate::backoff::{next_backoff, next_backoff_for_no_identity};
@@ -47,7 +48,8 @@ fn pauses_grown(synchronised: bool, end: AttemptEnd) -> bool
     }
 }
 
-/// The delay between attempts: it grows with failures, and begins again at the least once updates are accepted.
+/// The delay between attempts: it grows with failures, and
+/// begins again at the least once updates are accepted.
 #[derive(Clone, Copy)]
 pub struct Pacer {
     bounds: ReconnectConfig,
@@ -70,7 +72,8 @@ impl Pacer {
 
     /// An update was accepted: the delay is the least again.
     pub fn synchronised(&mut self)
-        ensures { (bounds : ReconnectConfig) (past : List PaceStep) → StandsAfter bounds past self.old → StandsAfter bounds (Synchronised ∷ past) self.new }
+        ensures { (bounds : ReconnectConfig) (past : List PaceStep)
+            → StandsAfter bounds past self.old → StandsAfter bounds (Synchronised ∷ past) self.new }
     {
         self.current = self.bounds.min_backoff;
         self.synchronised = true;
@@ -88,7 +91,9 @@ impl Pacer {
 
     /// The delay grown once.
     fn grown(&self, end: AttemptEnd, word: u64) -> Duration
-        ensures { as_nanos result ≡ grown_at self.now.synchronised end (as_nanos self.now.current) (as_nanos self.now.bounds.max_backoff) word }
+        ensures { as_nanos result
+            ≡ grown_at self.now.synchronised end (as_nanos self.now.current)
+            (as_nanos self.now.bounds.max_backoff) word }
     {
         if grows_without_identity(self.synchronised, end) {
             return next_backoff_for_no_identity(self.current, self.bounds.max_backoff, word);
@@ -98,8 +103,12 @@ impl Pacer {
 
     /// The pause after an attempt that ended so. The word is used exactly where the delay grows.
     pub fn after(&mut self, end: AttemptEnd, word: u64) -> Duration
-        ensures pause { (bounds : ReconnectConfig) (past : List PaceStep) → StandsAfter bounds past self.old → delays_of bounds (Ended end word ∷ past) ≡ as_nanos result ∷ delays_of bounds past }
-        ensures stands { (bounds : ReconnectConfig) (past : List PaceStep) → StandsAfter bounds past self.old → StandsAfter bounds (Ended end word ∷ past) self.new }
+        ensures pause { (bounds : ReconnectConfig) (past : List PaceStep)
+            → StandsAfter bounds past self.old
+            → delays_of bounds (Ended end word ∷ past) ≡ as_nanos result ∷ delays_of bounds past }
+        ensures stands { (bounds : ReconnectConfig) (past : List PaceStep)
+            → StandsAfter bounds past self.old
+            → StandsAfter bounds (Ended end word ∷ past) self.new }
     {
         if !self.grows(end) {
             self.current = self.bounds.min_backoff;

@@ -1,5 +1,6 @@
 -- What a clock gives.
-use Rattle.std.specs.Prelude.{◌≡◌, ℤ, pos, int_le, List, [], ◌∷◌, map, Option, None, Some, if◌then◌else◌}
+use Rattle.std.specs.Prelude.{◌≡◌, ℤ, pos, int_le, List, [], ◌∷◌, map, Option, None, Some}
+use Rattle.std.specs.Prelude.{if◌then◌else◌}
 
 -- a moment from 0 on; a negative one is none
 abbrev pub moment_of : Option ℤ → Option ℤ

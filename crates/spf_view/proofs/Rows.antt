@@ -62,7 +62,8 @@ large = record { size = 10; expiry = pos 1000 }
 
 abbrev recovery : List Event
 recovery =
-    Moment (pos 999) ∷ Other ∷ Other ∷ Update (Some one) ∷ Other ∷ Other ∷ Refused 7 ∷ Other ∷ Other ∷ Update None ∷ Other ∷ Other ∷ Update (Some large) ∷ Other ∷ Other ∷ Update (Some one)
+    Moment (pos 999) ∷ Other ∷ Other ∷ Update (Some one) ∷ Other ∷ Other ∷ Refused 7 ∷ Other ∷ Other
+    ∷ Update None ∷ Other ∷ Other ∷ Update (Some large) ∷ Other ∷ Other ∷ Update (Some one)
     ∷ []
 
 before : view_at small recovery 3 ≡ Waiting
@@ -100,12 +101,15 @@ waiting_first = refl
 expired : view_at small (Moment (pos 1000) ∷ Update (Some one) ∷ []) 2 ≡ Waiting
 expired = refl
 
-no_moment : (view_at small (Update (Some one) ∷ Moment (pos 0) ∷ Update (Some one) ∷ []) 1 ≡ Waiting) × (view_at small (Update (Some one) ∷ Moment (pos 0) ∷ Update (Some one) ∷ []) 3 ≡ Permitted one)
+no_moment : (view_at small (Update (Some one) ∷ Moment (pos 0) ∷ Update (Some one) ∷ []) 1
+    ≡ Waiting) × (view_at small (Update (Some one) ∷ Moment (pos 0) ∷ Update (Some one) ∷ []) 3
+    ≡ Permitted one)
 no_moment = (refl, refl)
 
 -- ---- the same material again keeps the older one
 
-older : replay_held {L = ℕ} {D = ℕ} small.is_same (Accept one 9 ∷ (Accept (record { size = 1; expiry = pos 2000 }) 9 ∷ [])) ≡ Some one
+older : replay_held {L = ℕ} {D = ℕ} small.is_same
+    (Accept one 9 ∷ (Accept (record { size = 1; expiry = pos 2000 }) 9 ∷ [])) ≡ Some one
 older = refl
 
 newer : replay_held {L = ℕ} {D = ℕ} small.is_same (Accept one 9 ∷ (Accept two 9 ∷ [])) ≡ Some two

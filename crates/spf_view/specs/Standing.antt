@@ -1,7 +1,10 @@
 -- What a snapshot keeps, and the steps that it stands for.
-use Rattle.std.specs.Prelude.{◌≡◌, ℕ, ◌+◌, ◌-◌, ◌^◌, min, ℤ, Bool, true, false, not, if◌then◌else◌, List, [], reverse, Option, None, Some, is_some}
-use Rattle.spf_view.specs.Views.{Subject, View, Waiting, Withdrawn, Permitted, has_synced, last_moment}
-use Rattle.spf_view.specs.Steps.{Step, Accept, Deny, steps_of, replay_view, replay_revision, replay_held}
+use Rattle.std.specs.Prelude.{◌≡◌, ℕ, ◌+◌, ◌-◌, ◌^◌, min, ℤ, Bool, true, false, not, if◌then◌else◌}
+use Rattle.std.specs.Prelude.{List, [], reverse, Option, None, Some, is_some}
+use Rattle.spf_view.specs.Views.{Subject, View, Waiting, Withdrawn, Permitted, has_synced}
+use Rattle.spf_view.specs.Views.{last_moment}
+use Rattle.spf_view.specs.Steps.{Step, Accept, Deny, steps_of, replay_view, replay_revision}
+use Rattle.spf_view.specs.Steps.{replay_held}
 
 abbrev pub reason_of : {M D : Type 0} → View M D → Option D
 reason_of Waiting = None
@@ -13,9 +16,11 @@ held_in Waiting = None
 held_in (Withdrawn d) = None
 held_in (Permitted m) = Some m
 
--- The revision, the held material and the reason of a withdrawal are those that a list of steps makes. (The view of the
--- last step may have other material than the held one; the two are the same.)
-pub record StandsFor {M L D : Type 0} (E : M → M → Bool) (steps : List (Step M L D)) (revision : ℕ) (held : Option M) (reason : Option D) : Type 0 where
+-- The revision, the held material and the reason of a withdrawal
+-- are those that a list of steps makes. (The view of the last step
+-- may have other material than the held one; the two are the same.)
+pub record StandsFor {M L D : Type 0} (E : M → M → Bool) (steps : List (Step M L D)) (revision : ℕ)
+    (held : Option M) (reason : Option D) : Type 0 where
   pub revision_is : revision ≡ replay_revision E steps
   pub held_is : held ≡ replay_held E steps
   pub reason_is : reason ≡ reason_of (replay_view steps)
@@ -30,7 +35,8 @@ abbrev pub Stands : {M L D : Type 0} → (M → M → Bool) → List (Step M L D
 Stands E steps kept = StandsFor E steps kept.revision (held_in kept.view) (reason_of kept.view)
 
 -- what is kept, where anything is, stands for these steps
-abbrev pub StandsIf : {M L D : Type 0} → (M → M → Bool) → List (Step M L D) → Option (Kept M D) → Type 0
+abbrev pub StandsIf : {M L D : Type 0} → (M → M → Bool) → List (Step M L D) → Option (Kept M D)
+    → Type 0
 StandsIf E steps None = steps ≡ []
 StandsIf E steps (Some kept) = Stands E steps kept
 
@@ -56,12 +62,17 @@ IsShowing (Permitted m) = Unit {0}
 abbrev pub raised : ℕ → ℕ
 raised r = min (r + 1) (2 ^ 64 - 1)
 
--- What is kept after one more step: where nothing changes it stays, and so unchanged material keeps the older one.
+-- What is kept after one more step: where nothing changes
+-- it stays, and so unchanged material keeps the older one.
 abbrev pub kept_next : {M L D : Type 0} → (M → M → Bool) → Kept M D → Step M L D → Kept M D
-kept_next E kept s = if is_change E kept.view s then (record { revision = raised kept.revision; view = shown_by s }) else kept
+kept_next E kept s =
+    if is_change E kept.view s then (record { revision = raised kept.revision; view = shown_by s })
+    else kept
 
--- Where a session stands after these events: what it keeps says whether one was accepted and stands for their steps.
-pub record KeptAfter {E M L D : Type 0} (s : Subject E M L D) (events : List E) (now : Option ℤ) (kept : Option (Kept M D)) : Type 0 where
+-- Where a session stands after these events: what it keeps
+-- says whether one was accepted and stands for their steps.
+pub record KeptAfter {E M L D : Type 0} (s : Subject E M L D) (events : List E) (now : Option ℤ)
+    (kept : Option (Kept M D)) : Type 0 where
   pub synced : has_synced s (reverse events) ≡ is_some kept
   pub moment : last_moment s (reverse events) ≡ now
   pub stands : StandsIf s.is_same (steps_of s events) kept

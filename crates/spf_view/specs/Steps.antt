@@ -1,7 +1,10 @@
--- The steps that a session publishes, and what a list of steps makes visible. The oldest step is the first.
-use Rattle.std.specs.Prelude.{ℕ, ℤ, Bool, true, false, ◌&&◌, IsTrue, if◌then◌else◌, List, [], ◌∷◌, map, reverse, Option, None, Some}
+-- The steps that a session publishes, and what a list
+-- of steps makes visible. The oldest step is the first.
+use Rattle.std.specs.Prelude.{ℕ, ℤ, Bool, true, false, ◌&&◌, IsTrue, if◌then◌else◌, List, [], ◌∷◌}
+use Rattle.std.specs.Prelude.{map, reverse, Option, None, Some}
 use Rattle.std.specs.List.{AllByRecursion}
-use Rattle.spf_view.specs.Views.{Subject, Outcome, Accepted, Denied, Passed, View, outcomes, outcome_with, view_of, revision_of}
+use Rattle.spf_view.specs.Views.{Subject, Outcome, Accepted, Denied, Passed, View, outcomes}
+use Rattle.spf_view.specs.Views.{outcome_with, view_of, revision_of}
 
 -- material that was accepted with the limits that it keeps, or the reason of a denial
 pub data Step (M L D : Type 0) : Type 0 where
@@ -14,8 +17,10 @@ step_in l (Accepted m) = Some (Accept m l)
 step_in l (Denied d) = Some (Deny d)
 step_in l Passed = None
 
--- the step of an event, where `synced` says whether one before it is accepted and `now` is the last moment before it
-abbrev pub step_with : {E M L D : Type 0} → Subject E M L D → Bool → Option ℤ → E → Option (Step M L D)
+-- the step of an event, where `synced` says whether one before
+-- it is accepted and `now` is the last moment before it
+abbrev pub step_with : {E M L D : Type 0} → Subject E M L D → Bool → Option ℤ → E
+    → Option (Step M L D)
 step_with s synced now e = step_in s.limits (outcome_with s synced now e)
 
 -- the steps of outcomes, newest first

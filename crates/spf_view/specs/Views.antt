@@ -1,7 +1,9 @@
--- Which events of a session are accepted, and what they make visible. E are the events, M is the material of an
--- accepted item with its choice, L are the limits, and D the reasons of a denial. Lists called `past` have the newest
--- first, so that looking back is recursion on the list.
-use Rattle.std.specs.Prelude.{ℕ, zero, suc, slice_get, ◌+◌, ◌-◌, ◌^◌, min, Bool, true, false, ◌||◌, if◌then◌else◌, ℤ, List, [], ◌∷◌, take, reverse, Option, None, Some, is_some}
+-- Which events of a session are accepted, and what they make visible. E are the events, M is the
+-- material of an accepted item with its choice, L are the limits, and D the reasons of a denial.
+-- Lists called `past` have the newest first, so that looking back is recursion on the list.
+use Rattle.std.specs.Prelude.{ℕ, zero, suc, slice_get, ◌+◌, ◌-◌, ◌^◌, min, Bool, true, false, ◌||◌}
+use Rattle.std.specs.Prelude.{if◌then◌else◌, ℤ, List, [], ◌∷◌, take, reverse, Option, None, Some}
+use Rattle.std.specs.Prelude.{is_some}
 use Rattle.std.specs.Option.{option_or, option_map_or}
 
 -- ---- events
@@ -41,14 +43,17 @@ abbrev pub last_moment : {E M L D : Type 0} → Subject E M L D → List E → O
 last_moment s [] = None
 last_moment s (e ∷ past) = option_or (s.moment e) (last_moment s past)
 
--- What an event brings, where it is accepted. `synced` says whether one before it is, `now` is the last moment before it.
+-- What an event brings, where it is accepted. `synced` says
+-- whether one before it is, `now` is the last moment before it.
 abbrev pub brings : {E M L D : Type 0} → Subject E M L D → Bool → Option ℤ → E → Option M
-brings s synced now e = keep_if (λ m. synced || s.may_sync m now) (keep_if (s.is_within s.limits) (s.parsed e))
+brings s synced now e =
+    keep_if (λ m. synced || s.may_sync m now) (keep_if (s.is_within s.limits) (s.parsed e))
 
 -- one of these is accepted
 abbrev pub has_synced : {E M L D : Type 0} → Subject E M L D → List E → Bool
 has_synced s [] = false
-has_synced s (e ∷ past) = is_some (brings s (has_synced s past) (last_moment s past) e) || has_synced s past
+has_synced s (e ∷ past) =
+    is_some (brings s (has_synced s past) (last_moment s past) e) || has_synced s past
 
 -- a status denies only after an accepted event
 abbrev pub denied_or_passed : {M D : Type 0} → Bool → Option D → Outcome M D
@@ -56,7 +61,8 @@ denied_or_passed synced None = Passed
 denied_or_passed synced (Some d) = if synced then Denied d else Passed
 
 abbrev pub outcome_with : {E M L D : Type 0} → Subject E M L D → Bool → Option ℤ → E → Outcome M D
-outcome_with s synced now e = option_map_or Accepted (brings s synced now e) (denied_or_passed synced (s.denial e))
+outcome_with s synced now e =
+    option_map_or Accepted (brings s synced now e) (denied_or_passed synced (s.denial e))
 
 -- what becomes of an event after these
 abbrev pub outcome : {E M L D : Type 0} → Subject E M L D → E → List E → Outcome M D
@@ -146,7 +152,9 @@ revision_at s events k = revision_after s (take k events)
 abbrev pub moment_at : {E M L D : Type 0} → Subject E M L D → List E → ℕ → Option ℤ
 moment_at s events k = moment_after s (take k events)
 
--- What becomes of event k: it is accepted where this is `Accepted m`, and a denial where it is `Denied d`.
+-- What becomes of event k: it is accepted where this is
+-- `Accepted m`, and a denial where it is `Denied d`.
 abbrev pub outcome_at : {E M L D : Type 0} → Subject E M L D → List E → ℕ → Outcome M D
 outcome_at s events zero = Passed
-outcome_at s events (suc k) = option_map_or (λ e. outcome_after s (take k events) e) (slice_get events k) Passed
+outcome_at s events (suc k) =
+    option_map_or (λ e. outcome_after s (take k events) e) (slice_get events k) Passed

@@ -8,5 +8,7 @@ pub returns : goal.returns
 unfolding IsIpv4OfBits
 returns c =
     c.in_ok-format.ensures.ok
-    ∙ ap (λ (octets : List ℕ). codes "http://" ++ (ipv4_text octets ++ 58 ∷ decimal c.args.port)) c.from_bits-address.ensures
-    ∙ ap (λ (rest : List ℕ). codes "http://" ++ rest) (sym (append_assoc (ipv4_text (to_be_bytes w32 c.args.bits)) (58 ∷ []) (decimal c.args.port)))
+    ∙ ap (λ (octets : List ℕ). codes "http://" ++ (ipv4_text octets ++ 58 ∷ decimal c.args.port))
+    c.from_bits-address.ensures
+    ∙ ap (λ (rest : List ℕ). codes "http://" ++ rest)
+    (sym (append_assoc (ipv4_text (to_be_bytes w32 c.args.bits)) (58 ∷ []) (decimal c.args.port)))

@@ -9,5 +9,10 @@ returns-clause-parts c = Decides-at c.eq.result _ c.eq.ensures (id_exact c.args.
 
 pub returns-clause-text : goal.returns-clause-text
 returns-clause-text c =
-    let parts = Decides-at c.eq.result _ c.eq.ensures (id_exact c.args.a.now c.args.b.now) in
-    (λ h. ap id_text (parts.0 h), λ e. parts.1 (one_id c.args.a.now c.args.b.now c.as_str-a.result.now c.as_str-b.result.now c.as_str-a.ensures.text c.as_str-a.ensures.rule c.as_str-b.ensures.text c.as_str-b.ensures.rule e))
+    let parts = Decides-at c.eq.result _ c.eq.ensures (id_exact c.args.a.now c.args.b.now) in (
+      λ h. ap id_text (parts.0 h),
+      λ e. parts.1
+          (one_id c.args.a.now c.args.b.now c.as_str-a.result.now c.as_str-b.result.now
+          c.as_str-a.ensures.text c.as_str-a.ensures.rule c.as_str-b.ensures.text
+          c.as_str-b.ensures.rule e),
+    )

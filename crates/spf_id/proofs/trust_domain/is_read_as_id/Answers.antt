@@ -10,9 +10,11 @@ returns-in-None c =
 pub returns-then-begins_with_slash : goal.returns-then-begins_with_slash
 returns-then-begins_with_slash c =
     let cut = rw c.in-Some.is at c.cut.ensures.rest in
-    sym (colon_found c.loop-after.rest.now c.in-Some.after.now cut.0 cut.1 (sym c.if-begins_with_slash.ensures)) ∙ c.loop-after.invariant
+    sym (colon_found c.loop-after.rest.now c.in-Some.after.now cut.0 cut.1
+    (sym c.if-begins_with_slash.ensures)) ∙ c.loop-after.invariant
 
 pub loop-after-preserved : goal.loop-after-preserved
 loop-after-preserved c =
     let cut = rw c.in-Some.is at c.cut.ensures.rest in
-    sym (colon_passed c.loop-after.rest.now c.in-Some.after.now cut.0 cut.1 (sym c.if-begins_with_slash.ensures)) ∙ c.loop-after.invariant
+    sym (colon_passed c.loop-after.rest.now c.in-Some.after.now cut.0 cut.1
+    (sym c.if-begins_with_slash.ensures)) ∙ c.loop-after.invariant

@@ -1,5 +1,6 @@
--- How a `List<T>` may stand inside the type T itself, as in a tree whose nodes keep a list of nodes: a list of values is
--- laid out as its vector is, and renaming what stands in T renames it in the list.
+-- How a `List<T>` may stand inside the type T itself, as in a tree
+-- whose nodes keep a list of nodes: a list of values is laid out as
+-- its vector is, and renaming what stands in T renames it in the list.
 use mathlib.Core.Path.{◌≡◌, refl, sym}
 use mathlib.Core.List.{List, []}
 use mathlib.Core.Former.{Former, this, list, via, children}
@@ -34,20 +35,28 @@ the_empty = []
 abbrev pub the_items : (X : Type 0) → List X → List X
 the_items X members = members
 
-pub the_items_listed : (X : Type 0) (members : List X) → listed _ (children (the_former this) X members) ≡ the_items X members
+pub the_items_listed : (X : Type 0) (members : List X)
+    → listed _ (children (the_former this) X members) ≡ the_items X members
 the_items_listed X members = list-listed X members
 
 -- the struct around the vector
 abbrev around : Former {0}
-around = via (vector.the_former this Global) Inside (λ X l. l.items) (λ X v. record { items = v }) (λ X l. refl) (λ X v. refl)
+around = via (vector.the_former this Global) Inside (λ X l. l.items) (λ X v. record { items = v })
+    (λ X l. refl) (λ X v. refl)
 
 -- the laws of the layout, at a map from one type of members to another
 module _ (A B : RattleType) (f : A.Denot → B.Denot) where
-  pub the_places : Alike A B f → Alike (whole.the_row A) (whole.the_row B) ((the_former this).map A.Denot B.Denot f)
-  the_places alike = view_places around (list this) view (λ X Y k u. refl) (λ X u. refl) A.Denot B.Denot f (whole.the_row A).coded (whole.the_row B).coded
-      (invariant A.Denot) (invariant B.Denot) (λ u p q. refl) (λ u p q. refl) (λ u e. tt) (λ u e. tt)
+  pub the_places : Alike A B f
+      → Alike (whole.the_row A) (whole.the_row B) ((the_former this).map A.Denot B.Denot f)
+  the_places alike =
+      view_places around (list this) view (λ X Y k u. refl) (λ X u. refl) A.Denot B.Denot f
+      (whole.the_row A).coded (whole.the_row B).coded
+      (invariant A.Denot) (invariant B.Denot) (λ u p q. refl) (λ u p q. refl) (λ u e. tt)
+      (λ u e. tt)
       (over (inner.the_row A)) (over (inner.the_row B))
-      (struct_places (inner.the_type A) (inner.the_type B) (vector.mapped f, tt) _ (λ d. refl) refl (laid _ _ _ (vector.the_places global.the_row ghosts A B f alike), tt))
+      (struct_places (inner.the_type A) (inner.the_type B) (vector.mapped f, tt) _ (λ d. refl) refl
+      (laid _ _ _ (vector.the_places global.the_row ghosts A B f alike), tt))
 
-  pub the_codes_placed : Recodes A B f → Recodes (whole.the_row A) (whole.the_row B) ((the_former this).map A.Denot B.Denot f)
+  pub the_codes_placed : Recodes A B f
+      → Recodes (whole.the_row A) (whole.the_row B) ((the_former this).map A.Denot B.Denot f)
   the_codes_placed recodes d = sym (code_map A.coded.code B.coded.code f (λ x. sym (recodes x)) d)

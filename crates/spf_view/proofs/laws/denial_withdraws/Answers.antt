@@ -5,4 +5,8 @@ use Rattle.spf_view.proofs.AfterLemmas.{view_denied, revision_denied}
 use Rattle.spf_view.proofs.laws.denial_withdraws.Goals as goal
 
 pub returns : goal.returns
-returns g c = λ s events e m d w h. (view_denied s events e m d w h, λ below. revision_denied s events e m d w h ∙ raised_below (revision_after s events) below)
+returns g c =
+    λ s events e m d w h. (
+      view_denied s events e m d w h,
+      λ below. revision_denied s events e m d w h ∙ raised_below (revision_after s events) below,
+    )

@@ -6,4 +6,6 @@ use Rattle.spf_view.proofs.laws.revision_counts_changes.Goals as goal
 
 pub returns : goal.returns
 returns g c = λ s events e m n w h below.
-    revision_accepted s events e m n w h ∙ ap (cond (s.is_same m n) (revision_after s events)) (raised_below (revision_after s events) below)
+    revision_accepted s events e m n w h
+    ∙ ap (cond (s.is_same m n) (revision_after s events))
+    (raised_below (revision_after s events) below)

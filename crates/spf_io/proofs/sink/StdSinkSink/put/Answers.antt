@@ -10,6 +10,10 @@ loop-at-preserved g c =
     let piece = c.args.piece.now in
     let at = c.loop-at.at in
     let n = c.in-Ok.n in
-    let e : take at piece ++ take n (take (length piece - at) (drop at piece)) ≡ take (at + n) piece =
-    ap (λ r. take at piece ++ take n r) (take_rest piece at) ∙ sym (take-add at n piece) in
-    (search rules, subst (Appends _ _) e (Appends-trans _ _ _ _ _ c.loop-at.invariant.1 c.in-Ok.ensures.bytes), search rules)
+    let e : take at piece ++ take n (take (length piece - at) (drop at piece))
+    ≡ take (at + n) piece =
+    ap (λ r. take at piece ++ take n r) (take_rest piece at) ∙ sym (take-add at n piece) in (
+      search rules,
+      subst (Appends _ _) e (Appends-trans _ _ _ _ _ c.loop-at.invariant.1 c.in-Ok.ensures.bytes),
+      search rules,
+    )
