@@ -14,7 +14,7 @@ use crate::error::WorkloadApiError;
 use crate::response::{
     BundleEntryView, BundlesResponse, ContextResponse, ContextView, SvidEntry, SvidEntryView,
 };
-use crate::sharing::{parse_bundle, parse_svid, shared_bundle, shared_svid};
+use crate::sharing::{held_svid, parse_bundle, parse_svid, shared_bundle, shared_svid};
 use crate::views::context_view;
 use spf_id::TrustDomain;
 use spf_io::{OutOfMemory, Text};
@@ -87,11 +87,6 @@ fn check_entries(alloc: Global, entries: &[SvidEntryView<'_>]) -> Result<(), Wor
     check_all_fields(alloc, entries)
 }
 
-/// The SVID of the held context at that index.
-fn held_svid(held: Option<&X509Context>, index: usize) -> Option<&Arc<X509Svid>> {
-    held?.svids().get(index)
-}
-
 /// The held context's bundle of the trust domain.
 fn held_bundle<'a>(
     held: Option<&'a X509Context>,
@@ -111,7 +106,7 @@ fn shared_material(
 ) -> Result<(Arc<X509Svid>, Arc<X509Bundle>), WorkloadApiError>
     ensures { Gives is_memory_api (λ m. (arc_value m.0, arc_value m.1)) result (svid_and_bundle_of (svid_entry_of entry.now)) }
 {
-    let svid = shared_svid(alloc, entry, held_svid(held, index))?;
+    let svid = shared_svid(alloc, entry, held_svid(held, index, entry))?;
     let trust_domain = svid.spiffe_id().trust_domain();
     let near = bundles.get_ref(trust_domain);
     let held = held_bundle(held, trust_domain);
@@ -167,8 +162,8 @@ fn add_named(
 }
 
 /// Returns the context of the response that the view holds, where a later bundle of a trust domain replaces an earlier
-/// one. What `held` holds of the same bytes, SVIDs at the same index and bundles of the same trust domain, is shared with it
-/// and not read again: the result is the same with any context or none.
+/// one. What `held` holds of the same bytes, SVIDs at the same index or beside it and bundles of the same trust domain, is
+/// shared with it and not read again: the result is the same with any context or none.
 #[tactic(auto, unfolding(crate::specs::Parsed::parsed_of, crate::specs::Parsed::svids_and_bundles_of))]
 pub fn context_from_view_sharing(
     alloc: Global,

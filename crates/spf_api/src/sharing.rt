@@ -14,7 +14,7 @@ use crate::error::WorkloadApiError;
 use crate::response::SvidEntryView;
 use spf_id::TrustDomain;
 use spf_io::{OutOfMemory, Text};
-use spf_x509::{X509Bundle, X509Svid};
+use spf_x509::{X509Bundle, X509Context, X509Svid};
 use std::alloc::Global;
 use std::sync::Arc;
 
@@ -54,21 +54,60 @@ fn is_svid_of(svid: &X509Svid, entry: &SvidEntryView<'_>) -> bool
     svid.is_parsed_from(entry.x509_svid, entry.x509_svid_key, hint_of(entry.hint))
 }
 
-/// Returns the SVID of an entry, which is `held` where that was read from the same bytes.
+/// Returns the SVID, where it was read from the bytes of the entry.
+fn read_from<'a>(
+    svid: Option<&'a Arc<X509Svid>>,
+    entry: &SvidEntryView<'_>,
+) -> Option<&'a Arc<X509Svid>>
+    ensures { IfSome result (λ s. svid_of_entry (svid_entry_of entry.now) ≡ Ok (arc_value s.now)) }
+{
+    match svid {
+        Some(svid) => {
+            if is_svid_of(svid, entry) {
+                Some(svid)
+            } else {
+                None
+            }
+        }
+        None => None,
+    }
+}
+
+/// Returns the SVID of the held context that was read from the bytes of the entry, at that index or beside it. An agent sends
+/// the SVIDs of a workload in an order that may change.
+pub(crate) fn held_svid<'a>(
+    held: Option<&'a X509Context>,
+    index: usize,
+    entry: &SvidEntryView<'_>,
+) -> Option<&'a Arc<X509Svid>>
+    ensures { IfSome result (λ s. svid_of_entry (svid_entry_of entry.now) ≡ Ok (arc_value s.now)) }
+{
+    let svids = held?.svids();
+    if let Some(svid) = read_from(svids.get(index), entry) {
+        return Some(svid);
+    }
+    if let Some(svid) = read_from(svids.get(index.saturating_add(1)), entry) {
+        return Some(svid);
+    }
+    read_from(svids.get(index.saturating_sub(1)), entry)
+}
+
+/// Returns the SVID of an entry, which is `held` where that is given.
 pub(crate) fn shared_svid(
     alloc: Global,
     entry: &SvidEntryView<'_>,
     held: Option<&Arc<X509Svid>>,
 ) -> Result<Arc<X509Svid>, WorkloadApiError>
+    requires { IfSome held (λ s. svid_of_entry (svid_entry_of entry.now) ≡ Ok (arc_value s.now)) }
     ensures { Gives is_memory_api arc_value result (svid_of_entry (svid_entry_of entry.now)) }
 {
-    if let Some(held) = held {
-        if is_svid_of(held, entry) {
-            return Ok(Arc::try_clone(held)?);
+    match held {
+        Some(held) => Ok(Arc::try_clone(held)?),
+        None => {
+            let svid = parse_svid(alloc, entry)?;
+            Ok(Arc::new(alloc, svid)?)
         }
     }
-    let svid = parse_svid(alloc, entry)?;
-    Ok(Arc::new(alloc, svid)?)
 }
 
 /// Reads the bundle of a trust domain.

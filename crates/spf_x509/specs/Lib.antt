@@ -7,6 +7,7 @@ pub mod Laws
 pub mod Indices
 pub mod Bag
 pub mod Order
+pub mod Lead
 pub mod Certificate
 pub mod Key
 pub mod Rule

@@ -23,7 +23,9 @@ pub use certificate::{Certificate, spiffe_id_from_der};
 pub use context::X509Context;
 pub use error::{CertificateError, PrivateKeyError, X509BundleError};
 pub use extension::X509ExtensionId;
-pub use order::{cmp_svid_for_update, sorted_authorities, sorted_indices, sorted_svids};
+pub use order::{
+    cmp_svid_for_update, sorted_authorities, sorted_indices, sorted_svids, sorted_texts,
+};
 pub use private_key::PrivateKey;
 pub use source::{BundleSource, SvidSource};
 pub use svid::X509Svid;
