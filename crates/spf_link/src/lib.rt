@@ -7,6 +7,8 @@ mod connector;
 mod headers;
 mod interceptor;
 mod link;
+mod mem_connector;
+mod mem_link;
 mod metadata;
 mod request;
 
@@ -17,5 +19,7 @@ pub use interceptor::{
     InterceptFunction, Interceptor, InterceptorFault, InterceptorFn, NoInterceptor,
 };
 pub use link::Link;
+pub use mem_connector::MemConnector;
+pub use mem_link::MemLink;
 pub use metadata::MetadataAdder;
 pub use request::{Request, Start};
