@@ -17,7 +17,7 @@ use std::alloc::Global;
 #[derive(Drop)]
 pub struct WorkloadApiClient<L, I> {
     endpoint: Option<Endpoint>,
-    link: L,
+    pub(crate) link: L,
     metadata: MetadataAdder<I>,
 }
 

@@ -3,6 +3,8 @@
 
 mod client;
 mod reading;
+mod stream;
 mod x509;
 
 pub use client::WorkloadApiClient;
+pub use stream::{X509BundleStream, X509ContextStream, X509SvidStream};
