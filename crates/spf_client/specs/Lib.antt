@@ -1,4 +1,5 @@
 pub mod Asking
+pub mod Connecting
+pub mod Lending
 pub mod Reading
 pub mod Streams
-pub mod Lending

@@ -2,6 +2,7 @@
 #![tactic(auto)]
 
 mod client;
+mod connect;
 mod reading;
 mod stream;
 mod x509;
