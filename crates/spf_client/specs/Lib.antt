@@ -1,3 +1,5 @@
-pub mod Headers
-pub mod Interceptor
-pub mod Metadata
+pub mod Asking
+pub mod Connecting
+pub mod Lending
+pub mod Reading
+pub mod Streams

@@ -1,12 +1,11 @@
-//! A client of the Workload API over a link of any kind: its headers and interceptors, its fetches and streams.
+//! A client of the Workload API over a link of any kind: fetches and streams of X.509 identities and bundles.
 #![tactic(auto)]
 
-mod headers;
-mod interceptor;
-mod metadata;
+mod client;
+mod connect;
+mod reading;
+mod stream;
+mod x509;
 
-pub use headers::Headers;
-pub use interceptor::{
-    InterceptFunction, Interceptor, InterceptorFault, InterceptorFn, NoInterceptor,
-};
-pub use metadata::MetadataAdder;
+pub use client::WorkloadApiClient;
+pub use stream::{X509BundleStream, X509ContextStream, X509SvidStream};

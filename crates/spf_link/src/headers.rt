@@ -1,8 +1,8 @@
 //! The headers of a request.
 
-ghost use Rattle.std.specs.Prelude.{◌≡◌, [], OnOk, OnErr, position, bytes_eq};
+ghost use Rattle.std.specs.Prelude.{◌≡◌, [], IfOk, OnOk, OnErr, position, bytes_eq};
 ghost use Rattle.std.specs.Option.{option_copied};
-ghost use Rattle.spf_client.specs.Headers.{Header, value_in, without, with_header};
+ghost use Rattle.spf_link.specs.Headers.{Header, value_in, without, with_header};
 
 use spf_io::{OutOfMemory, Text};
 use std::alloc::Global;
@@ -17,11 +17,22 @@ pub struct Headers {
 
 impl Model for Headers {
     ghost use Rattle.std.specs.Prelude.{List};
-    ghost use Rattle.spf_client.specs.Headers.{Header};
+    ghost use Rattle.spf_link.specs.Headers.{Header};
 
     ghost Value = { List Header };
 
     ghost view = { λ h. h.entries.items };
+}
+
+/// Copies of names and values.
+fn copies_of(alloc: Global, entries: &[(Text, Text)]) -> Result<Vec<(Text, Text)>, OutOfMemory>
+    ensures { IfOk result (λ v. v.items ≡ entries.now) }
+{
+    let mut copies = Vec::with_capacity(alloc, entries.len())?;
+    for (name, value) in entries {
+        copies.push((name.try_clone(alloc)?, value.try_clone(alloc)?))?;
+    }
+    Ok(copies)
 }
 
 fn is_named(entry: &(Text, Text), name: &str) -> bool
@@ -87,6 +98,16 @@ impl Headers {
             None => self.entries.push((Text::copy_of(self.alloc, name)?, text))?,
         }
         Ok(())
+    }
+
+    /// A copy of the headers.
+    pub fn try_clone(&self, alloc: Global) -> Result<Headers, OutOfMemory>
+        ensures { IfOk result (λ h. h ≡ self.now) }
+    {
+        Ok(Headers {
+            alloc,
+            entries: copies_of(alloc, self.entries.as_slice())?,
+        })
     }
 
     /// The names and values.
