@@ -2,8 +2,8 @@
 use Rattle.std.specs.Prelude.{◌≡◌, ℕ, ◌≤◌, ◌<◌, List, ◌++◌, length, take, Option, IfSome, Result, MatchResult, IsErrOf}
 use Rattle.std.specs.Io.KnownBytes.{Consumes, IsAtEnd}
 use Rattle.spf_io.specs.Outside.{Rose}
-use Rattle.spf_feed.specs.declared.frame.FrameError.{FrameError}
-use Rattle.spf_feed.specs.declared.frame.FrameError.TheVariants as errors
+use Rattle.spf_frame.specs.declared.error.FrameError.{FrameError}
+use Rattle.spf_frame.specs.declared.error.FrameError.TheVariants as errors
 
 -- the buffer was filled, or filled up to the end of the source; after a fault it is filled in part
 abbrev pub Fills : {E : Type 0} → Option (List ℕ) → Option (List ℕ) → Result ℕ E → List ℕ → Type 0

@@ -1,8 +1,8 @@
 use Rattle.std.proofs.Common.{◌≡◌, length, take, take_all, length-take-le, rules}
-use Rattle.spf_feed.specs.Parts.{NoPart}
-use Rattle.spf_feed.proofs.Parts.{none_from_end}
-use Rattle.spf_feed.proofs.Sizes.{cut_octets}
-use Rattle.spf_feed.proofs.frame.read_octets.Goals as goal
+use Rattle.spf_frame.specs.Parts.{NoPart}
+use Rattle.spf_frame.proofs.Parts.{none_from_end}
+use Rattle.spf_frame.proofs.Sizes.{cut_octets}
+use Rattle.spf_frame.proofs.frame.read_octets.Goals as goal
 
 pub returns-then-at-len-clause-bytes : goal.returns-then-at-len-clause-bytes
 returns-then-at-len-clause-bytes g c =

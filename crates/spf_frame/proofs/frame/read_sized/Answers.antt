@@ -2,12 +2,12 @@ use Rattle.std.proofs.Common.{◌≡◌, ◌≤◌, ◌^◌, length, take, subst
 use Rattle.std.specs.Int.{w32, to_be_bytes}
 use Rattle.std.specs.Io.KnownBytes.{Consumes}
 use Rattle.std.proofs.KnownBytes.{Consumes-trans}
-use Rattle.spf_feed.specs.Frames.{sized, FitsFrame, sized_front}
+use Rattle.spf_frame.specs.Frames.{sized, FitsFrame, sized_front}
 use Rattle.spf_view.proofs.FrontLemmas.{payload_front}
 use Rattle.std.proofs.lemmas.Result.{err_from_is_err_and}
-use Rattle.spf_feed.proofs.Parts.{first_fails, second_fails}
-use Rattle.spf_feed.proofs.Sizes.{sized_first, sized_second, sized_whole}
-use Rattle.spf_feed.proofs.frame.read_sized.Goals as goal
+use Rattle.spf_frame.proofs.Parts.{first_fails, second_fails}
+use Rattle.spf_frame.proofs.Sizes.{sized_first, sized_second, sized_whole}
+use Rattle.spf_frame.proofs.frame.read_sized.Goals as goal
 
 pub returns-in_err-length-clause-bytes : goal.returns-in_err-length-clause-bytes
 returns-in_err-length-clause-bytes g c =
