@@ -1,7 +1,7 @@
 -- What interceptors of the tests do.
 use Rattle.std.specs.Prelude.{List, None, codes}
-use Rattle.spf_client.specs.Headers.{Header, with_header}
-use Rattle.spf_client.specs.Interceptor.{Intercepted}
+use Rattle.spf_link.specs.Headers.{Header, with_header}
+use Rattle.spf_link.specs.Interceptor.{Intercepted}
 
 -- the header of the Workload API is set to `false`
 abbrev pub set_to_false_in : List Header → Intercepted

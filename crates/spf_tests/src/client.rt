@@ -1,10 +1,10 @@
 //! The headers of a request, and the one that each request of the Workload API carries.
 
-ghost use Rattle.spf_client.specs.Interceptor.{IsIntercepted};
+ghost use Rattle.spf_link.specs.Interceptor.{IsIntercepted};
 ghost use Rattle.spf_tests.specs.Client.{set_to_false_in};
 
 use spf_api::{GrpcStatusCode, GrpcStatusError, TransportError, WorkloadApiError};
-use spf_client::{
+use spf_link::{
     Headers, InterceptFunction, Interceptor, InterceptorFault, InterceptorFn, MetadataAdder,
     NoInterceptor,
 };

@@ -1,7 +1,7 @@
 //! The header that every request of the Workload API carries (SPIFFE Workload API section 4.1).
 
 ghost use Rattle.std.specs.Prelude.{◌≡◌};
-ghost use Rattle.spf_client.specs.Metadata.{IsAdded};
+ghost use Rattle.spf_link.specs.Metadata.{IsAdded};
 
 use crate::headers::Headers;
 use crate::interceptor::{Interceptor, InterceptorFault};

@@ -2,7 +2,7 @@
 
 ghost use Rattle.std.specs.Prelude.{◌≡◌, [], OnOk, OnErr, position, bytes_eq};
 ghost use Rattle.std.specs.Option.{option_copied};
-ghost use Rattle.spf_client.specs.Headers.{Header, value_in, without, with_header};
+ghost use Rattle.spf_link.specs.Headers.{Header, value_in, without, with_header};
 
 use spf_io::{OutOfMemory, Text};
 use std::alloc::Global;
@@ -17,7 +17,7 @@ pub struct Headers {
 
 impl Model for Headers {
     ghost use Rattle.std.specs.Prelude.{List};
-    ghost use Rattle.spf_client.specs.Headers.{Header};
+    ghost use Rattle.spf_link.specs.Headers.{Header};
 
     ghost Value = { List Header };
 

@@ -1,8 +1,8 @@
 use Rattle.std.proofs.Common.{◌≡◌, ℕ, List, ◌++◌, ◌∷◌, [], set, get_or, ap, sym, ◌∙◌}
 use Rattle.std.specs.Prelude.{bytes_eq, position}
-use Rattle.spf_client.specs.Headers.{Header, with_header}
-use Rattle.spf_client.proofs.HeaderLemmas.{replaced, appended, first_found, none_found}
-use Rattle.spf_client.proofs.headers.Headers.set.Goals as goal
+use Rattle.spf_link.specs.Headers.{Header, with_header}
+use Rattle.spf_link.proofs.HeaderLemmas.{replaced, appended, first_found, none_found}
+use Rattle.spf_link.proofs.headers.Headers.set.Goals as goal
 
 pub returns-in-Some-clause-ok : goal.returns-in-Some-clause-ok
 returns-in-Some-clause-ok c =

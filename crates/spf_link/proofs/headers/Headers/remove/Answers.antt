@@ -1,9 +1,9 @@
 use Rattle.std.proofs.Common.{ℕ, List, ap, sym, ◌∙◌}
 use Rattle.std.specs.List.{remove}
 use Rattle.std.specs.Prelude.{bytes_eq, position}
-use Rattle.spf_client.specs.Headers.{Header, without}
-use Rattle.spf_client.proofs.HeaderLemmas.{taken_out, left, first_found, none_found}
-use Rattle.spf_client.proofs.headers.Headers.remove.Goals as goal
+use Rattle.spf_link.specs.Headers.{Header, without}
+use Rattle.spf_link.proofs.HeaderLemmas.{taken_out, left, first_found, none_found}
+use Rattle.spf_link.proofs.headers.Headers.remove.Goals as goal
 
 pub returns-in-Some : goal.returns-in-Some
 returns-in-Some c =

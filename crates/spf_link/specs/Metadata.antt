@@ -4,8 +4,8 @@ use Rattle.spf_api.specs.Errors.{status_reading}
 use Rattle.spf_api.specs.Refused.{Refused}
 use Rattle.spf_api.specs.declared.error.WorkloadApiError.{WorkloadApiError}
 use Rattle.spf_api.specs.declared.error.WorkloadApiError.TheVariants as api
-use Rattle.spf_client.specs.Headers.{Header, with_header}
-use Rattle.spf_client.specs.Interceptor.{Intercepted}
+use Rattle.spf_link.specs.Headers.{Header, with_header}
+use Rattle.spf_link.specs.Interceptor.{Intercepted}
 
 -- the header of the Workload API, set after all others
 abbrev pub with_metadata : List Header → List Header

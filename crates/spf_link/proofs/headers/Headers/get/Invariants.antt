@@ -1,6 +1,6 @@
 use Rattle.std.proofs.Common.{◌≡◌, length}
-use Rattle.spf_client.specs.Headers.{value_in}
-use Rattle.spf_client.proofs.headers.Headers.get.Given as goal
+use Rattle.spf_link.specs.Headers.{value_in}
+use Rattle.spf_link.proofs.headers.Headers.get.Given as goal
 
 abbrev pub invariant-loop-entry : goal.invariant-loop-entry
 invariant-loop-entry l = value_in l.name l.fn.self ≡ value_in l.name l.rest

@@ -3,9 +3,9 @@ use Rattle.std.specs.Prelude.{◌≡◌, List, Option, None, Some, Result, Ok, E
 use Rattle.std.specs.Borrow.{MutBor}
 use Rattle.std.specs.Fn.{Shared, FnReturns}
 use Rattle.spf_api.specs.Refused.{Refused}
-use Rattle.spf_client.specs.Headers.{Header}
-use Rattle.spf_client.specs.declared.interceptor.InterceptorFault.{InterceptorFault}
-use Rattle.spf_client.specs.declared.interceptor.InterceptorFault.TheVariants as failures
+use Rattle.spf_link.specs.Headers.{Header}
+use Rattle.spf_link.specs.declared.interceptor.InterceptorFault.{InterceptorFault}
+use Rattle.spf_link.specs.declared.interceptor.InterceptorFault.TheVariants as failures
 
 -- the status of a refusal, where there is one, and the headers that are left
 pub record Intercepted : Type 0 where

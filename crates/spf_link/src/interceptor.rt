@@ -1,8 +1,8 @@
 //! What is done to the headers of a request before it is sent.
 
 ghost use Rattle.std.specs.Prelude.{List};
-ghost use Rattle.spf_client.specs.Headers.{Header};
-ghost use Rattle.spf_client.specs.Interceptor.{Intercepted, InterceptsBy, IsIntercepted};
+ghost use Rattle.spf_link.specs.Headers.{Header};
+ghost use Rattle.spf_link.specs.Interceptor.{Intercepted, InterceptsBy, IsIntercepted};
 
 use crate::headers::Headers;
 use spf_api::GrpcStatusError;
@@ -83,7 +83,7 @@ impl<F: Fn(&mut Headers) -> Result<(), InterceptorFault>, N: InterceptFunction> 
 
 impl<F: Fn(&mut Headers) -> Result<(), InterceptorFault>, N: InterceptFunction> Interceptor
     for InterceptorFn<F, N> {
-    ghost use Rattle.spf_client.specs.Interceptor.{InterceptsBy};
+    ghost use Rattle.spf_link.specs.Interceptor.{InterceptsBy};
 
     ghost intercepts = { λ _ headers. N.function headers };
 

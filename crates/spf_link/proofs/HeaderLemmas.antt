@@ -5,7 +5,7 @@ use Rattle.std.specs.List.{position_or_len}
 use Rattle.std.proofs.lemmas.Bool.Decides.{nat_tests}
 use borrow.Author.Tests.{ltb-true}
 use Rattle.std.specs.List.{remove}
-use Rattle.spf_client.specs.Headers.{Header, with_header, without}
+use Rattle.spf_link.specs.Headers.{Header, with_header, without}
 
 abbrev named : List ℕ → Header → Bool
 named name h = bytes_eq h.0 name

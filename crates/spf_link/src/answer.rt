@@ -1,0 +1,16 @@
+//! Answers of a link that are told beforehand.
+
+use spf_api::{LinkFault, Response};
+
+/// One answer of a link in memory.
+#[derive(Debug, PartialEq, Eq, Drop)]
+pub enum Answer {
+    /// The call is refused. It fits `start` and `next`.
+    Refused(LinkFault),
+    /// The request is started. It fits `start`.
+    Started,
+    /// A response. It fits `next` where it is of the kind that was started.
+    Item(Response),
+    /// The stream ends. It fits `next`.
+    End,
+}

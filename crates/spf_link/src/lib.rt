@@ -1,0 +1,21 @@
+//! What a client of the Workload API asks over: requests with their headers and interceptors, links and connectors of any
+//! kind, and those of memory.
+#![tactic(auto)]
+
+mod answer;
+mod connector;
+mod headers;
+mod interceptor;
+mod link;
+mod metadata;
+mod request;
+
+pub use answer::Answer;
+pub use connector::Connector;
+pub use headers::Headers;
+pub use interceptor::{
+    InterceptFunction, Interceptor, InterceptorFault, InterceptorFn, NoInterceptor,
+};
+pub use link::Link;
+pub use metadata::MetadataAdder;
+pub use request::{Request, Start};
