@@ -159,7 +159,7 @@ fn push_bundles(
     let mut left = orders;
     for (domain, bundle) in set.iter() {
         let Some((order, rest)) = left.split_first() else {
-            return Ok(());
+            unreachable!()
         };
         push_bundle(line, domain, bundle.authorities(), order.as_slice())?;
         left = rest;
