@@ -20,13 +20,9 @@ mod io;
 #[cfg(test)]
 mod pace;
 #[cfg(test)]
-mod socket;
-#[cfg(test)]
 mod system;
 #[cfg(test)]
 mod uses;
-#[cfg(test)]
-mod wire;
 #[cfg(test)]
 mod x509;
 #[cfg(test)]
