@@ -9,15 +9,15 @@ use Rattle.spf_feed.specs.declared.event.SessionEvent.{SessionEvent}
 use Rattle.spf_feed.specs.declared.event.SessionEvent.TheVariants as events
 use Rattle.spf_feed.specs.declared.phase.Phase.{Phase}
 use Rattle.spf_feed.specs.Events.{failure_at, status_at, moment_at, when_empty, event_at, map_item}
-use Rattle.spf_feed.specs.declared.frame.FrameError.{FrameError}
-use Rattle.spf_feed.specs.declared.frame.FrameError.TheVariants as errors
+use Rattle.spf_frame.specs.declared.error.FrameError.{FrameError}
+use Rattle.spf_frame.specs.declared.error.FrameError.TheVariants as errors
 use Rattle.spf_feed.specs.Following.{IsEventRead, IsEventUnread}
 use Rattle.spf_feed.specs.Frames.{allows, FitsFrame, raw_text, frame_front, NoFrame, IsRead, IsUnread}
 use Rattle.spf_view.proofs.FrontLemmas.{frame_whole}
 use Rattle.std.proofs.lemmas.List.{append-nil}
 use Rattle.spf_feed.specs.Items.{Event, Received, Rules, context_in, item_at}
 use Rattle.spf_feed.specs.Run.{ask_of, stream}
-use Rattle.spf_feed.proofs.Parts.{none_from_front, unread_as}
+use Rattle.spf_frame.proofs.Parts.{none_from_front, unread_as}
 
 -- ---- an event whose item is read further
 

@@ -3,13 +3,11 @@ pub mod Differences
 pub mod EqualLemmas
 pub mod EventLemmas
 pub mod FailureLemmas
-pub mod Filled
 pub mod HandLemmas
 pub mod HexLemmas
 pub mod LineLemmas
 pub mod Loop
 pub mod Mapped
-pub mod Parts
 pub mod Plain
 pub mod PlainContexts
 pub mod PlainLines
@@ -20,8 +18,6 @@ pub mod SameSvids
 pub mod Seen
 pub mod SeenShown
 pub mod ShownLemmas
-pub mod Sizes
 pub mod TextLemmas
 pub mod TurnLemmas
 pub mod Turned
-pub mod Whole

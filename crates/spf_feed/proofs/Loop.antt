@@ -15,8 +15,8 @@ use Rattle.spf_view.proofs.SessionLemmas.{length-onto}
 use Rattle.spf_view.proofs.KeepingLemmas.{at_start, synced_at, moment_at, outcome_at, revision_at, view_at, waiting_at, at_more}
 use Rattle.spf_feed.specs.declared.follow_error.FollowError.{FollowError}
 use Rattle.spf_feed.specs.declared.follow_error.FollowError.TheVariants as answers
-use Rattle.spf_feed.specs.declared.frame.FrameError.{FrameError}
-use Rattle.spf_feed.specs.declared.frame.FrameError.TheVariants as errors
+use Rattle.spf_frame.specs.declared.error.FrameError.{FrameError}
+use Rattle.spf_frame.specs.declared.error.FrameError.TheVariants as errors
 use Rattle.spf_feed.specs.declared.phase.Phase.{Phase}
 use Rattle.spf_feed.specs.declared.phase.Phase.TheVariants as phases
 use Rattle.spf_feed.specs.declared.record.MetricsRecord.{MetricsRecord}

@@ -2,23 +2,12 @@
 use Rattle.std.specs.Prelude.{ℕ, ℤ, pos, ◌^◌, Bool, List, [], ◌∷◌, length, Option, None, Some, ◌==◌, nat_lt, true, false, if◌then◌else◌}
 use Rattle.std.specs.Int.{w64, from_be_bytes}
 use Rattle.std.specs.Option.{option_map, option_and_then}
-use Rattle.spf_api.specs.Reading.{text_field_at}
-use Rattle.spf_api.specs.Refused.{Refused}
-use Rattle.spf_api.specs.Status.{code_at}
+unfoldable pub use Rattle.spf_frame.specs.Status.{text_at, status_at}
 use Rattle.spf_api.specs.declared.link.ClientFault.{ClientFault}
 use Rattle.spf_api.specs.declared.link.ClientFault.TheVariants as fault
-use Rattle.spf_feed.specs.declared.frame_kind.TheConstants.{CLIENT_MADE, CLIENT_FAILED, CONNECTED, CONNECT_STATUS, ITEM, ITEM_STATUS, STREAM_END, MOMENT, CLOSE}
+use Rattle.spf_frame.specs.declared.frame_kind.TheConstants.{CLIENT_MADE, CLIENT_FAILED, CONNECTED, CONNECT_STATUS, ITEM, ITEM_STATUS, STREAM_END, MOMENT, CLOSE}
 use Rattle.spf_feed.specs.declared.event.SessionEvent.{SessionEvent}
 use Rattle.spf_feed.specs.declared.event.SessionEvent.TheVariants as events
-
--- a text field and nothing more
-unfoldable pub text_at : List ℕ → Option (List ℕ)
-text_at bytes = option_and_then (λ (t : List ℕ × List ℕ). if length t.1 == 0 then Some t.0 else None) (text_field_at bytes)
-
--- a status and nothing more: a code octet, and its message
-unfoldable pub status_at : List ℕ → Option Refused
-status_at [] = None
-status_at (n ∷ rest) = option_and_then (λ c. option_map (λ m. record { code = c; message = m; source = None }) (text_at rest)) (code_at n)
 
 -- a status, or the code octet 255 and a text
 unfoldable pub failure_at : List ℕ → Option ClientFault

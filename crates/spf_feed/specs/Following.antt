@@ -9,8 +9,8 @@ use Rattle.spf_view.specs.Keeping.{kept_with_any}
 use Rattle.spf_view.specs.Sessions.{IsFrame, NoFrameAt, Grows, GrowsUpTo}
 use Rattle.spf_feed.specs.declared.follow_error.FollowError.{FollowError}
 use Rattle.spf_feed.specs.declared.follow_error.FollowError.TheVariants as answers
-use Rattle.spf_feed.specs.declared.frame.FrameError.{FrameError}
-use Rattle.spf_feed.specs.declared.frame.FrameError.TheVariants as errors
+use Rattle.spf_frame.specs.declared.error.FrameError.{FrameError}
+use Rattle.spf_frame.specs.declared.error.FrameError.TheVariants as errors
 use Rattle.spf_feed.specs.declared.following.Change.{Change}
 use Rattle.spf_feed.specs.declared.following.Change.TheVariants as change
 use Rattle.spf_feed.specs.declared.limits.ResourceLimits.{ResourceLimits}

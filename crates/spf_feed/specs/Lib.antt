@@ -9,7 +9,6 @@ pub mod Material
 pub mod Names
 pub mod Numbered
 pub mod OneLine
-pub mod Parts
 pub mod Pick
 pub mod Prepared
 pub mod Received

@@ -12,7 +12,7 @@ use Rattle.spf_api.specs.declared.response.ContextResponse.{ContextResponse}
 use Rattle.spf_api.specs.declared.response.Response.TheVariants as response
 use Rattle.spf_api.specs.declared.response.ResponseKind.TheVariants as kinds
 use Rattle.spf_view.specs.Frames.{FitsFrame, raw_text}
-use Rattle.spf_feed.specs.declared.frame_kind.TheConstants.{CLIENT_MADE, CLIENT_FAILED, CONNECTED, CONNECT_STATUS, ITEM, ITEM_STATUS, STREAM_END, MOMENT, CLOSE}
+use Rattle.spf_frame.specs.declared.frame_kind.TheConstants.{CLIENT_MADE, CLIENT_FAILED, CONNECTED, CONNECT_STATUS, ITEM, ITEM_STATUS, STREAM_END, MOMENT, CLOSE}
 use Rattle.spf_feed.specs.declared.event.SessionEvent.{SessionEvent}
 use Rattle.spf_feed.specs.declared.event.SessionEvent.TheVariants as events
 

@@ -2,19 +2,19 @@
 
 ghost use Rattle.std.specs.Prelude.{◌≡◌, IfOk};
 ghost use Rattle.std.specs.Option.{option_map};
-ghost use Rattle.spf_feed.specs.Events.{text_at, status_at, failure_at, moment_at, event_at, when_empty as event_when_empty};
+ghost use Rattle.spf_feed.specs.Events.{failure_at, moment_at, event_at, when_empty as event_when_empty};
 ghost use Rattle.spf_feed.specs.Items.{item_at, IsReceived};
 
 use crate::event::SessionEvent;
-use crate::frame_kind::{
+use spf_api::{
+    ClientFault, WorkloadApiError, context_from_view_sharing, read_context_view,
+};
+use spf_frame::frame_kind::{
     CLIENT_FAILED, CLIENT_MADE, CLOSE, CONNECT_STATUS, CONNECTED, ITEM, ITEM_STATUS, MOMENT,
     STREAM_END,
 };
-use spf_api::{
-    ClientFault, GrpcStatusCode, GrpcStatusError, WorkloadApiError, context_from_view_sharing,
-    read_context_view, read_text_field,
-};
-use spf_io::{OutOfMemory, Text};
+use spf_frame::{read_status, read_text};
+use spf_io::OutOfMemory;
 use spf_x509::X509Context;
 use std::alloc::Global;
 
@@ -23,37 +23,6 @@ const UNREACHABLE: u8 = 255;
 
 /// An event as it is received: an item is read down to its context, or None where it breaks a rule.
 pub(crate) type Received = SessionEvent<Option<X509Context>>;
-
-/// A text field and nothing more.
-#[tactic(auto, unfolding(crate::specs::Events::text_at))]
-fn text_in(alloc: Global, bytes: &[u8]) -> Result<Option<Text>, OutOfMemory>
-    ensures { IfOk result (λ o. o ≡ text_at bytes.now) }
-{
-    let Some((text, rest)) = read_text_field(bytes) else {
-        return Ok(None);
-    };
-    if !rest.is_empty() {
-        return Ok(None);
-    }
-    Ok(Some(Text::copy_of(alloc, text)?))
-}
-
-/// A status and nothing more: a code octet and its message.
-#[tactic(auto, unfolding(crate::specs::Events::status_at))]
-fn status_in(alloc: Global, bytes: &[u8]) -> Result<Option<GrpcStatusError>, OutOfMemory>
-    ensures { IfOk result (λ o. o ≡ status_at bytes.now) }
-{
-    let [number, rest @ ..] = bytes else {
-        return Ok(None);
-    };
-    let Some(code) = GrpcStatusCode::from_number(*number) else {
-        return Ok(None);
-    };
-    match text_in(alloc, rest)? {
-        Some(message) => Ok(Some(GrpcStatusError::new(code, message))),
-        None => Ok(None),
-    }
-}
 
 /// A status, or the text of what could not be reached.
 #[tactic(auto, unfolding(crate::specs::Events::failure_at))]
@@ -64,9 +33,9 @@ fn failure_in(alloc: Global, bytes: &[u8]) -> Result<Option<ClientFault>, OutOfM
         return Ok(None);
     };
     if *number == UNREACHABLE {
-        return Ok(text_in(alloc, rest)?.map(ClientFault::Unreachable));
+        return Ok(read_text(alloc, rest)?.map(ClientFault::Unreachable));
     }
-    Ok(status_in(alloc, bytes)?.map(ClientFault::Status))
+    Ok(read_status(alloc, bytes)?.map(ClientFault::Status))
 }
 
 /// Eight octets of Unix seconds, from 0 to 2^63 - 1.
@@ -137,9 +106,9 @@ pub(crate) fn event_in(
         CLIENT_MADE => Ok(when_empty(payload, Received::ClientMade)),
         CLIENT_FAILED => Ok(failure_in(alloc, payload)?.map(Received::ClientFailed)),
         CONNECTED => Ok(when_empty(payload, Received::Connected)),
-        CONNECT_STATUS => Ok(status_in(alloc, payload)?.map(Received::ConnectStatus)),
+        CONNECT_STATUS => Ok(read_status(alloc, payload)?.map(Received::ConnectStatus)),
         ITEM => Ok(item_in(alloc, payload, held)?.map(Received::Item)),
-        ITEM_STATUS => Ok(status_in(alloc, payload)?.map(Received::ItemStatus)),
+        ITEM_STATUS => Ok(read_status(alloc, payload)?.map(Received::ItemStatus)),
         STREAM_END => Ok(when_empty(payload, Received::StreamEnd)),
         MOMENT => Ok(moment_in(payload).map(Received::Moment)),
         CLOSE => Ok(when_empty(payload, Received::Close)),

@@ -4,11 +4,11 @@ ghost use Rattle.std.specs.Prelude.{◌≡◌};
 ghost use Rattle.spf_feed.specs.Frames.{allows};
 ghost use Rattle.spf_feed.specs.Received.{received_ask};
 
-use crate::frame_kind::{
+use crate::payload::Received;
+use spf_frame::frame_kind::{
     CLIENT_FAILED, CLIENT_MADE, CLOSE, CONNECT_STATUS, CONNECTED, ITEM, ITEM_STATUS, MOMENT,
     STREAM_END,
 };
-use crate::payload::Received;
 
 /// What the source is asked for next.
 #[derive(Clone, Copy, Debug, PartialEq, Eq)]

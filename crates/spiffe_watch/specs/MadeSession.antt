@@ -9,7 +9,7 @@ use Rattle.spf_api.specs.declared.response.SvidEntry.{SvidEntry}
 use Rattle.spf_api.specs.declared.response.ContextResponse.{ContextResponse}
 use Rattle.spf_api.specs.Layout.{field_text, context_payload}
 use Rattle.spf_view.specs.Frames.{raw_text}
-use Rattle.spf_feed.specs.declared.frame_kind.TheConstants.{CLIENT_MADE, CONNECTED, ITEM, ITEM_STATUS, STREAM_END, MOMENT, CLOSE}
+use Rattle.spf_frame.specs.declared.frame_kind.TheConstants.{CLIENT_MADE, CONNECTED, ITEM, ITEM_STATUS, STREAM_END, MOMENT, CLOSE}
 use Rattle.spiffe_watch.specs.declared.generated.Variant.{Variant}
 use Rattle.spiffe_watch.specs.declared.generated.Variant.TheVariants as variants
 use Rattle.spiffe_watch.specs.declared.arguments.MakeArguments.{MakeArguments}

@@ -1,0 +1,4 @@
+pub mod Filled
+pub mod Parts
+pub mod Sizes
+pub mod Whole

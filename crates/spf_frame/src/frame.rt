@@ -1,0 +1,143 @@
+//! Reading frames: a kind octet, four octets of length, and the payload.
+
+ghost use Rattle.std.specs.Prelude.{◌≡◌, ◌≤◌, ◌^◌, take, length as list_len};
+ghost use Rattle.std.specs.Int.{w32, to_be_bytes, from_be_bytes};
+ghost use Rattle.spf_frame.specs.Parts.{PartRead, PartPut, FailureHasCause};
+ghost use Rattle.spf_frame.specs.Frames.{sized, sized_front, FitsFrame, KindRead, FrameRead, with_payload};
+
+use crate::error::FrameError;
+use crate::fill::fill;
+use crate::kinds::Kinds;
+use spf_io::{Bytes, Source};
+use std::alloc::Global;
+
+/// The max length of a payload.
+const MAX_PAYLOAD: u32 = 1 << 24;
+
+/// A frame with its payload unread.
+#[derive(Debug, Drop)]
+pub struct RawFrame {
+    pub kind: u8,
+    pub payload: Bytes,
+}
+
+/// The number that four octets spell.
+pub(crate) fn number_of(octets: &[u8; 4]) -> u32
+    ensures number { result ≡ from_be_bytes w32 octets.now }
+    ensures back { to_be_bytes w32 result ≡ octets.now }
+{
+    u32::from_be_bytes(*octets)
+}
+
+/// One octet, or the end.
+fn read_kind<S: Source>(source: &mut S) -> Result<Option<u8>, FrameError>
+    ensures bytes { KindRead (S.left source.old) (S.left source.new) result }
+    ensures cause { FailureHasCause (S.failures source.old) (S.failures source.new) result }
+{
+    let mut octet = [0; 1];
+    match fill(source, &mut octet) {
+        Ok(0) => Ok(None),
+        Ok(_) => Ok(Some(octet[0])),
+        Err(_) => Err(FrameError::ReadFault),
+    }
+}
+
+/// The four octets of a length.
+fn read_length<S: Source>(source: &mut S) -> Result<u32, FrameError>
+    ensures bytes { PartRead (to_be_bytes w32) (λ n. n ≤ 2 ^ 24) sized_front (S.left source.old) (S.left source.new) result }
+    ensures cause { FailureHasCause (S.failures source.old) (S.failures source.new) result }
+{
+    let mut octets = [0; 4];
+    match fill(source, &mut octets) {
+        Ok(n) => {
+            if n < 4 {
+                return Err(FrameError::BadFrame);
+            }
+        }
+        Err(_) => return Err(FrameError::ReadFault),
+    }
+    let length = number_of(&octets);
+    if length > MAX_PAYLOAD {
+        return Err(FrameError::BadFrame);
+    }
+    Ok(length)
+}
+
+/// A payload of this length, in place of what the buffer held.
+fn read_octets<S: Source>(
+    source: &mut S,
+    payload: &mut Vec<u8>,
+    length: u32,
+) -> Result<(), FrameError>
+    ensures bytes { PartPut (λ p. p) (λ p. list_len p ≡ length) (take length) (S.left source.old) (S.left source.new) result payload.new.items }
+    ensures cause { FailureHasCause (S.failures source.old) (S.failures source.new) result }
+{
+    match payload.resize(length as usize, 0) {
+        Ok(()) => {}
+        Err(_) => return Err(FrameError::OutOfMemory),
+    }
+    match fill(source, payload.as_mut_slice()) {
+        Ok(at) => {
+            if at < payload.len() {
+                return Err(FrameError::BadFrame);
+            }
+        }
+        Err(_) => return Err(FrameError::ReadFault),
+    }
+    Ok(())
+}
+
+/// Four octets of length, and the payload, in place of what the buffer held.
+fn read_sized<S: Source>(source: &mut S, payload: &mut Vec<u8>) -> Result<(), FrameError>
+    ensures bytes { PartPut sized FitsFrame sized_front (S.left source.old) (S.left source.new) result payload.new.items }
+    ensures cause { FailureHasCause (S.failures source.old) (S.failures source.new) result }
+{
+    let length = read_length(source)?;
+    read_octets(source, payload, length)?;
+    Ok(())
+}
+
+/// The kind of the next frame, whose payload then stands in the buffer. None at the end of input. A byte where no frame is
+/// allowed, and a kind that may not stand, end the reading there.
+pub fn next_frame<S: Source, K: Kinds>(
+    source: &mut S,
+    payload: &mut Vec<u8>,
+    kinds: &K,
+    allowed: bool,
+) -> Result<Option<u8>, FrameError>
+    ensures bytes { FrameRead (K.allows kinds.now) allowed (S.left source.old) (S.left source.new) (with_payload result payload.new.items) }
+    ensures cause { FailureHasCause (S.failures source.old) (S.failures source.new) result }
+{
+    let Some(kind) = read_kind(source)? else {
+        return Ok(None);
+    };
+    if !allowed {
+        return Err(FrameError::TooLong);
+    }
+    if !kinds.allow(kind) {
+        return Err(FrameError::BadFrame);
+    }
+    read_sized(source, payload)?;
+    Ok(Some(kind))
+}
+
+/// The next frame, of a kind that may stand. None at the end of input.
+pub fn read_frame<S: Source, K: Kinds>(
+    alloc: Global,
+    source: &mut S,
+    kinds: &K,
+    allowed: bool,
+) -> Result<Option<RawFrame>, FrameError>
+    ensures bytes { FrameRead (K.allows kinds.now) allowed (S.left source.old) (S.left source.new) result }
+    ensures cause { FailureHasCause (S.failures source.old) (S.failures source.new) result }
+{
+    let mut payload = Vec::new(alloc);
+    match next_frame(source, &mut payload, kinds, allowed) {
+        Ok(Some(kind)) => Ok(Some(RawFrame {
+            kind,
+            payload: Bytes::new(payload),
+        })),
+        Ok(None) => Ok(None),
+        Err(e) => Err(e),
+    }
+}

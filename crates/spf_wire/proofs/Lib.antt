@@ -1,0 +1,4 @@
+pub mod AnswerLemmas
+pub mod Covers
+pub mod PassedLemmas
+pub mod Reached
