@@ -7,26 +7,34 @@ use std::test::Fail;
 /// A value of this type may be sent and shared.
 fn shared<T: Send + Sync>(_value: &T) {}
 
-/// Texts that are no IDs, and the first rule that each breaks.
-const BROKEN_IDS: [(&str, SpiffeIdError); 7] = [
-    ("", SpiffeIdError::Empty),
-    ("spiffe://example.org/", SpiffeIdError::TrailingSlash),
-    ("spiffe://example.org//a", SpiffeIdError::EmptySegment),
-    ("spiffe://example.org/..", SpiffeIdError::DotSegment),
-    ("spiffe://example.org/a b", SpiffeIdError::BadPathChar),
-    ("SPIFFE://example.org/w", SpiffeIdError::WrongScheme),
-    ("spiffe:///w", SpiffeIdError::MissingTrustDomain),
-];
+/// Whether a text is refused as an ID with that error.
+fn is_refused(alloc: Global, text: &str, error: SpiffeIdError) -> bool {
+    SpiffeId::new(alloc, text).err() == Some(error)
+}
 
+/// Texts that are no IDs, and the first rule that each breaks.
 #[test]
 fn broken_ids(rt: HostRuntime) -> Result<(), Fail> {
-    for (text, error) in BROKEN_IDS {
-        assert_eq!(rt;
-            SpiffeId::new(rt.alloc(), text).err(),
-            Some(error),
-            "{text}"
-        );
-    }
+    let alloc = rt.alloc();
+    assert!(rt; is_refused(alloc, "", SpiffeIdError::Empty));
+    assert!(rt; is_refused(alloc, "spiffe://example.org/", SpiffeIdError::TrailingSlash));
+    assert!(rt;
+        is_refused(
+            alloc,
+            "spiffe://example.org//a",
+            SpiffeIdError::EmptySegment
+        )
+    );
+    assert!(rt; is_refused(alloc, "spiffe://example.org/..", SpiffeIdError::DotSegment));
+    assert!(rt;
+        is_refused(
+            alloc,
+            "spiffe://example.org/a b",
+            SpiffeIdError::BadPathChar
+        )
+    );
+    assert!(rt; is_refused(alloc, "SPIFFE://example.org/w", SpiffeIdError::WrongScheme));
+    assert!(rt; is_refused(alloc, "spiffe:///w", SpiffeIdError::MissingTrustDomain));
     Ok(())
 }
 
@@ -39,19 +47,30 @@ fn filled(alloc: Global, start: &str, length: usize) -> Result<String, Fail> {
     Ok(text)
 }
 
-/// The longest ID and the longest trust domain are taken, and one octet more is refused.
+/// The longest ID is taken, and one octet more is refused.
 #[test]
-fn lengths(rt: HostRuntime) -> Result<(), Fail> {
+fn id_lengths(rt: HostRuntime) -> Result<(), Fail> {
     let alloc = rt.alloc();
-    let start = "spiffe://example.org/";
-    for (length, error) in [(2048, None), (2049, Some(SpiffeIdError::TooLong))] {
-        let text = filled(alloc, start, length)?;
-        assert_eq!(rt; SpiffeId::new(alloc, text.as_str()).err(), error);
-    }
-    for (length, error) in [(255, None), (256, Some(SpiffeIdError::TrustDomainTooLong))] {
-        let text = filled(alloc, "", length)?;
-        assert_eq!(rt; TrustDomain::new(alloc, text.as_str()).err(), error);
-    }
+    let longest = filled(alloc, "spiffe://example.org/", 2048)?;
+    assert!(rt; SpiffeId::new(alloc, longest.as_str()).is_ok());
+    let longer = filled(alloc, "spiffe://example.org/", 2049)?;
+    assert!(rt; is_refused(alloc, longer.as_str(), SpiffeIdError::TooLong));
+    Ok(())
+}
+
+/// Whether a text is refused as a trust domain with that error.
+fn is_refused_domain(alloc: Global, text: &str, error: SpiffeIdError) -> bool {
+    TrustDomain::new(alloc, text).err() == Some(error)
+}
+
+/// The longest trust domain is taken, and one octet more is refused.
+#[test]
+fn trust_domain_lengths(rt: HostRuntime) -> Result<(), Fail> {
+    let alloc = rt.alloc();
+    let longest = filled(alloc, "", 255)?;
+    assert!(rt; TrustDomain::new(alloc, longest.as_str()).is_ok());
+    let longer = filled(alloc, "", 256)?;
+    assert!(rt; is_refused_domain(alloc, longer.as_str(), SpiffeIdError::TrustDomainTooLong));
     Ok(())
 }
 
@@ -62,20 +81,19 @@ fn trust_domain(rt: HostRuntime) -> Result<(), Fail> {
     assert_eq!(rt; other.as_str(), "other.org");
     let same = TrustDomain::try_from_owned(alloc, String::from_str(alloc, "other.org")?)?;
     assert!(rt; same == other);
-    assert_eq!(rt;
-        TrustDomain::try_from(alloc, "Example.org").err(),
-        Some(SpiffeIdError::BadTrustDomainChar)
-    );
-    assert_eq!(rt;
-        TrustDomain::from_str(alloc, "").err(),
-        Some(SpiffeIdError::Empty)
-    );
-    assert_eq!(rt;
-        TrustDomain::new(alloc, "a:/b").err(),
-        Some(SpiffeIdError::WrongScheme)
-    );
     let shown = format!(in alloc; "{}", other.try_clone(alloc)?)?;
     assert_eq!(rt; shown.as_str(), "other.org");
+    Ok(())
+}
+
+#[test]
+fn broken_trust_domains(rt: HostRuntime) -> Result<(), Fail> {
+    let alloc = rt.alloc();
+    let upper = TrustDomain::try_from(alloc, "Example.org").err();
+    assert!(rt; upper == Some(SpiffeIdError::BadTrustDomainChar));
+    let empty = TrustDomain::from_str(alloc, "").err();
+    assert!(rt; empty == Some(SpiffeIdError::Empty));
+    assert!(rt; is_refused_domain(alloc, "a:/b", SpiffeIdError::WrongScheme));
     Ok(())
 }
 
@@ -90,31 +108,54 @@ fn spiffe_id(rt: HostRuntime) -> Result<(), Fail> {
     assert!(rt; id > SpiffeId::try_from(alloc, "spiffe://example.org")?);
     shared(&id);
     shared(&SpiffeIdError::Empty);
-    for (uri, has_scheme) in [("SpIfFe:x", true), ("https://a", false), ("spiffe", false)] {
-        assert_eq!(rt; uri_has_spiffe_scheme(uri), has_scheme, "{uri}");
-    }
     Ok(())
 }
 
-/// The text of each error.
-const TEXTS: [(SpiffeIdError, &str); 11] = [
-    (SpiffeIdError::Empty, "Empty"),
-    (SpiffeIdError::TooLong, "TooLong"),
-    (SpiffeIdError::WrongScheme, "WrongScheme"),
-    (SpiffeIdError::MissingTrustDomain, "MissingTrustDomain"),
-    (SpiffeIdError::TrustDomainTooLong, "TrustDomainTooLong"),
-    (SpiffeIdError::BadTrustDomainChar, "BadTrustDomainChar"),
-    (SpiffeIdError::EmptySegment, "EmptySegment"),
-    (SpiffeIdError::DotSegment, "DotSegment"),
-    (SpiffeIdError::BadPathChar, "BadPathChar"),
-    (SpiffeIdError::TrailingSlash, "TrailingSlash"),
-    (SpiffeIdError::OutOfMemory, "out of memory"),
-];
+#[test]
+fn spiffe_scheme(rt: HostRuntime) -> Result<(), Fail> {
+    assert!(rt; uri_has_spiffe_scheme("SpIfFe:x"));
+    assert!(rt; !uri_has_spiffe_scheme("https://a"));
+    assert!(rt; !uri_has_spiffe_scheme("spiffe"));
+    Ok(())
+}
 
+/// Whether an error is written as that text.
+fn is_written(alloc: Global, error: SpiffeIdError, text: &str) -> Result<bool, Fail> {
+    Ok(format!(in alloc; "{error}")?.as_str() == text)
+}
+
+/// The text of each error.
 #[test]
 fn error_texts(rt: HostRuntime) -> Result<(), Fail> {
-    for (error, text) in TEXTS {
-        assert_eq!(rt; format!(in rt.alloc(); "{error}")?.as_str(), text);
-    }
+    let alloc = rt.alloc();
+    assert!(rt; is_written(alloc, SpiffeIdError::Empty, "Empty")?);
+    assert!(rt; is_written(alloc, SpiffeIdError::TooLong, "TooLong")?);
+    assert!(rt; is_written(alloc, SpiffeIdError::WrongScheme, "WrongScheme")?);
+    assert!(rt;
+        is_written(
+            alloc,
+            SpiffeIdError::MissingTrustDomain,
+            "MissingTrustDomain"
+        )?
+    );
+    assert!(rt;
+        is_written(
+            alloc,
+            SpiffeIdError::TrustDomainTooLong,
+            "TrustDomainTooLong"
+        )?
+    );
+    assert!(rt;
+        is_written(
+            alloc,
+            SpiffeIdError::BadTrustDomainChar,
+            "BadTrustDomainChar"
+        )?
+    );
+    assert!(rt; is_written(alloc, SpiffeIdError::EmptySegment, "EmptySegment")?);
+    assert!(rt; is_written(alloc, SpiffeIdError::DotSegment, "DotSegment")?);
+    assert!(rt; is_written(alloc, SpiffeIdError::BadPathChar, "BadPathChar")?);
+    assert!(rt; is_written(alloc, SpiffeIdError::TrailingSlash, "TrailingSlash")?);
+    assert!(rt; is_written(alloc, SpiffeIdError::OutOfMemory, "out of memory")?);
     Ok(())
 }
