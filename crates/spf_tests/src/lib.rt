@@ -20,6 +20,8 @@ mod io;
 #[cfg(test)]
 mod pace;
 #[cfg(test)]
+mod proto;
+#[cfg(test)]
 mod system;
 #[cfg(test)]
 mod uses;

@@ -1,0 +1,4 @@
+pub mod Folded
+pub mod Members
+pub mod Message
+pub mod Wire

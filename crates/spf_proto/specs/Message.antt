@@ -1,0 +1,119 @@
+-- The messages X509SVIDResponse and X509SVID of the SPIFFE Workload API, and an entry of a map of bundles.
+use Rattle.std.specs.Prelude.{ℕ, zero, suc, List, [], ◌∷◌, length, Option, Some, None, Bool, not}
+use Rattle.std.specs.Prelude.{is_some, nat_eq, nat_le, ◌==◌, ◌&&◌, ◌||◌, if◌then◌else◌}
+use Rattle.std.specs.List.{list_all, list_any}
+use Rattle.std.specs.Cmp.Lexicographic.{pointwise}
+use Rattle.std.specs.Option.{option_map_or}
+use Rattle.std.specs.Str.{is_utf8}
+use Rattle.spf_io.specs.Option.{◌>>=◌}
+use Rattle.spf_api.specs.declared.response.SvidEntry.{SvidEntry}
+use Rattle.spf_api.specs.declared.response.BundleEntry.{BundleEntry}
+use Rattle.spf_api.specs.declared.response.ContextResponse.{ContextResponse}
+use Rattle.spf_proto.specs.Wire.{WireField, field_at}
+
+-- the fields, at most `max`, of which the bytes are the concatenation
+abbrev pub fields_within : ℕ → List ℕ → Option (List WireField)
+fields_within max [] = Some []
+fields_within zero (b ∷ bytes) = None
+fields_within (suc max) (b ∷ bytes) = do
+  f ← field_at (b ∷ bytes)
+  fs ← fields_within max f.1
+  Some (f.0 ∷ fs)
+
+-- the fields of which the bytes are the concatenation
+abbrev pub fields_of : List ℕ → Option (List WireField)
+fields_of bytes = fields_within (length bytes) bytes
+
+-- the octets of a field, and none of a field of another type
+abbrev pub octets_of : WireField → List ℕ
+octets_of f = option_map_or (λ octets. octets) f.octets []
+
+abbrev pub has_number : ℕ → WireField → Bool
+has_number n f = f.number == n
+
+-- the octets of each field of that number, in order
+abbrev pub values_of : ℕ → List WireField → List (List ℕ)
+values_of n [] = []
+values_of n (f ∷ fs) = if has_number n f then octets_of f ∷ values_of n fs else values_of n fs
+
+-- the last of these octets, and `first` where there are none
+abbrev pub last_or : List ℕ → List (List ℕ) → List ℕ
+last_or first [] = first
+last_or first (octets ∷ others) = last_or octets others
+
+-- the octets of the last field of that number, and none where it is absent
+abbrev pub last_of : ℕ → List WireField → List ℕ
+last_of n fs = last_or [] (values_of n fs)
+
+-- a field with a number up to `max` is length-delimited
+abbrev pub is_delimited : ℕ → WireField → Bool
+is_delimited max f = not (nat_le f.number max) || is_some f.octets
+
+-- a field of that number is a text
+abbrev pub is_text : ℕ → WireField → Bool
+is_text n f = not (has_number n f) || is_utf8 (octets_of f)
+
+-- X509SVID: spiffe_id 1, x509_svid 2, x509_svid_key 3, bundle 4, hint 5
+abbrev pub is_svid_field : WireField → Bool
+is_svid_field f = is_delimited 5 f && (is_text 1 f && is_text 5 f)
+
+abbrev pub svid_of : List WireField → SvidEntry
+svid_of fs = record {
+  spiffe_id = last_of 1 fs;
+  x509_svid = last_of 2 fs;
+  x509_svid_key = last_of 3 fs;
+  bundle = last_of 4 fs;
+  hint = last_of 5 fs;
+}
+
+unfoldable pub svid_message : List ℕ → Option SvidEntry
+svid_message bytes = do
+  fs ← fields_of bytes
+  if list_all is_svid_field fs then Some (svid_of fs) else None
+
+-- an entry of the map of federated bundles: key 1, value 2
+abbrev pub is_bundle_field : WireField → Bool
+is_bundle_field f = is_delimited 2 f && is_text 1 f
+
+abbrev pub bundle_of : List WireField → BundleEntry
+bundle_of fs = record { name = last_of 1 fs; bundle = last_of 2 fs }
+
+unfoldable pub bundle_message : List ℕ → Option BundleEntry
+bundle_message bytes = do
+  fs ← fields_of bytes
+  if list_all is_bundle_field fs then Some (bundle_of fs) else None
+
+-- what one of these makes of each, where it makes something of all
+abbrev pub each : {A B : Type 0} → (A → Option B) → List A → Option (List B)
+each one [] = Some []
+each one (x ∷ xs) = do
+  y ← one x
+  ys ← each one xs
+  Some (y ∷ ys)
+
+abbrev pub has_name : List ℕ → BundleEntry → Bool
+has_name name e = pointwise nat_eq e.name name
+
+-- of entries with the same name the last, in its place
+abbrev pub last_of_each : List BundleEntry → List BundleEntry
+last_of_each [] = []
+last_of_each (e ∷ es) = if list_any (has_name e.name) es then last_of_each es else e ∷ last_of_each es
+
+-- X509SVIDResponse: svids 1, crl 2, federated_bundles 3
+abbrev pub members_of : List WireField → Option ContextResponse
+members_of fs = do
+  svids ← each svid_message (values_of 1 fs)
+  federated ← each bundle_message (values_of 3 fs)
+  Some (record { svids = svids; federated = federated; crls = values_of 2 fs })
+
+-- a message before entries are dropped
+unfoldable pub context_members : List ℕ → Option ContextResponse
+context_members bytes = do
+  fs ← fields_of bytes
+  if list_all (is_delimited 3) fs then members_of fs else None
+
+-- the response that a message says
+unfoldable pub context_message : List ℕ → Option ContextResponse
+context_message bytes = do
+  r ← context_members bytes
+  Some (record { svids = r.svids; federated = last_of_each r.federated; crls = r.crls })

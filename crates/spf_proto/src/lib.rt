@@ -1,0 +1,10 @@
+//! The body of a gRPC response of the Workload API: messages in Protocol Buffers, and the session that they stand for.
+#![tactic(auto)]
+
+mod entry;
+mod message;
+mod varint;
+mod wire;
+
+pub use message::read_message;
+pub use wire::{Field, read_field};

@@ -1,0 +1,33 @@
+//! Varints of Protocol Buffers: seven bits an octet, the least significant first.
+
+ghost use Rattle.std.specs.Prelude.{◌≡◌, ◌<◌, length, IfSome};
+ghost use Rattle.std.specs.Option.{option_map};
+ghost use Rattle.spf_proto.specs.Wire.{varint_within, varint_at};
+
+/// The greatest number of octets of a varint.
+const MAX_VARINT: u32 = 10;
+
+/// Reads a varint of at most `max` octets.
+fn varint_within(max: u32, bytes: &[u8]) -> Option<(u64, &[u8])>
+    ensures exact { option_map (λ x. (x.0, x.1.now)) result ≡ varint_within max bytes.now }
+    ensures shorter { IfSome result (λ x. length x.1.now < length bytes.now) }
+{
+    if max == 0 {
+        return None;
+    }
+    let (octet, rest) = bytes.split_first()?;
+    if *octet < 128 {
+        return Some((*octet as u64, rest));
+    }
+    let (high, rest) = varint_within(max - 1, rest)?;
+    let value = high.checked_mul(128)?.checked_add((*octet - 128) as u64)?;
+    Some((value, rest))
+}
+
+/// Reads the varint at the start of the bytes, which is below 2^64 and at most ten octets long.
+pub(crate) fn read_varint(bytes: &[u8]) -> Option<(u64, &[u8])>
+    ensures exact { option_map (λ x. (x.0, x.1.now)) result ≡ varint_at bytes.now }
+    ensures shorter { IfSome result (λ x. length x.1.now < length bytes.now) }
+{
+    varint_within(MAX_VARINT, bytes)
+}
