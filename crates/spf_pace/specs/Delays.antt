@@ -77,8 +77,8 @@ delays_of bounds (Synchronised ∷ past) = delays_of bounds past
 delays_of bounds (Ended end word ∷ past) = pause_after bounds past end word ∷ delays_of bounds past
 
 -- where a pacer with these bounds stands after a history
-pub record StandsAfter (bounds : ReconnectConfig) (past : List PaceStep) (pacer : Pacer) : Type
-    0 where
+pub record StandsAfter (bounds : ReconnectConfig) (past : List PaceStep)
+    (pacer : Pacer) : Type 0 where
   pub bounds_are : pacer.bounds ≡ normalized bounds
   pub current_is : as_nanos pacer.current ≡ delay_after bounds past
   pub synced_is : pacer.synchronised ≡ is_synchronised past

@@ -118,8 +118,8 @@ looks {E} s past (kind ∷ bytes) =
 
 -- ---- the reading
 
-pub record HasReading {E A : Type 0} (s : Stream E A) (max_frames : ℕ) (bytes : List ℕ) : Type
-    0 where
+pub record HasReading {E A : Type 0} (s : Stream E A) (max_frames : ℕ)
+    (bytes : List ℕ) : Type 0 where
   pub es : List E
   pub rest : List ℕ
   pub reading : IsReading s max_frames bytes es rest

@@ -91,8 +91,8 @@ held_denied E d (Accept k l ∷ later) =
 -- ---- the view where something is held
 
 -- it is permitted, with something the same
-pub record IsHeld {M L D : Type 0} (E : M → M → Bool) (h : M) (past : List (Step M L D)) : Type
-    0 where
+pub record IsHeld {M L D : Type 0} (E : M → M → Bool) (h : M)
+    (past : List (Step M L D)) : Type 0 where
   pub shown : M
   pub view_is : view_of (map done past) ≡ Permitted shown
   pub same : E h shown ≡ true

@@ -21,8 +21,8 @@ pub record Stream (E A : Type 0) : Type 0 where
   pub synced : List E → Bool
 
 -- The bytes are a frame of the event, which is allowed after the history.
-pub record IsFrame {E A : Type 0} (s : Stream E A) (past : List E) (bytes : List ℕ) (e : E) : Type
-    0 where
+pub record IsFrame {E A : Type 0} (s : Stream E A) (past : List E) (bytes : List ℕ)
+    (e : E) : Type 0 where
   pub kind : ℕ
   pub payload : List ℕ
   pub text : bytes ≡ raw_text kind payload
@@ -162,8 +162,8 @@ Grows (Some old) None more = ⊥
 Grows (Some old) (Some new) more = new ≡ old ++ more
 
 -- a list, where it is known, grows by a beginning of these, and by all of them where nothing is cut
-pub record GrowsUpTo {X : Type 0} (old new : Option (List X)) (more : List X) (cut : Bool) : Type
-    0 where
+pub record GrowsUpTo {X : Type 0} (old new : Option (List X)) (more : List X)
+    (cut : Bool) : Type 0 where
   pub count : ℕ
   pub grows : Grows old new (take count more)
   pub all : cut ≡ false → count ≡ length more
