@@ -4,6 +4,7 @@ use Rattle.spf_api.specs.declared.endpoint_error.EndpointError.{EndpointError}
 use Rattle.spf_api.specs.declared.link.ClientFault.{ClientFault}
 use Rattle.spf_wire.specs.Endpoints.{IsOwnFault, IsNoStatus}
 
-pub unreached : (rule : Result (Unit {0}) EndpointError) (f : ClientFault) → IsNoStatus f → IsOwnFault rule f
+pub unreached : (rule : Result (Unit {0}) EndpointError) (f : ClientFault) → IsNoStatus f
+    → IsOwnFault rule f
 unreached (Ok x) f h = tt
 unreached (Err e) f h = h

@@ -32,6 +32,7 @@ IsOwnFault (Ok _) f = Unit {0}
 IsOwnFault (Err e) f = IsNoStatus f
 
 -- nobody is reached by a text that breaks a rule
-abbrev pub IsUnreached : {L : Type 0} → Result (Unit {0}) EndpointError → Result L ClientFault → Type 0
+abbrev pub IsUnreached : {L : Type 0} → Result (Unit {0}) EndpointError → Result L ClientFault
+    → Type 0
 IsUnreached rule (Ok link) = rule ≡ Ok tt
 IsUnreached rule (Err f) = IsOwnFault rule f

@@ -1,12 +1,14 @@
 -- The text of a request: a frame whose payload begins with the headers.
-use Rattle.std.specs.Prelude.{ℕ, ◌^◌, nat_lt, if◌then◌else◌, List, [], ◌++◌, length, Option, None, Some}
+use Rattle.std.specs.Prelude.{ℕ, ◌^◌, nat_lt, if◌then◌else◌, List, [], ◌++◌, length, Option, None}
+use Rattle.std.specs.Prelude.{Some}
 unfoldable pub use Rattle.spf_view.specs.Frames.{sized}
 pub use Rattle.spf_view.specs.Frames.{raw_text}
 unfoldable pub use Rattle.spf_api.specs.Layout.{field_text, list_text}
 use Rattle.spf_link.specs.Headers.{Header}
 use Rattle.spf_link.specs.declared.request.Request.{Request}
 use Rattle.spf_link.specs.declared.request.Request.TheVariants as requests
-use Rattle.spf_wire.specs.declared.request.TheConstants.{X509_SVID, X509_BUNDLES, JWT_SVID, JWT_BUNDLES, VALIDATE_JWT}
+use Rattle.spf_wire.specs.declared.request.TheConstants.{X509_SVID, X509_BUNDLES, JWT_SVID}
+use Rattle.spf_wire.specs.declared.request.TheConstants.{JWT_BUNDLES, VALIDATE_JWT}
 
 abbrev pub request_kind : Request → ℕ
 request_kind requests.X509Svid = X509_SVID
@@ -21,7 +23,8 @@ header_text h = field_text h.0 ++ field_text h.1
 
 -- what stands after the headers
 abbrev pub asked_text : Request → List ℕ
-asked_text (requests.JwtSvid spiffe_id audience) = field_text spiffe_id ++ list_text field_text audience
+asked_text (requests.JwtSvid spiffe_id audience) =
+    field_text spiffe_id ++ list_text field_text audience
 asked_text (requests.ValidateJwt audience svid) = field_text audience ++ field_text svid
 asked_text _ = []
 
@@ -33,4 +36,6 @@ request_text headers request = raw_text (request_kind request) (request_payload 
 
 -- the frame of a request, where its payload is no longer than a frame may have it
 abbrev pub framed : List Header → Request → Option (List ℕ)
-framed headers request = if nat_lt (2 ^ 24) (length (request_payload headers request)) then None else Some (request_text headers request)
+framed headers request =
+    if nat_lt (2 ^ 24) (length (request_payload headers request)) then None
+    else Some (request_text headers request)

@@ -1,5 +1,6 @@
 -- How a link over the wire answers, over what its source gives and its sink holds.
-use Rattle.std.specs.Prelude.{◌≡◌, ℕ, ◌^◌, ◌<◌, Bool, List, [], length, take, Option, None, Some, Result, Ok, Err}
+use Rattle.std.specs.Prelude.{◌≡◌, ℕ, ◌^◌, ◌<◌, Bool, List, [], length, take, Option, None, Some}
+use Rattle.std.specs.Prelude.{Result, Ok, Err}
 use Rattle.std.specs.Io.KnownBytes.{Consumes, Appends}
 use Rattle.spf_io.specs.Outside.{Rose}
 use Rattle.spf_io.specs.Rule.{broken_as}
@@ -20,7 +21,8 @@ use Rattle.spf_wire.specs.declared.wire_fault.WireFault.TheVariants as wire
 use Rattle.spf_wire.specs.Answers.{StartRead, StreamRead}
 use Rattle.spf_wire.specs.Requests.{request_payload, request_text}
 
--- the source and the sink of a link: the bytes left and those held, where they are known, and how many calls failed
+-- the source and the sink of a link: the bytes left and those
+-- held, where they are known, and how many calls failed
 pub record Ports : Type 0 where
   pub left : Option (List ℕ)
   pub held : Option (List ℕ)
@@ -33,8 +35,9 @@ pub record Ports : Type 0 where
 abbrev pub refusal : GrpcStatusCode → LinkFault
 refusal c = fault.Status (record { code = c; message = []; source = None })
 
--- The refusal by what stood in the way: RESOURCE_EXHAUSTED for a request that is too long, UNAVAILABLE for a put or a read
--- that failed, INTERNAL where no whole answer came that may stand there.
+-- The refusal by what stood in the way: RESOURCE_EXHAUSTED for a
+-- request that is too long, UNAVAILABLE for a put or a read that
+-- failed, INTERNAL where no whole answer came that may stand there.
 abbrev pub fault_of : WireFault → LinkFault
 fault_of wire.RequestTooLong = refusal code.ResourceExhausted
 fault_of wire.PutFault = refusal code.Unavailable
@@ -57,7 +60,8 @@ abbrev pub HasReadCause : {A : Type 0} → Ports → Ports → Result A FrameErr
 HasReadCause old new r = r ≡ Err errors.ReadFault → Rose old.reads_failed new.reads_failed
 
 -- the request was put whole, and what came was read
-pub record IsAsked (again : Bool) (headers : List Header) (request : Request) (old new : Ports) (r : Result (Result (Unit {0}) Refused) FrameError) : Type 0 where
+pub record IsAsked (again : Bool) (headers : List Header) (request : Request) (old new : Ports)
+    (r : Result (Result (Unit {0}) Refused) FrameError) : Type 0 where
   pub fits : FitsFrame (request_payload headers request)
   pub put : Appends old.held new.held (request_text headers request)
   pub read : StartRead again old.left new.left r
@@ -76,15 +80,20 @@ pub record IsUntouched (old new : Ports) : Type 0 where
   pub unput : Appends old.held new.held []
   pub untaken : Consumes old.left new.left []
 
-abbrev pub StartAsked : Bool → List Header → Request → Ports → Ports → Result (Result (Unit {0}) Refused) WireFault → Type 0
-StartAsked again headers request old new (Ok answer) = IsAsked again headers request old new (Ok answer)
-StartAsked again headers request old new (Err wire.RequestTooLong) = (2 ^ 24 < length (request_payload headers request)) × IsUntouched old new
+abbrev pub StartAsked : Bool → List Header → Request → Ports → Ports
+    → Result (Result (Unit {0}) Refused) WireFault → Type 0
+StartAsked again headers request old new (Ok answer) =
+    IsAsked again headers request old new (Ok answer)
+StartAsked again headers request old new (Err wire.RequestTooLong) =
+    (2 ^ 24 < length (request_payload headers request)) × IsUntouched old new
 StartAsked again headers request old new (Err wire.PutFault) = IsUnput headers request old new
-StartAsked again headers request old new (Err (wire.Unread e)) = IsAsked again headers request old new (Err e)
+StartAsked again headers request old new (Err (wire.Unread e)) =
+    IsAsked again headers request old new (Err e)
 StartAsked again headers request old new (Err wire.OutOfMemory) = IsUntouched old new
 
 -- a `start`, which is the first of its link unless `again`
-pub record IsStarted (again : Bool) (headers : List Header) (request : Request) (old new : Ports) (result : Result (Unit {0}) LinkFault) : Type 0 where
+pub record IsStarted (again : Bool) (headers : List Header) (request : Request) (old new : Ports)
+    (result : Result (Unit {0}) LinkFault) : Type 0 where
   pub answer : Result (Result (Unit {0}) Refused) WireFault
   pub asked : StartAsked again headers request old new answer
   pub is : result ≡ result_of answer
@@ -92,13 +101,15 @@ pub record IsStarted (again : Bool) (headers : List Header) (request : Request) 
 -- ---- a next
 
 -- what came in the stream was read, and nothing was put
-pub record IsStreamRead (asked : Option ResponseKind) (old new : Ports) (r : Result (Result (Option Response) Refused) FrameError) : Type 0 where
+pub record IsStreamRead (asked : Option ResponseKind) (old new : Ports)
+    (r : Result (Result (Option Response) Refused) FrameError) : Type 0 where
   pub read : StreamRead asked old.left new.left r
   pub cause : HasReadCause old new r
   pub unput : Appends old.held new.held []
 
 -- a `next`, where responses of the kind were asked for
-pub record IsTold (asked : Option ResponseKind) (old new : Ports) (result : Result (Option Response) LinkFault) : Type 0 where
+pub record IsTold (asked : Option ResponseKind) (old new : Ports)
+    (result : Result (Option Response) LinkFault) : Type 0 where
   pub answer : Result (Result (Option Response) Refused) FrameError
   pub read : IsStreamRead asked old new answer
   pub is : result ≡ result_of (broken_as wire.Unread answer)

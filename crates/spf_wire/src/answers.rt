@@ -2,7 +2,8 @@
 
 ghost use Rattle.std.specs.Prelude.{◌≡◌, ◌≤◌, IsTrue, IfOk};
 ghost use Rattle.spf_frame.specs.Parts.{FailureHasCause};
-ghost use Rattle.spf_wire.specs.Answers.{AnswerRead, SaysAtStart, SaysInStream, StartRead, may_start, streams};
+ghost use Rattle.spf_wire.specs.Answers.{AnswerRead, SaysAtStart, SaysInStream, StartRead};
+ghost use Rattle.spf_wire.specs.Answers.{may_start, streams};
 ghost use Rattle.spf_wire.specs.Laid.{IsLaid};
 
 use crate::kinds::{AtStart, InStream, is_of_stream};
@@ -78,7 +79,8 @@ fn read_at_start<S: Source>(
     payload: &mut Vec<u8>,
     again: bool,
 ) -> Result<Option<Started>, FrameError>
-    ensures bytes { AnswerRead (SaysAtStart again) (may_start again) (S.left source.old) (S.left source.new) result }
+    ensures bytes { AnswerRead (SaysAtStart again) (may_start again) (S.left source.old)
+        (S.left source.new) result }
     ensures cause { FailureHasCause (S.failures source.old) (S.failures source.new) result }
 {
     let kind = match next_frame(source, payload, &AtStart { again }, true)? {
@@ -92,8 +94,8 @@ fn read_at_start<S: Source>(
     }
 }
 
-/// The answer to a start. Where it is not the first, whole frames that an earlier stream left are passed over. Passing over
-/// 2^64 - 1 of them counts as out of memory.
+/// The answer to a start. Where it is not the first, whole frames that an earlier stream left are
+/// passed over. Passing over 2^64 - 1 of them counts as out of memory.
 pub(crate) fn read_start<S: Source>(
     alloc: Global,
     source: &mut S,
@@ -120,7 +122,8 @@ pub(crate) fn read_in_stream<S: Source>(
     payload: &mut Vec<u8>,
     asked: ResponseKind,
 ) -> Result<Streamed, FrameError>
-    ensures bytes { AnswerRead (SaysInStream asked) streams (S.left source.old) (S.left source.new) result }
+    ensures bytes { AnswerRead (SaysInStream asked) streams (S.left source.old) (S.left source.new)
+        result }
     ensures cause { FailureHasCause (S.failures source.old) (S.failures source.new) result }
 {
     let kind = match next_frame(source, payload, &InStream, true)? {

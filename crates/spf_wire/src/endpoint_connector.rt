@@ -56,7 +56,9 @@ fn unreachable(alloc: Global, e: &EndpointError) -> ClientFault
 impl<R: Net<Stream = TcpStream> + Drop> EndpointConnector<R> {
     /// A connector to what the text names, as `unix:///run/agent.sock` or `tcp://127.0.0.1:8081`.
     pub fn new(net: R, alloc: Global, endpoint: &str) -> Result<EndpointConnector<R>, OutOfMemory>
-        ensures { IfOk result (λ c. ⟦<EndpointConnector<R> as Connector>⟧.validates c ≡ kept (endpoint_rule endpoint.now)) }
+        ensures { IfOk result
+            (λ c. ⟦<EndpointConnector<R> as Connector>⟧.validates c
+            ≡ kept (endpoint_rule endpoint.now)) }
     {
         Ok(EndpointConnector {
             net,

@@ -13,7 +13,8 @@ use spf_system::{Environment, StopFlag};
 use std::alloc::Global;
 use std::net::{Net, TcpStream};
 
-/// Connects to the endpoint that `SPIFFE_ENDPOINT_SOCKET` names, which is looked up at each `connect`.
+/// Connects to the endpoint that `SPIFFE_ENDPOINT_SOCKET`
+/// names, which is looked up at each `connect`.
 #[derive(Drop)]
 pub struct EnvConnector<R, E> {
     net: R,

@@ -1,4 +1,5 @@
-//! The wire of the Workload API: requests and answers as frames over a source and a sink, and over sockets.
+//! The wire of the Workload API: requests and answers as
+//! frames over a source and a sink, and over sockets.
 #![tactic(auto)]
 
 mod answers;

@@ -5,7 +5,9 @@ ghost use Rattle.std.specs.Int.{w32, to_be_bytes};
 ghost use Rattle.std.specs.Option.{option_map};
 ghost use Rattle.spf_api.specs.Layout.{field_text, list_text};
 ghost use Rattle.spf_view.specs.Frames.{raw_text};
-ghost use Rattle.spf_wire.specs.Requests.{asked_text, framed, header_text, request_kind as kind_number, request_payload as payload_text};
+ghost use Rattle.spf_wire.specs.Requests.{asked_text, framed, header_text};
+ghost use Rattle.spf_wire.specs.Requests.{request_kind as kind_number};
+ghost use Rattle.spf_wire.specs.Requests.{request_payload as payload_text};
 
 use spf_io::{OutOfMemory, Text};
 use spf_link::Request;

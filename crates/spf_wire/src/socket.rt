@@ -27,7 +27,10 @@ pub(crate) fn is_over(stop: &Option<StopFlag>, waited_millis: u64) -> bool {
 
 /// Whether the system gave up waiting, and the call may be made again.
 fn is_to_repeat(kind: ErrorKind) -> bool {
-    matches!(kind, ErrorKind::WouldBlock | ErrorKind::TimedOut | ErrorKind::Interrupted)
+    matches!(
+        kind,
+        ErrorKind::WouldBlock | ErrorKind::TimedOut | ErrorKind::Interrupted
+    )
 }
 
 /// A connected socket.
@@ -80,7 +83,8 @@ impl Socket {
     }
 }
 
-/// One end of a socket, read from or written to. A wait that is to end fails, as a read or write that failed.
+/// One end of a socket, read from or written to. A wait
+/// that is to end fails, as a read or write that failed.
 #[derive(Drop)]
 pub struct SocketEnd {
     socket: Socket,

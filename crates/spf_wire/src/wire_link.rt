@@ -4,7 +4,8 @@ ghost use Rattle.std.specs.Prelude.{◌≡◌, None, Some, IfOk, IfSome, is_some
 ghost use Rattle.spf_api.specs.Payload.{kind_of};
 ghost use Rattle.spf_link.specs.Links.{HasLinkCause};
 ghost use Rattle.spf_link.specs.Request.{answered_by};
-ghost use Rattle.spf_wire.specs.Wire.{Ports, StartAsked, IsStreamRead, fault_of as link_fault, refusal as refusal_of, result_of as link_result};
+ghost use Rattle.spf_wire.specs.Wire.{Ports, StartAsked, IsStreamRead, fault_of as link_fault};
+ghost use Rattle.spf_wire.specs.Wire.{refusal as refusal_of, result_of as link_result};
 
 use crate::answers::{Started, Streamed, read_in_stream, read_start};
 use crate::request::request_frame;
@@ -101,7 +102,18 @@ impl<S: Source, K: Sink> WireLink<S, K> {
 
     /// Puts a request and reads its answer.
     fn ask(&mut self, headers: &Headers, request: &Request) -> Result<Started, WireFault>
-        ensures asked { StartAsked (is_some self.old.asked) headers.now request.now (record { left = S.left self.old.source; held = K.held self.old.sink; reads_failed = S.failures self.old.source; puts_failed = K.failures self.old.sink }) (record { left = S.left self.new.source; held = K.held self.new.sink; reads_failed = S.failures self.new.source; puts_failed = K.failures self.new.sink }) result }
+        ensures asked { StartAsked (is_some self.old.asked) headers.now request.now
+            (record {
+              left = S.left self.old.source;
+              held = K.held self.old.sink;
+              reads_failed = S.failures self.old.source;
+              puts_failed = K.failures self.old.sink;
+            }) (record {
+              left = S.left self.new.source;
+              held = K.held self.new.sink;
+              reads_failed = S.failures self.new.source;
+              puts_failed = K.failures self.new.sink;
+            }) result }
         ensures kind { IfOk result (λ _. self.new.asked ≡ Some (answered_by request.now)) }
         ensures refused { self.new.refused ≡ self.old.refused }
     {
@@ -122,8 +134,20 @@ impl<S: Source, K: Sink> WireLink<S, K> {
 
     /// Reads the next answer in the stream. Before the first start none may stand.
     fn read_next(&mut self) -> Result<Streamed, FrameError>
-        ensures read { IsStreamRead self.old.asked (record { left = S.left self.old.source; held = K.held self.old.sink; reads_failed = S.failures self.old.source; puts_failed = K.failures self.old.sink }) (record { left = S.left self.new.source; held = K.held self.new.sink; reads_failed = S.failures self.new.source; puts_failed = K.failures self.new.sink }) result }
-        ensures kind { IfOk result (λ a. IfOk a (λ o. IfSome o (λ r. self.old.asked ≡ Some (kind_of r)))) }
+        ensures read { IsStreamRead self.old.asked
+            (record {
+              left = S.left self.old.source;
+              held = K.held self.old.sink;
+              reads_failed = S.failures self.old.source;
+              puts_failed = K.failures self.old.sink;
+            }) (record {
+              left = S.left self.new.source;
+              held = K.held self.new.sink;
+              reads_failed = S.failures self.new.source;
+              puts_failed = K.failures self.new.sink;
+            }) result }
+        ensures kind { IfOk result
+            (λ a. IfOk a (λ o. IfSome o (λ r. self.old.asked ≡ Some (kind_of r)))) }
         ensures asked { self.new.asked ≡ self.old.asked }
         ensures refused { self.new.refused ≡ self.old.refused }
     {
@@ -148,9 +172,33 @@ impl<S: Source, K: Sink> Link for WireLink<S, K> {
 
     ghost answers = { λ _. None };
 
-    ghost start_gives = { λ old headers request result new. IsStarted (is_some old.asked) headers request (record { left = S.left old.source; held = K.held old.sink; reads_failed = S.failures old.source; puts_failed = K.failures old.sink }) (record { left = S.left new.source; held = K.held new.sink; reads_failed = S.failures new.source; puts_failed = K.failures new.sink }) result };
+    ghost start_gives = { λ old headers request result new.
+        IsStarted (is_some old.asked) headers request
+        (record {
+          left = S.left old.source;
+          held = K.held old.sink;
+          reads_failed = S.failures old.source;
+          puts_failed = K.failures old.sink;
+        }) (record {
+          left = S.left new.source;
+          held = K.held new.sink;
+          reads_failed = S.failures new.source;
+          puts_failed = K.failures new.sink;
+        }) result };
 
-    ghost next_gives = { λ old result new. IsTold old.asked (record { left = S.left old.source; held = K.held old.sink; reads_failed = S.failures old.source; puts_failed = K.failures old.sink }) (record { left = S.left new.source; held = K.held new.sink; reads_failed = S.failures new.source; puts_failed = K.failures new.sink }) result };
+    ghost next_gives = { λ old result new.
+        IsTold old.asked
+        (record {
+          left = S.left old.source;
+          held = K.held old.sink;
+          reads_failed = S.failures old.source;
+          puts_failed = K.failures old.sink;
+        }) (record {
+          left = S.left new.source;
+          held = K.held new.sink;
+          reads_failed = S.failures new.source;
+          puts_failed = K.failures new.sink;
+        }) result };
 
     fn start(&mut self, headers: &Headers, request: &Request) -> Result<(), LinkFault> {
         let asked = self.ask(headers, request);

@@ -4,4 +4,5 @@ use Rattle.spf_api.proofs.Laid.{Laid}
 use Rattle.spf_wire.proofs.request.put_headers.Given as goal
 
 abbrev pub invariant-headers : goal.invariant-headers
-invariant-headers l = Laid header_text (λ _. Unit {0}) l.initial.out.items l.out.items (take l.header-index l.headers)
+invariant-headers l =
+    Laid header_text (λ _. Unit {0}) l.initial.out.items l.out.items (take l.header-index l.headers)
