@@ -9,7 +9,8 @@ use spf_x509::{Certificate, X509BundleSet};
 
 /// The authorities that a peer of `domain` is checked against; none where its bundle is not there.
 pub fn authorities_for<'a>(bundles: &'a X509BundleSet, domain: &TrustDomain) -> &'a [Certificate]
-    ensures { result.now ≡ option_map_or (λ bundle. bundle.authorities) (find_entry domain.now bundles.now) [] }
+    ensures { result.now
+        ≡ option_map_or (λ bundle. bundle.authorities) (find_entry domain.now bundles.now) [] }
 {
     match bundles.bundle_for(domain) {
         Some(bundle) => bundle.authorities(),

@@ -7,7 +7,8 @@ ghost use Rattle.spf_uses.specs.Rules.{member_rule};
 use spf_id::{SpiffeId, SpiffeIdError, TrustDomain};
 use std::alloc::Global;
 
-/// Whether `text` is the ID of a member of `domain`. Where it is no ID, the error says which rule it breaks first.
+/// Whether `text` is the ID of a member of `domain`. Where
+/// it is no ID, the error says which rule it breaks first.
 pub fn is_member(alloc: Global, text: &str, domain: &TrustDomain) -> Result<bool, SpiffeIdError>
     ensures { Gives is_memory (λ is. is) result (member_rule text.now domain.now) }
 {

@@ -23,7 +23,8 @@ pub fn replay(first: Prepared, later: Vec<Prepared>) -> Snapshot
 /// How often these steps change what is visible.
 pub fn revision_after(first: Prepared, later: Vec<Prepared>) -> Result<u64, OutOfMemory>
     requires { IsTrue (is_accept first) }
-    ensures { IfOk result (λ revision. revision ≡ replay_revision same_material (first ∷ later.items)) }
+    ensures { IfOk result
+        (λ revision. revision ≡ replay_revision same_material (first ∷ later.items)) }
 {
     let state = replay(first, later).state(false)?;
     Ok(state.revision())
