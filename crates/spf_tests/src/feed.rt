@@ -131,39 +131,48 @@ static SESSIONS: [(&str, &str, &str); 16] = [
     (
         "first-session",
         "M999 CM CN I1F CL",
-        "1 waiting\n2 waiting\n3 waiting\n4 0 permitted P1 other.org=ROOT2\n5 0 permitted P1 other.org=ROOT2\nok accept []",
+        "1 waiting\n2 waiting\n3 waiting\n4 0 permitted P1 other.org=ROOT2\n\
+         5 0 permitted P1 other.org=ROOT2\nok accept []",
     ),
     ("empty-input", "", "never synced []"),
     ("close-first", "CL", "closed []"),
     (
         "no-moment-yet",
         "CM CN I1 M0 CM CN I1",
-        "1 waiting\n2 waiting\n3 waiting\n4 waiting\n5 waiting\n6 waiting\n7 0 permitted P1\nok accept [Error(NoSuitableSvid), Error(InitialSyncFailed)]",
+        "1 waiting\n2 waiting\n3 waiting\n4 waiting\n5 waiting\n6 waiting\n7 0 permitted P1\n\
+         ok accept [Error(NoSuitableSvid), Error(InitialSyncFailed)]",
     ),
     (
         "expired-at-first",
         "M1000 CM CN I1",
-        "1 waiting\n2 waiting\n3 waiting\n4 waiting\nnever synced [Error(NoSuitableSvid), Error(InitialSyncFailed)]",
+        "1 waiting\n2 waiting\n3 waiting\n4 waiting\n\
+         never synced [Error(NoSuitableSvid), Error(InitialSyncFailed)]",
     ),
     (
         "expiry-passes",
         "M999 CM CN I1 M1000",
-        "1 waiting\n2 waiting\n3 waiting\n4 0 permitted P1\n5 0 permitted - - - example.org=ROOT1\nok accept []",
+        "1 waiting\n2 waiting\n3 waiting\n4 0 permitted P1\n5 0 permitted - - - example.org=ROOT1\n\
+         ok accept []",
     ),
     (
         "first-denial-stays",
         "M999 CM CN I1 CM CN IS7no CM CS7issued",
-        "1 waiting\n2 waiting\n3 waiting\n4 0 permitted P1\n5 0 permitted P1\n6 0 permitted P1\n7 1 withdrawn permission_denied:6e6f\n8 1 withdrawn permission_denied:6e6f\n9 1 withdrawn permission_denied:6e6f\nok accept deny deny [Error(StreamError), Reconnect, Reconnect]",
+        "1 waiting\n2 waiting\n3 waiting\n4 0 permitted P1\n5 0 permitted P1\n6 0 permitted P1\n\
+         7 1 withdrawn permission_denied:6e6f\n8 1 withdrawn permission_denied:6e6f\n\
+         9 1 withdrawn permission_denied:6e6f\n\
+         ok accept deny deny [Error(StreamError), Reconnect, Reconnect]",
     ),
     (
         "client-failure-keeps",
         "M999 CM CN I1 CF7no",
-        "1 waiting\n2 waiting\n3 waiting\n4 0 permitted P1\n5 0 permitted P1\nok accept [Error(ClientCreation), Reconnect]",
+        "1 waiting\n2 waiting\n3 waiting\n4 0 permitted P1\n5 0 permitted P1\n\
+         ok accept [Error(ClientCreation), Reconnect]",
     ),
     (
         "last-bundle-replaces",
         "M999 CM CN TWOFED",
-        "1 waiting\n2 waiting\n3 waiting\n4 0 permitted spiffe://example.org/w 1000 LEAF1 example.org=ROOT3\nok accept []",
+        "1 waiting\n2 waiting\n3 waiting\n\
+         4 0 permitted spiffe://example.org/w 1000 LEAF1 example.org=ROOT3\nok accept []",
     ),
     (
         "empty-federated-bundle",
@@ -173,7 +182,9 @@ static SESSIONS: [(&str, &str, &str); 16] = [
     (
         "crls",
         "M999 CM CN I1C CM CN I1CB I1CA",
-        "1 waiting\n2 waiting\n3 waiting\n4 0 permitted P1 #0a,0b\n5 0 permitted P1 #0a,0b\n6 0 permitted P1 #0a,0b\n7 0 permitted P1 #0a,0b\n8 1 permitted P1 #0a\nok accept accept accept [Update]",
+        "1 waiting\n2 waiting\n3 waiting\n4 0 permitted P1 #0a,0b\n5 0 permitted P1 #0a,0b\n\
+         6 0 permitted P1 #0a,0b\n7 0 permitted P1 #0a,0b\n8 1 permitted P1 #0a\n\
+         ok accept accept accept [Update]",
     ),
     (
         "statuses, of the client",
@@ -193,12 +204,22 @@ static SESSIONS: [(&str, &str, &str); 16] = [
     (
         "denial-and-recovery, recorded",
         "M999 CM CN I1 CM CN IS7no CM CN BADKEY CM CN IS14x CM CN I1",
-        "1 waiting\n2 waiting\n3 waiting\n4 0 permitted P1\n5 0 permitted P1\n6 0 permitted P1\n7 1 withdrawn permission_denied:6e6f\n8 1 withdrawn permission_denied:6e6f\n9 1 withdrawn permission_denied:6e6f\n10 1 withdrawn permission_denied:6e6f\n11 1 withdrawn permission_denied:6e6f\n12 1 withdrawn permission_denied:6e6f\n13 1 withdrawn permission_denied:6e6f\n14 1 withdrawn permission_denied:6e6f\n15 1 withdrawn permission_denied:6e6f\n16 2 permitted P1\nok accept deny accept [Error(StreamError), Reconnect, Error(StreamError), Reconnect, Error(StreamError), Reconnect, Update]",
+        "1 waiting\n2 waiting\n3 waiting\n4 0 permitted P1\n5 0 permitted P1\n6 0 permitted P1\n\
+         7 1 withdrawn permission_denied:6e6f\n8 1 withdrawn permission_denied:6e6f\n\
+         9 1 withdrawn permission_denied:6e6f\n10 1 withdrawn permission_denied:6e6f\n\
+         11 1 withdrawn permission_denied:6e6f\n12 1 withdrawn permission_denied:6e6f\n\
+         13 1 withdrawn permission_denied:6e6f\n14 1 withdrawn permission_denied:6e6f\n\
+         15 1 withdrawn permission_denied:6e6f\n16 2 permitted P1\n\
+         ok accept deny accept [Error(StreamError), Reconnect, Error(StreamError), Reconnect, \
+         Error(StreamError), Reconnect, Update]",
     ),
     (
         "reshuffled-material",
         "M999 CM CN J1 CM CN J2 J3",
-        "1 waiting\n2 waiting\n3 waiting\n4 0 permitted P1,ROOT2\n5 0 permitted P1,ROOT2\n6 0 permitted P1,ROOT2\n7 0 permitted P1,ROOT2\n8 1 permitted spiffe://example.org/v 1000 LEAF2 example.org=ROOT1,ROOT2\nok accept accept accept [Update]",
+        "1 waiting\n2 waiting\n3 waiting\n4 0 permitted P1,ROOT2\n5 0 permitted P1,ROOT2\n\
+         6 0 permitted P1,ROOT2\n7 0 permitted P1,ROOT2\n\
+         8 1 permitted spiffe://example.org/v 1000 LEAF2 example.org=ROOT1,ROOT2\n\
+         ok accept accept accept [Update]",
     ),
 ];
 
@@ -220,7 +241,8 @@ fn sessions(rt: HostRuntime) -> Result<(), Fail> {
 fn refusing_publisher(rt: HostRuntime) -> Result<(), Fail> {
     let alloc = rt.alloc();
     let left =
-        "1 waiting\n2 waiting\n3 waiting\n4 0 permitted P1\n5 0 permitted P1\n6 0 permitted P1\nout of memory accept []";
+        "1 waiting\n2 waiting\n3 waiting\n4 0 permitted P1\n5 0 permitted P1\n6 0 permitted P1\n\
+         out of memory accept []";
     let frames = "M999 CM CN I1 CM CN IS7no CM CN BADKEY CM CN IS14x CM CN I1";
     let publisher = MemPublisher::refusing(alloc, 2);
     assert!(rt; leaves::<NoPicker>(alloc, frames, publisher, None, left)?);
@@ -249,7 +271,8 @@ fn pickers(rt: HostRuntime) -> Result<(), Fail> {
     let alloc = rt.alloc();
     let frames = "M999 CM CN HINT1 CM CN HINT2";
     let left =
-        "1 waiting\n2 waiting\n3 waiting\n4 0 permitted P1\n5 0 permitted P1\n6 0 permitted P1\n7 1 permitted - - - example.org=ROOT2\nok accept accept [Update]";
+        "1 waiting\n2 waiting\n3 waiting\n4 0 permitted P1\n5 0 permitted P1\n6 0 permitted P1\n\
+         7 1 permitted - - - example.org=ROOT2\nok accept accept [Update]";
     assert!(rt; hint_leaves(alloc, frames, left)?, "hint-picker");
     let picker = FnPicker::<_, OnlyOne>::new(|svids: &[Arc<X509Svid>]| Some(if svids.len() == 1 {
         0
@@ -258,7 +281,8 @@ fn pickers(rt: HostRuntime) -> Result<(), Fail> {
     }));
     let frames = "M999 CM CN I1 CM CN J1";
     let left =
-        "1 waiting\n2 waiting\n3 waiting\n4 0 permitted P1\n5 0 permitted P1\n6 0 permitted P1\n7 1 permitted - - - example.org=ROOT1,ROOT2\nok accept accept [Update]";
+        "1 waiting\n2 waiting\n3 waiting\n4 0 permitted P1\n5 0 permitted P1\n6 0 permitted P1\n\
+         7 1 permitted - - - example.org=ROOT1,ROOT2\nok accept accept [Update]";
     let publisher = MemPublisher::new(alloc);
     assert!(rt;
         leaves(alloc, frames, publisher, Some(&picker), left)?,

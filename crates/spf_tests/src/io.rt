@@ -7,7 +7,8 @@ use spf_io::{
 use std::io::{self, ErrorKind, Read};
 use std::test::Fail;
 
-/// A cut of 0 counts as 1, the third read fails and loses nothing, and after the cuts any number is given.
+/// A cut of 0 counts as 1, the third read fails and loses
+/// nothing, and after the cuts any number is given.
 #[test]
 fn memory_source(rt: HostRuntime) -> Result<(), Fail> {
     let alloc = rt.alloc();
@@ -54,7 +55,8 @@ impl Read for BrokenReader {
     }
 }
 
-/// The adapters over a reader and a writer of std: all bytes pass, and a writer that takes nothing is a failure.
+/// The adapters over a reader and a writer of std: all bytes
+/// pass, and a writer that takes nothing is a failure.
 #[test]
 fn adapters(rt: HostRuntime) -> Result<(), Fail> {
     let mut source = StdSource::new(b"abc".as_slice());

@@ -103,7 +103,8 @@ fn steps(rt: HostRuntime) -> Result<(), Fail> {
     Ok(())
 }
 
-/// A session whose picker takes the last of two SVIDs, and whose publisher counts an update and a denial.
+/// A session whose picker takes the last of two SVIDs,
+/// and whose publisher counts an update and a denial.
 #[test]
 fn session(rt: HostRuntime) -> Result<(), Fail> {
     let alloc = rt.alloc();

@@ -12,7 +12,7 @@ fn malformed() -> X509ParseError {
     X509ParseError::new(X509ParseKind::InvalidCertificate)
 }
 
-/// The text of each error of a certificate.
+/// The text of each error of a certificate that is not of its names.
 #[test]
 fn certificate_error_texts(rt: HostRuntime) -> Result<(), Fail> {
     let alloc = rt.alloc();
@@ -30,6 +30,23 @@ fn certificate_error_texts(rt: HostRuntime) -> Result<(), Fail> {
             CertificateError::ParseX509Certificate(malformed()),
             "failed parsing X.509 certificate",
         ),
+        (
+            CertificateError::TooManyCertificates { max: 16 },
+            "certificate chain has too many certificates (max 16)",
+        ),
+        (CertificateError::OutOfMemory, "out of memory"),
+    ];
+    for (error, text) in rows.iter() {
+        assert_eq!(rt; format!(in alloc; "{error}")?.as_str(), *text);
+    }
+    Ok(())
+}
+
+/// The text of each error of the URI names of a certificate.
+#[test]
+fn san_error_texts(rt: HostRuntime) -> Result<(), Fail> {
+    let alloc = rt.alloc();
+    let rows = [
         (
             CertificateError::MissingSpiffeId,
             "certificate is missing SPIFFE ID in URI SAN",
@@ -51,14 +68,9 @@ fn certificate_error_texts(rt: HostRuntime) -> Result<(), Fail> {
             "certificate has too many URI SAN entries (max 3)",
         ),
         (
-            CertificateError::TooManyCertificates { max: 16 },
-            "certificate chain has too many certificates (max 16)",
-        ),
-        (
             CertificateError::InvalidSpiffeId(SpiffeIdError::Empty),
             "failed to parse SPIFFE ID from URI SAN: Empty",
         ),
-        (CertificateError::OutOfMemory, "out of memory"),
     ];
     for (error, text) in rows.iter() {
         assert_eq!(rt; format!(in alloc; "{error}")?.as_str(), *text);
@@ -66,13 +78,11 @@ fn certificate_error_texts(rt: HostRuntime) -> Result<(), Fail> {
     Ok(())
 }
 
-/// The text of each error of an SVID.
+/// The text of each error of a leaf.
 #[test]
-fn svid_error_texts(rt: HostRuntime) -> Result<(), Fail> {
+fn leaf_error_texts(rt: HostRuntime) -> Result<(), Fail> {
     let alloc = rt.alloc();
-    let key = PrivateKeyError::DecodePkcs8(Pkcs8DecodeError);
     let rows = [
-        (X509SvidError::EmptyChain, "no certificates found in chain"),
         (
             X509SvidError::LeafCertificateHasCaFlag,
             "leaf certificate must not have CA flag set to true",
@@ -90,6 +100,24 @@ fn svid_error_texts(rt: HostRuntime) -> Result<(), Fail> {
             "leaf certificate must have 'digitalSignature' set as key usage",
         ),
         (
+            X509SvidError::LeafSpiffeIdMissingPath,
+            "leaf certificate SPIFFE ID must have a non-root path component",
+        ),
+    ];
+    for (error, text) in rows.iter() {
+        assert_eq!(rt; format!(in alloc; "{error}")?.as_str(), *text);
+    }
+    Ok(())
+}
+
+/// The text of each other error of an SVID.
+#[test]
+fn svid_error_texts(rt: HostRuntime) -> Result<(), Fail> {
+    let alloc = rt.alloc();
+    let key = PrivateKeyError::DecodePkcs8(Pkcs8DecodeError);
+    let rows = [
+        (X509SvidError::EmptyChain, "no certificates found in chain"),
+        (
             X509SvidError::SigningCertificateMissingCaFlag,
             "signing certificate must have CA flag set to true",
         ),
@@ -106,10 +134,6 @@ fn svid_error_texts(rt: HostRuntime) -> Result<(), Fail> {
         (
             X509SvidError::Certificate(CertificateError::MissingSpiffeId),
             "certificate is missing SPIFFE ID in URI SAN",
-        ),
-        (
-            X509SvidError::LeafSpiffeIdMissingPath,
-            "leaf certificate SPIFFE ID must have a non-root path component",
         ),
         (
             X509SvidError::PrivateKey(key),
@@ -137,7 +161,8 @@ fn other_texts(rt: HostRuntime) -> Result<(), Fail> {
     )?;
     assert_eq!(rt;
         shown.as_str(),
-        "failed decoding PKCS#8 private key; out of memory; certificate is missing SPIFFE ID in URI SAN; out of memory"
+        "failed decoding PKCS#8 private key; out of memory; certificate is missing SPIFFE ID in \
+         URI SAN; out of memory"
     );
     for (extension, dotted) in [
         (X509ExtensionId::KeyUsage, "2.5.29.15"),

@@ -1,5 +1,6 @@
 -- Generated sessions, as they are put together.
-use Rattle.std.proofs.Common.{◌≡◌, ◌∙◌, refl, ap, sym, ℕ, suc, ◌%◌, ◌<◌, Bool, true, false, Option, Some, List, [], ◌∷◌, ◌++◌, length, arith, append_assoc, length-append}
+use Rattle.std.proofs.Common.{◌≡◌, ◌∙◌, refl, ap, sym, ℕ, suc, ◌%◌, ◌<◌, Bool, true, false, Option}
+use Rattle.std.proofs.Common.{Some, List, [], ◌∷◌, ◌++◌, length, arith, append_assoc, length-append}
 use Rattle.std.proofs.lemmas.List.{append-nil}
 use Rattle.std.specs.Prelude.{◌==◌, nat_lt, if◌then◌else◌}
 use Rattle.std.specs.Int.{w32, to_be_bytes}
@@ -15,7 +16,11 @@ use Rattle.spiffe_watch.specs.declared.generated.Variant.{Variant}
 use Rattle.spiffe_watch.specs.declared.generated.Variant.TheVariants as variants
 use Rattle.spiffe_watch.specs.declared.generated.Workload.{Workload}
 use Rattle.spiffe_watch.specs.declared.template.Template.{Template}
-use Rattle.spiffe_watch.specs.MadeSession.{client_frames, close_frame, denial_frame, end_frame, entry, frames_by, frames_from, frames_left, generation_by, item, item_frame, next_seed, leaf, leaf_spec, moment_frame, root, root_spec, intermediate, intermediate_spec}
+use Rattle.spiffe_watch.specs.MadeSession.{client_frames, close_frame, denial_frame, end_frame}
+use Rattle.spiffe_watch.specs.MadeSession.{entry, frames_by, frames_from, frames_left}
+use Rattle.spiffe_watch.specs.MadeSession.{generation_by, item, item_frame, next_seed, leaf}
+use Rattle.spiffe_watch.specs.MadeSession.{leaf_spec, moment_frame, root, root_spec, intermediate}
+use Rattle.spiffe_watch.specs.MadeSession.{intermediate_spec}
 use Rattle.spiffe_watch.specs.GeneratedParts.{Yields, IsExpiry, IsWorkload}
 use Rattle.spiffe_watch.specs.Template.{IsTemplate, before, dated, tbs_after, tbs_before, tbs_size}
 
@@ -36,25 +41,52 @@ leaf_offset index = refl
 -- ---- items
 
 -- a certificate of a template, with the expiry of a generation
-pub dated_root : (serial generation : ℕ) (t : Template) (time : List ℕ) → IsTemplate (root_spec serial 0) t → IsExpiry generation time → dated t time ≡ root serial generation
-dated_root serial generation t time is expiry = is time expiry.size ∙ ap (certificate_text (root_spec serial generation)) expiry.is
+pub dated_root : (serial generation : ℕ) (t : Template) (time : List ℕ)
+    → IsTemplate (root_spec serial 0) t → IsExpiry generation time
+    → dated t time ≡ root serial generation
+dated_root serial generation t time is expiry =
+    is time expiry.size ∙ ap (certificate_text (root_spec serial generation)) expiry.is
 
-dated_intermediate : (generation : ℕ) (t : Template) (time : List ℕ) → IsTemplate (intermediate_spec 0) t → IsExpiry generation time → dated t time ≡ intermediate generation
-dated_intermediate generation t time is expiry = is time expiry.size ∙ ap (certificate_text (intermediate_spec generation)) expiry.is
+dated_intermediate : (generation : ℕ) (t : Template) (time : List ℕ)
+    → IsTemplate (intermediate_spec 0) t → IsExpiry generation time
+    → dated t time ≡ intermediate generation
+dated_intermediate generation t time is expiry =
+    is time expiry.size ∙ ap (certificate_text (intermediate_spec generation)) expiry.is
 
-dated_leaf : (index generation : ℕ) (t : Template) (time : List ℕ) → IsTemplate (leaf_spec index 0) t → IsExpiry generation time → dated t time ≡ leaf index generation
-dated_leaf index generation t time is expiry = is time expiry.size ∙ ap (certificate_text (leaf_spec index generation)) expiry.is
+dated_leaf : (index generation : ℕ) (t : Template) (time : List ℕ)
+    → IsTemplate (leaf_spec index 0) t → IsExpiry generation time
+    → dated t time ≡ leaf index generation
+dated_leaf index generation t time is expiry =
+    is time expiry.size ∙ ap (certificate_text (leaf_spec index generation)) expiry.is
 
 -- the entry of a workload
-pub entry_of_workload : (index generation : ℕ) (w : Workload) (t : Template) (time key key' bundle bundle' : List ℕ) (e : SvidEntry) → IsWorkload index w → IsTemplate (intermediate_spec 0) t
+pub entry_of_workload : (index generation : ℕ) (w : Workload) (t : Template)
+    (time key key' bundle bundle' : List ℕ) (e : SvidEntry) → IsWorkload index w
+    → IsTemplate (intermediate_spec 0) t
     → IsExpiry generation time → key ≡ key' → bundle ≡ bundle'
-    → e ≡ record { spiffe_id = w.identity; x509_svid = dated w.leaf time ++ dated t time; x509_svid_key = key; bundle = bundle; hint = [] }
+    → e ≡ record {
+      spiffe_id = w.identity;
+      x509_svid = dated w.leaf time ++ dated t time;
+      x509_svid_key = key;
+      bundle = bundle;
+      hint = [];
+    }
     → e ≡ entry generation index key' bundle'
-entry_of_workload index generation w t time key key' bundle bundle' e is above expiry keys bundles made =
+entry_of_workload index generation w t time key key' bundle bundle' e is above expiry keys bundles
+    made =
     made
-    ∙ (λ i. record { spiffe_id = is.identity_is i; x509_svid = dated_leaf index generation w.leaf time is.leaf_is expiry i ++ dated_intermediate generation t time above expiry i; x509_svid_key = keys i; bundle = bundles i; hint = [] })
+    ∙ (λ i. record {
+      spiffe_id = is.identity_is i;
+      x509_svid =
+          dated_leaf index generation w.leaf time is.leaf_is expiry i
+          ++ dated_intermediate generation t time above expiry i;
+      x509_svid_key = keys i;
+      bundle = bundles i;
+      hint = [];
+    })
 
-pub payload_is : (r : ContextResponse) (bytes : List ℕ) → Payload (kind_of (response.Context r)) bytes (response.Context r) → bytes ≡ context_payload r
+pub payload_is : (r : ContextResponse) (bytes : List ℕ)
+    → Payload (kind_of (response.Context r)) bytes (response.Context r) → bytes ≡ context_payload r
 unfolding Payload
 payload_is r bytes p = p.octets
 
@@ -62,11 +94,14 @@ regroup : (old a b : List ℕ) → old ++ 5 ∷ [] ++ a ++ b ≡ old ++ 5 ∷ (a
 regroup old a b = simp append_assoc
 
 -- the frame of an item, put after what was there
-pub item_put : (variant : Variant) (generation : ℕ) (old payload : List ℕ) → payload ≡ context_payload (item variant generation)
-    → old ++ 5 ∷ [] ++ to_be_bytes w32 (length payload) ++ payload ≡ old ++ item_frame variant generation
+pub item_put : (variant : Variant) (generation : ℕ) (old payload : List ℕ)
+    → payload ≡ context_payload (item variant generation)
+    → old ++ 5 ∷ [] ++ to_be_bytes w32 (length payload) ++ payload
+    ≡ old ++ item_frame variant generation
 unfolding item_frame sized
 item_put variant generation old payload is =
-    regroup old (to_be_bytes w32 (length payload)) payload ∙ ap (λ (p : List ℕ). old ++ 5 ∷ (to_be_bytes w32 (length p) ++ p)) is
+    regroup old (to_be_bytes w32 (length payload)) payload
+    ∙ ap (λ (p : List ℕ). old ++ 5 ∷ (to_be_bytes w32 (length p) ++ p)) is
 
 -- ---- frames
 
@@ -112,33 +147,54 @@ unfolding frames_by
 frames_some choice generation =
     let plain = item_some variants.Plain generation in
     let turned = item_some variants.Reordered generation in
-    let bad = some_more (item_frame variants.BadKey generation) client_frames (item_some variants.BadKey generation) in
+    let bad = some_more (item_frame variants.BadKey generation) client_frames
+    (item_some variants.BadKey generation) in
     let denied : 0 < length (denial_frame ++ client_frames) = omega arith in
     let ended : 0 < length (end_frame ++ client_frames) = omega arith in
-    some_if (nat_lt choice 4) _ _ plain (some_if (choice == 4) _ _ turned (some_if (choice == 5) _ _ denied (some_if (choice == 6) _ _ ended bad)))
+    some_if (nat_lt choice 4) _ _ plain
+    (some_if (choice == 4) _ _ turned
+    (some_if (choice == 5) _ _ denied (some_if (choice == 6) _ _ ended bad)))
 
 -- the close, and then nothing
-pub yields_close : (old frames : List ℕ) (left : Option ℕ) (seed generation : ℕ) → frames_left left seed generation ≡ old → left ≡ Some 0 → frames ≡ close_frame → Yields true old [] frames
+pub yields_close : (old frames : List ℕ) (left : Option ℕ) (seed generation : ℕ)
+    → frames_left left seed generation ≡ old → left ≡ Some 0 → frames ≡ close_frame
+    → Yields true old [] frames
 yields_close old frames left seed generation is at same =
-    let whole : old ≡ close_frame = sym is ∙ ap (λ (l : Option ℕ). frames_left l seed generation) at in
+    let whole : old ≡ close_frame =
+    sym is ∙ ap (λ (l : Option ℕ). frames_left l seed generation) at in
     record {
       next = whole ∙ sym same ∙ sym (append-nil frames);
       ended = λ no. absurd cc;
-      some = λ yes. let size : length frames ≡ length close_frame = ap length same in omega (arith, size);
+      some = λ yes. let size : length frames ≡ length close_frame = ap length same in
+          omega (arith, size);
     }
 
 -- an operation, and then the rest
-pub yields_operation : (old frames : List ℕ) (left : Option ℕ) (k n seed generation : ℕ) → frames_left left seed generation ≡ old → left ≡ Some k → k ≡ suc n
-    → frames ≡ frames_by (next_seed seed % 8) (generation_by (next_seed seed) generation) → Yields true old (frames_from n (next_seed seed) (generation_by (next_seed seed) generation)) frames
+pub yields_operation : (old frames : List ℕ) (left : Option ℕ) (k n seed generation : ℕ)
+    → frames_left left seed generation ≡ old → left ≡ Some k → k ≡ suc n
+    → frames ≡ frames_by (next_seed seed % 8) (generation_by (next_seed seed) generation)
+    → Yields true old (frames_from n (next_seed seed) (generation_by (next_seed seed) generation))
+    frames
 yields_operation old frames left k n seed generation is at more same =
     record {
-      next = sym is ∙ ap (λ (l : Option ℕ). frames_left l seed generation) (at ∙ ap Some more) ∙ ap (λ (l : List ℕ). l ++ frames_from n (next_seed seed) (generation_by (next_seed seed) generation)) (sym same);
+      next = sym is ∙ ap (λ (l : Option ℕ). frames_left l seed generation) (at ∙ ap Some more)
+          ∙ ap (λ (l : List ℕ). l
+          ++ frames_from n (next_seed seed) (generation_by (next_seed seed) generation)) (sym same);
       ended = λ no. absurd cc;
-      some = λ yes. let size : length frames ≡ length (frames_by (next_seed seed % 8) (generation_by (next_seed seed) generation)) = ap length same in omega (arith, size, frames_some (next_seed seed % 8) (generation_by (next_seed seed) generation));
+      some = λ yes. let size : length frames
+          ≡ length (frames_by (next_seed seed % 8) (generation_by (next_seed seed) generation)) =
+          ap length same in
+          omega (
+            arith,
+            size,
+            frames_some (next_seed seed % 8) (generation_by (next_seed seed) generation),
+          );
     }
 
 -- ---- what was put
 
 -- a frame, and then a client
-pub put_client : (old frame : List ℕ) → old ++ frame ++ client_octets ≡ old ++ (frame ++ client_frames)
-put_client old frame = append_assoc old frame client_octets ∙ ap (λ (l : List ℕ). old ++ (frame ++ l)) client_is
+pub put_client : (old frame : List ℕ)
+    → old ++ frame ++ client_octets ≡ old ++ (frame ++ client_frames)
+put_client old frame =
+    append_assoc old frame client_octets ∙ ap (λ (l : List ℕ). old ++ (frame ++ l)) client_is

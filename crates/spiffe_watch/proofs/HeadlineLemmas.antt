@@ -1,9 +1,12 @@
 -- From what following a session says to the headline.
-use Rattle.std.proofs.Common.{◌≡◌, ap, ◌∙◌, refl, ℕ, Bool, true, false, List, [], ◌∷◌, ◌++◌, length, take, Option, None, Some, is_some, Result, Ok, Err, inl, inr, arith, subst, take_all}
+use Rattle.std.proofs.Common.{◌≡◌, ap, ◌∙◌, refl, ℕ, Bool, true, false, List, [], ◌∷◌, ◌++◌, length}
+use Rattle.std.proofs.Common.{take, Option, None, Some, is_some, Result, Ok, Err, inl, inr, arith}
+use Rattle.std.proofs.Common.{subst, take_all}
 use Rattle.std.specs.Prelude.{if◌then◌else◌, IfSome, IsOk}
 use Rattle.std.specs.Borrow.{Bor}
 use Rattle.std.specs.Option.{option_map}
-use Rattle.spf_view.specs.Sessions.{End, Whole, end_by, IsEndOf, refusal_of, all_of, Grows, GrowsUpTo, Followed}
+use Rattle.spf_view.specs.Sessions.{End, Whole, end_by, IsEndOf, refusal_of, all_of, Grows}
+use Rattle.spf_view.specs.Sessions.{GrowsUpTo, Followed}
 use Rattle.spf_feed.specs.Items.{Event, Rules}
 use Rattle.spf_feed.specs.Run.{stream, outputs, end_for}
 use Rattle.spiffe_watch.specs.Setting.{Setting}
@@ -14,42 +17,54 @@ use Rattle.spf_feed.specs.declared.follow_error.FollowError.TheVariants as error
 use Rattle.spiffe_watch.specs.declared.exit_reason.ExitReason.{ExitReason}
 use Rattle.spiffe_watch.specs.declared.arguments.Command.{Command}
 use Rattle.spiffe_watch.specs.declared.arguments.Command.TheVariants as commands
-use Rattle.spiffe_watch.specs.Headline.{rules_for, ports, FollowedBy, lines_of, PrintsSession, FollowsSession, Does, Headline, ended_by}
+use Rattle.spiffe_watch.specs.Headline.{rules_for, ports, FollowedBy, lines_of, PrintsSession}
+use Rattle.spiffe_watch.specs.Headline.{FollowsSession, Does, Headline, ended_by}
 
--- a whole session is the end of a reading without a refusal, that is whole and has an accepted event
+-- a whole session is the end of a reading without a
+-- refusal, that is whole and has an accepted event
 pub record IsWhole {A : Type 0} (x : Option A) (whole synced : Bool) : Type 0 where
   pub calm : x ≡ None
   pub whole_is : whole ≡ true
   pub synced_is : synced ≡ true
 
-whole_by : {A : Type 0} (x : Option A) (whole synced full : Bool) (n m : ℕ) → Whole m ≡ end_by (record { refusal = x; whole = whole; synced = synced; full = full; count = n }) → IsWhole x whole synced
+whole_by : {A : Type 0} (x : Option A) (whole synced full : Bool) (n m : ℕ)
+    → Whole m ≡ end_by
+    (record { refusal = x; whole = whole; synced = synced; full = full; count = n })
+    → IsWhole x whole synced
 whole_by (Some x) whole synced full n m h = absurd cc
 whole_by None true true full n m h = record { calm = refl; whole_is = refl; synced_is = refl }
 whole_by None true false full n m h = absurd cc
 whole_by None false synced true n m h = absurd cc
 whole_by None false synced false n m h = absurd cc
 
-unrefused : {A : Type 0} (o r : Option A) → (if is_some o then o else r) ≡ None → (is_some o ≡ false) × (r ≡ None)
+unrefused : {A : Type 0} (o r : Option A) → (if is_some o then o else r) ≡ None
+    → (is_some o ≡ false) × (r ≡ None)
 unrefused None r h = (refl, h)
 unrefused (Some x) r h = absurd cc
 
 -- without a refusal each event has its line
-lines_all : (rules : Rules) (past es : List Event) → refusal_of (stream rules) past es ≡ None → all_of (stream rules) (outputs rules).line past es ≡ lines_of rules past es
+lines_all : (rules : Rules) (past es : List Event) → refusal_of (stream rules) past es ≡ None
+    → all_of (stream rules) (outputs rules).line past es ≡ lines_of rules past es
 unfolding all_of refusal_of
 lines_all rules past [] h = refl
 lines_all rules past (e ∷ es) h =
     let u = unrefused ((stream rules).refusal past e) (refusal_of (stream rules) (e ∷ past) es) h in
-    rw u.0 (ap (λ (more : List ℕ). (outputs rules).line past e ++ more) (lines_all rules (e ∷ past) es u.1))
+    rw u.0 (ap (λ (more : List ℕ). (outputs rules).line past e ++ more)
+    (lines_all rules (e ∷ past) es u.1))
 
-grows_whole : (old new : Option (List ℕ)) (more : List ℕ) → GrowsUpTo old new more false → Grows old new more
-grows_whole old new more g = let whole : take g.count more ≡ more = take_all g.count more (omega (arith, g.all refl)) in subst (Grows old new) whole g.grows
+grows_whole : (old new : Option (List ℕ)) (more : List ℕ) → GrowsUpTo old new more false
+    → Grows old new more
+grows_whole old new more g = let whole : take g.count more ≡ more =
+    take_all g.count more (omega (arith, g.all refl)) in subst (Grows old new) whole g.grows
 
 -- what an end counts
 abbrev count_of : {A : Type 0} → End A → ℕ
 count_of (Whole n) = n
 count_of end = 0
 
-counted_by : {A : Type 0} (x : Option A) (whole synced full : Bool) (n m : ℕ) → Whole m ≡ end_by (record { refusal = x; whole = whole; synced = synced; full = full; count = n }) → m ≡ n
+counted_by : {A : Type 0} (x : Option A) (whole synced full : Bool) (n m : ℕ)
+    → Whole m ≡ end_by
+    (record { refusal = x; whole = whole; synced = synced; full = full; count = n }) → m ≡ n
 counted_by (Some x) whole synced full n m h = absurd cc
 counted_by None true true full n m h = ap count_of h
 counted_by None true false full n m h = absurd cc
@@ -57,59 +72,100 @@ counted_by None false synced true n m h = absurd cc
 counted_by None false synced false n m h = absurd cc
 
 -- an answer that is Ok shows a whole session, and counts its events
-pub counted : (setting : Setting) (bytes : List ℕ) (left' held held' : Option (List ℕ)) (count : ℕ) → FollowedBy setting (Some bytes) left' held held' (Ok count)
+pub counted : (setting : Setting) (bytes : List ℕ) (left' held held' : Option (List ℕ)) (count : ℕ)
+    → FollowedBy setting (Some bytes) left' held held' (Ok count)
     → (s : PrintsSession setting bytes held held') × (count ≡ length s.session.es)
-counted setting bytes left' held held' count f = elim f.end [ inl free ↦ absurd cc | inr ended ↦ by_end ended ]
+counted setting bytes left' held held' count f =
+    elim f.end [ inl free ↦ absurd cc | inr ended ↦ by_end ended ]
   where
-    by_end : IsEndOf (stream (rules_for setting)) setting.max_frames bytes f.es (Whole count) → (s : PrintsSession setting bytes held held') × (count ≡ length s.session.es)
+    by_end : IsEndOf (stream (rules_for setting)) setting.max_frames bytes f.es (Whole count)
+        → (s : PrintsSession setting bytes held held') × (count ≡ length s.session.es)
     by_end ended =
         let w = whole_by _ _ _ _ (length f.es) count ended.is in (
           record {
-            session = record { es = f.es; rest = ended.rest; reading = ended.reading; accepted = w.synced_is; calm = w.calm; whole = w.whole_is };
-            lines = subst (Grows held held') (lines_all (rules_for setting) [] f.es w.calm) (grows_whole held held' (all_of (stream (rules_for setting)) (outputs (rules_for setting)).line [] f.es) f.lines);
+            session = record {
+              es = f.es;
+              rest = ended.rest;
+              reading = ended.reading;
+              accepted = w.synced_is;
+              calm = w.calm;
+              whole = w.whole_is;
+            };
+            lines = subst (Grows held held') (lines_all (rules_for setting) [] f.es w.calm)
+                (grows_whole held held'
+                (all_of (stream (rules_for setting)) (outputs (rules_for setting)).line [] f.es)
+                f.lines);
           },
           counted_by _ _ _ _ (length f.es) count ended.is,
         )
 
-pub shows : (setting : Setting) (bytes : List ℕ) (left' held held' : Option (List ℕ)) (count : ℕ) → FollowedBy setting (Some bytes) left' held held' (Ok count) → PrintsSession setting bytes held held'
+pub shows : (setting : Setting) (bytes : List ℕ) (left' held held' : Option (List ℕ)) (count : ℕ)
+    → FollowedBy setting (Some bytes) left' held held' (Ok count)
+    → PrintsSession setting bytes held held'
 shows setting bytes left' held held' count f = (counted setting bytes left' held held' count f).0
 
 -- how following ended, and the rules of its picker
-pub ran : (setting : Setting) (left left' held held' : Option (List ℕ)) (answer : Result ℕ FollowError) (r : Result (Unit {0}) ExitReason) (rules : Rules) → rules ≡ rules_for setting
-    → Followed (stream rules) (outputs rules) setting.max_frames (ports left held) (ports left' held') (end_for answer) → r ≡ ended_by answer → FollowsSession setting left left' held held' r
+pub ran : (setting : Setting) (left left' held held' : Option (List ℕ))
+    (answer : Result ℕ FollowError) (r : Result (Unit {0}) ExitReason) (rules : Rules)
+    → rules ≡ rules_for setting
+    → Followed (stream rules) (outputs rules) setting.max_frames (ports left held)
+    (ports left' held') (end_for answer) → r ≡ ended_by answer
+    → FollowsSession setting left left' held held' r
 ran setting left left' held held' answer r rules same f is = record {
   answer = answer;
-  followed = subst (λ x. Followed (stream x) (outputs x) setting.max_frames (ports left held) (ports left' held') (end_for answer)) same f;
+  followed = subst
+      (λ x. Followed (stream x) (outputs x) setting.max_frames (ports left held) (ports left' held')
+      (end_for answer)) same f;
   is = is;
 }
 
 -- memory ran out before anything was read
-pub ran_early : (setting : Setting) (left held : Option (List ℕ)) (r : Result (Unit {0}) ExitReason) → r ≡ ended_by (Err errors.OutOfMemory) → FollowsSession setting left left held held r
-ran_early setting left held r is = record { answer = Err errors.OutOfMemory; followed = followed_early (stream (rules_for setting)) (outputs (rules_for setting)) setting.max_frames (ports left held); is = is }
+pub ran_early : (setting : Setting) (left held : Option (List ℕ)) (r : Result (Unit {0}) ExitReason)
+    → r ≡ ended_by (Err errors.OutOfMemory) → FollowsSession setting left left held held r
+ran_early setting left held r is =
+    record {
+      answer = Err errors.OutOfMemory;
+      followed = followed_early (stream (rules_for setting)) (outputs (rules_for setting))
+          setting.max_frames (ports left held);
+      is = is;
+    }
 
 -- status 0 is an answer that is Ok
-pub ended_well : (answer : Result ℕ FollowError) (end : Result (Unit {0}) ExitReason) → end ≡ ended_by answer → end ≡ Ok tt → IsOk answer
+pub ended_well : (answer : Result ℕ FollowError) (end : Result (Unit {0}) ExitReason)
+    → end ≡ ended_by answer → end ≡ Ok tt → IsOk answer
 ended_well (Ok count) end is well = refl
 ended_well (Err e) end is well = absurd cc
 
-ran_well : (setting : Setting) (bytes : List ℕ) (left' held held' : Option (List ℕ)) (answer : Result ℕ FollowError) → FollowedBy setting (Some bytes) left' held held' answer → IsOk answer → PrintsSession setting bytes held held'
-ran_well setting bytes left' held held' (Ok count) f ok = shows setting bytes left' held held' count f
+ran_well : (setting : Setting) (bytes : List ℕ) (left' held held' : Option (List ℕ))
+    (answer : Result ℕ FollowError) → FollowedBy setting (Some bytes) left' held held' answer
+    → IsOk answer → PrintsSession setting bytes held held'
+ran_well setting bytes left' held held' (Ok count) f ok =
+    shows setting bytes left' held held' count f
 ran_well setting bytes left' held held' (Err e) f ok = absurd cc
 
-pub headline : (command : Option Command) (before after : Streams) (end : Result (Unit {0}) ExitReason) → Does command before after end → end ≡ Ok tt → Headline command before after
-headline (Some (commands.X509 setting)) before after end does well = by_bytes before.input.bytes does
+pub headline : (command : Option Command) (before after : Streams)
+    (end : Result (Unit {0}) ExitReason) → Does command before after end → end ≡ Ok tt
+    → Headline command before after
+headline (Some (commands.X509 setting)) before after end does well =
+    by_bytes before.input.bytes does
   where
-    by_bytes : (bytes : Option (List ℕ)) → FollowsSession setting bytes after.input.bytes before.output.bytes after.output.bytes end → IfSome bytes (λ bytes. PrintsSession setting bytes before.output.bytes after.output.bytes)
+    by_bytes : (bytes : Option (List ℕ))
+        → FollowsSession setting bytes after.input.bytes before.output.bytes after.output.bytes end
+        → IfSome bytes (λ bytes. PrintsSession setting bytes before.output.bytes after.output.bytes)
     by_bytes None ran = tt
-    by_bytes (Some bytes) ran = ran_well setting bytes after.input.bytes before.output.bytes after.output.bytes ran.answer ran.followed (ended_well ran.answer end ran.is well)
+    by_bytes (Some bytes) ran =
+        ran_well setting bytes after.input.bytes before.output.bytes after.output.bytes ran.answer
+        ran.followed (ended_well ran.answer end ran.is well)
 headline (Some (commands.Make arguments)) before after end does well = tt
 headline (Some (commands.Bench arguments)) before after end does well = tt
 headline None before after end does well = tt
 
 -- a function of what a shared optional value holds
-pub shared_map : {A B : Type 0} (f : A → B) (r : Option (Bor A)) (p : Option A) → option_map (λ x. x.now) r ≡ p → option_map (λ x. f x.now) r ≡ option_map f p
+pub shared_map : {A B : Type 0} (f : A → B) (r : Option (Bor A)) (p : Option A)
+    → option_map (λ x. x.now) r ≡ p → option_map (λ x. f x.now) r ≡ option_map f p
 shared_map {A} {B} f r p same = through r ∙ ap (option_map f) same
   where
-    through : (o : Option (Bor A)) → option_map (λ x. f x.now) o ≡ option_map f (option_map (λ x. x.now) o)
+    through : (o : Option (Bor A))
+        → option_map (λ x. f x.now) o ≡ option_map f (option_map (λ x. x.now) o)
     through None = refl
     through (Some x) = refl

@@ -1,5 +1,6 @@
 -- A number is text.
-use Rattle.std.proofs.Common.{◌≡◌, ℕ, ◌<◌, Bool, true, false, List, Result, Ok, Err, None, MatchResult, is_ok, IsUtf8, arith, refl}
+use Rattle.std.proofs.Common.{◌≡◌, ℕ, ◌<◌, Bool, true, false, List, Result, Ok, Err, None}
+use Rattle.std.proofs.Common.{MatchResult, is_ok, IsUtf8, arith, refl}
 use Rattle.std.specs.Char.{is_ascii_digit}
 use Rattle.std.proofs.lemmas.Bool.Decides.{nat_tests}
 use Rattle.std.proofs.lemmas.List.Sums.{AllPass-from_list_all}
@@ -15,10 +16,15 @@ small_digit c digit = grind (arith, nat_tests)
 -- decimal digits are text
 numeral_text : (word : List ℕ) → is_numeral word ≡ true → IsUtf8 word
 numeral_text word numeral =
-    IsUtf8-from_ascii word (IsAscii-from_all word (λ k d lt. small_digit _ (AllPass-from_list_all is_ascii_digit word (digits_of word numeral).1 k d lt)))
+    IsUtf8-from_ascii word
+    (IsAscii-from_all word
+    (λ k d lt. small_digit _
+    (AllPass-from_list_all is_ascii_digit word (digits_of word numeral).1 k d lt)))
 
 -- what is no text is no number
-pub no_text : {T E : Type 0} (P : T → Type 0) (Q : E → Type 0) (max : ℕ) (word : List ℕ) (r : Result T E) → MatchResult r P (λ e. (IsUtf8 word → ⊥) × Q e) → false ≡ is_ok r → None ≡ number_up_to max word
+pub no_text : {T E : Type 0} (P : T → Type 0) (Q : E → Type 0) (max : ℕ) (word : List ℕ)
+    (r : Result T E) → MatchResult r P (λ e. (IsUtf8 word → ⊥) × Q e) → false ≡ is_ok r
+    → None ≡ number_up_to max word
 no_text P Q max word (Ok s) read failed = absurd cc
 no_text P Q max word (Err e) read failed = number_missing max word (none (is_numeral word) refl)
   where

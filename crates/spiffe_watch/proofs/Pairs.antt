@@ -1,8 +1,10 @@
 -- Words that are pairs of an option and its value, at their end.
-use Rattle.std.proofs.Common.{◌≡◌, refl, ℕ, ◌<◌, ◌++◌, List, [], ◌∷◌, length, map, arith, Option, None, Some, ◌==◌}
+use Rattle.std.proofs.Common.{◌≡◌, refl, ℕ, ◌<◌, ◌++◌, List, [], ◌∷◌, length, map, arith, Option}
+use Rattle.std.proofs.Common.{None, Some, ◌==◌}
 use Rattle.spiffe_watch.specs.Arguments.{are_options, values_of, at_most_one}
 
-pub values_none : {X : Type 0} (f : X → List ℕ) (option : List ℕ) (arguments : List X) → length arguments < 2 → values_of option (map f arguments) ≡ []
+pub values_none : {X : Type 0} (f : X → List ℕ) (option : List ℕ) (arguments : List X)
+    → length arguments < 2 → values_of option (map f arguments) ≡ []
 values_none f option [] l = refl
 values_none f option (x ∷ []) l = refl
 values_none f option (x ∷ y ∷ arguments) l = absurd (omega (arith, l))
@@ -12,7 +14,8 @@ abbrev pub found_list : Option (List ℕ) → List (List ℕ)
 found_list None = []
 found_list (Some value) = value ∷ []
 
-pub pairs_end : {X : Type 0} (f : X → List ℕ) (arguments : List X) → length arguments < 2 → (length arguments == 0) ≡ are_options (map f arguments)
+pub pairs_end : {X : Type 0} (f : X → List ℕ) (arguments : List X) → length arguments < 2
+    → (length arguments == 0) ≡ are_options (map f arguments)
 pairs_end f [] l = refl
 pairs_end f (x ∷ []) l = refl
 pairs_end f (x ∷ y ∷ arguments) l = absurd (omega (arith, l))

@@ -3,7 +3,9 @@ use Rattle.std.proofs.Common.{◌≡◌, refl, [], ◌∷◌, None, Some}
 use Rattle.std.specs.Prelude.{codes}
 use Rattle.spf_feed.specs.declared.ready.Ready.TheVariants as readiness
 use Rattle.spiffe_watch.specs.declared.arguments.Command.TheVariants as commands
-use Rattle.spiffe_watch.specs.Arguments.{number_up_to, number_in, limit_in, ready_in, is_numeral, is_option, option_in, x509_setting, make_arguments_in, command_in}
+use Rattle.spiffe_watch.specs.Arguments.{number_up_to, number_in, limit_in, ready_in, is_numeral}
+use Rattle.spiffe_watch.specs.Arguments.{is_option, option_in, x509_setting, make_arguments_in}
+use Rattle.spiffe_watch.specs.Arguments.{command_in}
 
 zero : number_in (codes "0") ≡ Some 0
 unfolding number_up_to is_numeral
@@ -38,7 +40,12 @@ unfolding command_in
 no_word = refl
 
 no_option : command_in (codes "x509" ∷ []) ≡ Some (commands.X509 (record {
-  limits = record { max_svids = Some 100; max_bundles = Some 200; max_bundle_der_bytes = Some 4194304; max_crl_bytes = Some 4194304 };
+  limits = record {
+    max_svids = Some 100;
+    max_bundles = Some 200;
+    max_bundle_der_bytes = Some 4194304;
+    max_crl_bytes = Some 4194304;
+  };
   deadline = None;
   max_frames = 1000000;
   hint = None;
@@ -47,17 +54,25 @@ no_option : command_in (codes "x509" ∷ []) ≡ Some (commands.X509 (record {
 unfolding command_in x509_setting option_in
 no_option = refl
 
-options : command_in (codes "x509" ∷ codes "--hint" ∷ codes "internal" ∷ codes "--max-svids" ∷ codes "none" ∷ codes "--ready" ∷ codes "any" ∷ []) ≡ Some (commands.X509 (record {
-  limits = record { max_svids = None; max_bundles = Some 200; max_bundle_der_bytes = Some 4194304; max_crl_bytes = Some 4194304 };
-  deadline = None;
-  max_frames = 1000000;
-  hint = Some (codes "internal");
-  ready = readiness.Any;
-}))
+options : command_in
+    (codes "x509" ∷ codes "--hint" ∷ codes "internal" ∷ codes "--max-svids" ∷ codes "none"
+    ∷ codes "--ready" ∷ codes "any" ∷ []) ≡ Some (commands.X509 (record {
+      limits = record {
+        max_svids = None;
+        max_bundles = Some 200;
+        max_bundle_der_bytes = Some 4194304;
+        max_crl_bytes = Some 4194304;
+      };
+      deadline = None;
+      max_frames = 1000000;
+      hint = Some (codes "internal");
+      ready = readiness.Any;
+    }))
 unfolding command_in x509_setting option_in is_option limit_in ready_in
 options = refl
 
-hint_twice : command_in (codes "x509" ∷ codes "--hint" ∷ codes "a" ∷ codes "--hint" ∷ codes "a" ∷ []) ≡ None
+hint_twice : command_in
+    (codes "x509" ∷ codes "--hint" ∷ codes "a" ∷ codes "--hint" ∷ codes "a" ∷ []) ≡ None
 unfolding command_in x509_setting option_in is_option
 hint_twice = refl
 
@@ -69,7 +84,8 @@ unknown_option : command_in (codes "x509" ∷ codes "--lines" ∷ codes "3" ∷ 
 unfolding command_in x509_setting is_option
 unknown_option = refl
 
-made : command_in (codes "make" ∷ codes "10000" ∷ codes "65535" ∷ []) ≡ Some (commands.Make (record { operations = 10000; seed = 65535 }))
+made : command_in (codes "make" ∷ codes "10000" ∷ codes "65535" ∷ [])
+    ≡ Some (commands.Make (record { operations = 10000; seed = 65535 }))
 unfolding command_in make_arguments_in number_up_to is_numeral
 made = refl
 

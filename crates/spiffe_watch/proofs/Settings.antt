@@ -5,18 +5,36 @@ use Rattle.std.specs.Option.{option_map}
 use Rattle.spf_feed.specs.declared.ready.Ready.{Ready}
 use Rattle.spf_feed.specs.declared.ready.Ready.TheVariants as readiness
 use Rattle.spiffe_watch.specs.Setting.{default_setting}
-use Rattle.spiffe_watch.specs.Arguments.{are_options, option_in, limit_in, moment_in, number_in, ready_in, x509_setting}
+use Rattle.spiffe_watch.specs.Arguments.{are_options, option_in, limit_in, moment_in, number_in}
+use Rattle.spiffe_watch.specs.Arguments.{ready_in, x509_setting}
 
-pub setting_read : (arguments : List (List ℕ)) (a b c d : Option ℕ) (e : Option ℤ) (f : ℕ) (g : Option (List ℕ)) (h : Ready)
+pub setting_read : (arguments : List (List ℕ)) (a b c d : Option ℕ) (e : Option ℤ) (f : ℕ)
+    (g : Option (List ℕ)) (h : Ready)
     → are_options arguments ≡ true
     → Some a ≡ option_in limit_in default_setting.limits.max_svids (codes "--max-svids") arguments
-    → Some b ≡ option_in limit_in default_setting.limits.max_bundles (codes "--max-bundles") arguments
-    → Some c ≡ option_in limit_in default_setting.limits.max_bundle_der_bytes (codes "--max-bundle-bytes") arguments
-    → Some d ≡ option_in limit_in default_setting.limits.max_crl_bytes (codes "--max-crl-bytes") arguments
-    → Some e ≡ option_in (λ value. option_map Some (moment_in value)) None (codes "--deadline") arguments
+    → Some b ≡ option_in limit_in default_setting.limits.max_bundles (codes "--max-bundles")
+    arguments
+    → Some c ≡ option_in limit_in default_setting.limits.max_bundle_der_bytes
+    (codes "--max-bundle-bytes") arguments
+    → Some d ≡ option_in limit_in default_setting.limits.max_crl_bytes (codes "--max-crl-bytes")
+    arguments
+    → Some e ≡ option_in (λ value. option_map Some (moment_in value)) None (codes "--deadline")
+    arguments
     → Some f ≡ option_in number_in 1000000 (codes "--max-frames") arguments
     → Some g ≡ option_in (λ value. Some (Some value)) None (codes "--hint") arguments
     → Some h ≡ option_in ready_in readiness.Usable (codes "--ready") arguments
-    → Some (record { limits = record { max_svids = a; max_bundles = b; max_bundle_der_bytes = c; max_crl_bytes = d }; deadline = e; max_frames = f; hint = g; ready = h }) ≡ x509_setting arguments
+    → Some (record {
+      limits = record {
+        max_svids = a;
+        max_bundles = b;
+        max_bundle_der_bytes = c;
+        max_crl_bytes = d;
+      };
+      deadline = e;
+      max_frames = f;
+      hint = g;
+      ready = h;
+    }) ≡ x509_setting arguments
 unfolding x509_setting
-setting_read arguments a b c d e f g h p q r s t u v w x = rw (p, ← q, ← r, ← s, ← t, ← u, ← v, ← w, ← x) refl
+setting_read arguments a b c d e f g h p q r s t u v w x =
+    rw (p, ← q, ← r, ← s, ← t, ← u, ← v, ← w, ← x) refl

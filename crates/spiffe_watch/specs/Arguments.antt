@@ -1,5 +1,6 @@
 -- What the arguments of the command line mean.
-use Rattle.std.specs.Prelude.{ℕ, ◌-◌, ◌^◌, ℤ, pos, Bool, true, false, ◌&&◌, ◌||◌, not, List, [], ◌∷◌, length, Option, None, Some, nat_lt, ◌==◌, if◌then◌else◌, codes}
+use Rattle.std.specs.Prelude.{ℕ, ◌-◌, ◌^◌, ℤ, pos, Bool, true, false, ◌&&◌, ◌||◌, not, List, []}
+use Rattle.std.specs.Prelude.{◌∷◌, length, Option, None, Some, nat_lt, ◌==◌, if◌then◌else◌, codes}
 use Rattle.std.specs.Char.{is_ascii_digit}
 use Rattle.std.specs.List.{list_all}
 use Rattle.std.specs.Option.{option_map}
@@ -20,7 +21,8 @@ leads_with_zero _ = false
 
 -- decimal digits, at least one, without a leading zero
 unfoldable pub is_numeral : List ℕ → Bool
-is_numeral text = (not (length text == 0)) && (list_all is_ascii_digit text && not (leads_with_zero text))
+is_numeral text =
+    (not (length text == 0)) && (list_all is_ascii_digit text && not (leads_with_zero text))
 
 -- the number that a text spells, where it is at most `max`
 unfoldable pub number_up_to : ℕ → List ℕ → Option ℕ
@@ -66,7 +68,8 @@ are_options (name ∷ value ∷ arguments) = is_option name && are_options argum
 abbrev pub values_of : List ℕ → List (List ℕ) → List (List ℕ)
 values_of option [] = []
 values_of option (name ∷ []) = []
-values_of option (name ∷ value ∷ arguments) = if bytes_eq name option then value ∷ values_of option arguments else values_of option arguments
+values_of option (name ∷ value ∷ arguments) =
+    if bytes_eq name option then value ∷ values_of option arguments else values_of option arguments
 
 -- the one value, or that there is none; none where there are several
 abbrev pub at_most_one : List (List ℕ) → Option (Option (List ℕ))
@@ -80,23 +83,37 @@ read_or read absent None = Some absent
 read_or read absent (Some value) = read value
 
 -- what the pairs set an option to; `absent` where they do not
-unfoldable pub option_in : {A : Type 0} → (List ℕ → Option A) → A → List ℕ → List (List ℕ) → Option A
-option_in read absent option arguments = at_most_one (values_of option arguments) >>= read_or read absent
+unfoldable pub option_in : {A : Type 0} → (List ℕ → Option A) → A → List ℕ → List (List ℕ)
+    → Option A
+option_in read absent option arguments =
+    at_most_one (values_of option arguments) >>= read_or read absent
 
 -- the setting of a session of X.509 updates, whose options come each at max once
 unfoldable pub x509_setting : List (List ℕ) → Option Setting
 x509_setting arguments =
     if not (are_options arguments) then None
     else (option_in limit_in default_setting.limits.max_svids (codes "--max-svids") arguments
-    >>= λ max_svids. option_in limit_in default_setting.limits.max_bundles (codes "--max-bundles") arguments
-    >>= λ max_bundles. option_in limit_in default_setting.limits.max_bundle_der_bytes (codes "--max-bundle-bytes") arguments
-    >>= λ max_bundle_bytes. option_in limit_in default_setting.limits.max_crl_bytes (codes "--max-crl-bytes") arguments
-    >>= λ max_crl_bytes. option_in (λ value. option_map Some (moment_in value)) default_setting.deadline (codes "--deadline") arguments
+    >>= λ max_svids.
+    option_in limit_in default_setting.limits.max_bundles (codes "--max-bundles") arguments
+    >>= λ max_bundles.
+    option_in limit_in default_setting.limits.max_bundle_der_bytes (codes "--max-bundle-bytes")
+    arguments
+    >>= λ max_bundle_bytes.
+    option_in limit_in default_setting.limits.max_crl_bytes (codes "--max-crl-bytes") arguments
+    >>= λ max_crl_bytes.
+    option_in (λ value. option_map Some (moment_in value)) default_setting.deadline
+    (codes "--deadline") arguments
     >>= λ deadline. option_in number_in default_setting.max_frames (codes "--max-frames") arguments
-    >>= λ max_frames. option_in (λ value. Some (Some value)) default_setting.hint (codes "--hint") arguments
+    >>= λ max_frames.
+    option_in (λ value. Some (Some value)) default_setting.hint (codes "--hint") arguments
     >>= λ hint. option_in ready_in default_setting.ready (codes "--ready") arguments
     >>= λ ready. Some (record {
-      limits = record { max_svids = max_svids; max_bundles = max_bundles; max_bundle_der_bytes = max_bundle_bytes; max_crl_bytes = max_crl_bytes };
+      limits = record {
+        max_svids = max_svids;
+        max_bundles = max_bundles;
+        max_bundle_der_bytes = max_bundle_bytes;
+        max_crl_bytes = max_crl_bytes;
+      };
       deadline = deadline;
       max_frames = max_frames;
       hint = hint;
@@ -106,7 +123,8 @@ x509_setting arguments =
 -- the size and the seed of a generated session
 unfoldable pub make_arguments_in : List (List ℕ) → Option MakeArguments
 make_arguments_in (operations ∷ seed ∷ []) =
-    number_up_to 10000 operations >>= λ operations. number_up_to 65535 seed >>= λ seed. Some (record { operations = operations; seed = seed })
+    number_up_to 10000 operations >>= λ operations. number_up_to 65535 seed
+    >>= λ seed. Some (record { operations = operations; seed = seed })
 make_arguments_in _ = None
 
 -- what the arguments ask for; none where they are not those of the program
@@ -114,6 +132,8 @@ unfoldable pub command_in : List (List ℕ) → Option Command
 command_in [] = None
 command_in (name ∷ arguments) =
     if bytes_eq name (codes "x509") then option_map commands.X509 (x509_setting arguments)
-    else (if bytes_eq name (codes "make") then option_map commands.Make (make_arguments_in arguments)
-    else (if bytes_eq name (codes "bench") then option_map commands.Bench (make_arguments_in arguments)
+    else (if bytes_eq name (codes "make")
+    then option_map commands.Make (make_arguments_in arguments)
+    else (if bytes_eq name (codes "bench")
+    then option_map commands.Bench (make_arguments_in arguments)
     else None))

@@ -1,5 +1,6 @@
 -- Why a run ends: its status, its line, and when reading or writing failed.
-use Rattle.std.specs.Prelude.{◌≡◌, ℕ, ◌≤◌, Bool, true, false, List, [], ◌∷◌, ◌++◌, take, codes, decimal, Option, None, Some, Result, Err}
+use Rattle.std.specs.Prelude.{◌≡◌, ℕ, ◌≤◌, Bool, true, false, List, [], ◌∷◌, ◌++◌, take, codes}
+use Rattle.std.specs.Prelude.{decimal, Option, None, Some, Result, Err}
 use Rattle.std.specs.Io.KnownBytes.{Appends}
 use Rattle.spf_io.specs.Outside.{Rose}
 use Rattle.spiffe_watch.specs.Streams.{Side, Failed}
@@ -7,6 +8,7 @@ use Rattle.spf_feed.specs.declared.follow_error.FollowError.{FollowError}
 use Rattle.spf_feed.specs.declared.follow_error.FollowError.TheVariants as errors
 use Rattle.spiffe_watch.specs.declared.exit_reason.ExitReason.{ExitReason}
 use Rattle.spiffe_watch.specs.declared.exit_reason.ExitReason.TheVariants as reasons
+use Rattle.spiffe_watch.specs.Octets.{LINE_FEED}
 
 -- the status of the process
 abbrev pub status : ExitReason → ℕ
@@ -38,7 +40,7 @@ reason_text reasons.NeverSynced = codes "no update was accepted"
 
 -- the line of a reason
 abbrev pub reason_line : ExitReason → List ℕ
-reason_line reason = codes "spiffe_watch: " ++ (reason_text reason ++ 10 ∷ [])
+reason_line reason = codes "spiffe_watch: " ++ (reason_text reason ++ LINE_FEED ∷ [])
 
 -- the number in a line, and what stands from it on
 abbrev pub frame_in : ExitReason → Option ℕ
@@ -47,7 +49,7 @@ frame_in _ = None
 
 abbrev pub number_text : Option ℕ → List ℕ
 number_text None = []
-number_text (Some number) = decimal number ++ 10 ∷ []
+number_text (Some number) = decimal number ++ LINE_FEED ∷ []
 
 -- A line is put; where the error output failed, a prefix of it.
 pub record IsReported (before after : Side) (line : List ℕ) : Type 0 where
@@ -67,7 +69,8 @@ is_output_failure reasons.WriteFailed = true
 is_output_failure _ = false
 
 -- the counts never fall, and a failure of reading or writing comes only where its count rose
-pub record HasCauses (reads reads' writes writes' : ℕ) (r : Result (Unit {0}) ExitReason) : Type 0 where
+pub record HasCauses (reads reads' writes writes' : ℕ)
+    (r : Result (Unit {0}) ExitReason) : Type 0 where
   pub reads_later : reads ≤ reads'
   pub writes_later : writes ≤ writes'
   pub read : r ≡ Err reasons.ReadFailed → Rose reads reads'

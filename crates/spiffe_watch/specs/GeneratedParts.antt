@@ -1,12 +1,14 @@
 -- What the program keeps of a generated session while it runs.
-use Rattle.std.specs.Prelude.{◌≡◌, ℕ, ◌+◌, ◌≤◌, ◌<◌, Bool, true, false, List, [], ◌++◌, length, Option, IfSome, Result, IsOk, IsErr, min}
+use Rattle.std.specs.Prelude.{◌≡◌, ℕ, ◌+◌, ◌≤◌, ◌<◌, Bool, true, false, List, [], ◌++◌, length}
+use Rattle.std.specs.Prelude.{Option, IfSome, Result, IsOk, IsErr, min}
 use Rattle.spf_io.specs.Outside.{Rose}
 use Rattle.spf_io.specs.declared.memory.Failed.{Failed}
 use Rattle.spf_der.specs.Written.{key_text}
 use Rattle.spf_der.specs.WrittenTime.{expiry_text}
 use Rattle.spiffe_watch.specs.declared.generated.Parts.{Parts}
 use Rattle.spiffe_watch.specs.declared.generated.Workload.{Workload}
-use Rattle.spiffe_watch.specs.MadeSession.{expiry_of, identity, leaf_spec, root_spec, intermediate_spec}
+use Rattle.spiffe_watch.specs.MadeSession.{expiry_of, identity, leaf_spec, root_spec}
+use Rattle.spiffe_watch.specs.MadeSession.{intermediate_spec}
 use Rattle.spiffe_watch.specs.Template.{IsTemplate}
 
 -- the text, the leaf and the key of a workload, by its index
@@ -39,13 +41,15 @@ pub record Yields (more : Bool) (old new frames : List ℕ) : Type 0 where
   pub ended : more ≡ false → old ≡ []
   pub some : more ≡ true → 0 < length frames
 
--- a generated session as a source: the frames that are read from, what comes after them, and how often memory ran out
+-- a generated session as a source: the frames that are read
+-- from, what comes after them, and how often memory ran out
 pub record GeneratedRead : Type 0 where
   pub ready : List ℕ
   pub later : List ℕ
   pub failures : ℕ
 
--- The next frames are ready where none were; where memory runs out, only the count of failures rises.
+-- The next frames are ready where none were; where
+-- memory runs out, only the count of failures rises.
 pub record MakesReady (old new : GeneratedRead) (r : Result (Unit {0}) Failed) : Type 0 where
   pub same : old.ready ++ old.later ≡ new.ready ++ new.later
   pub ended : IsOk r → new.ready ≡ [] → new.later ≡ []

@@ -1,5 +1,6 @@
 -- Generated sessions: streams of updates of any length, the same for the same seed.
-use Rattle.std.specs.Prelude.{ℕ, zero, suc, ◌+◌, ◌*◌, ◌%◌, ℤ, pos, true, false, ◌==◌, nat_lt, if◌then◌else◌, List, [], ◌∷◌, ◌++◌, Option, None, Some, codes}
+use Rattle.std.specs.Prelude.{ℕ, zero, suc, ◌+◌, ◌*◌, ◌%◌, ℤ, pos, true, false, ◌==◌, nat_lt}
+use Rattle.std.specs.Prelude.{if◌then◌else◌, List, [], ◌∷◌, ◌++◌, Option, None, Some, codes}
 use Rattle.std.specs.Int.{w64, to_be_bytes}
 use Rattle.spf_der.specs.declared.extensions.KeyUsageBits.{KeyUsageBits}
 use Rattle.spf_der.specs.declared.writer.CertSpec.{CertSpec}
@@ -9,7 +10,8 @@ use Rattle.spf_api.specs.declared.response.SvidEntry.{SvidEntry}
 use Rattle.spf_api.specs.declared.response.ContextResponse.{ContextResponse}
 use Rattle.spf_api.specs.Layout.{field_text, context_payload}
 use Rattle.spf_view.specs.Frames.{raw_text}
-use Rattle.spf_frame.specs.declared.frame_kind.TheConstants.{CLIENT_MADE, CONNECTED, ITEM, ITEM_STATUS, STREAM_END, MOMENT, CLOSE}
+use Rattle.spf_frame.specs.declared.frame_kind.TheConstants.{CLIENT_MADE, CONNECTED, ITEM}
+use Rattle.spf_frame.specs.declared.frame_kind.TheConstants.{ITEM_STATUS, STREAM_END, MOMENT, CLOSE}
 use Rattle.spiffe_watch.specs.declared.generated.Variant.{Variant}
 use Rattle.spiffe_watch.specs.declared.generated.Variant.TheVariants as variants
 use Rattle.spiffe_watch.specs.declared.arguments.MakeArguments.{MakeArguments}
@@ -30,24 +32,49 @@ signs_certificates = record { digital_signature = false; key_cert_sign = true; c
 abbrev pub identity : ℕ → List ℕ
 identity index = codes "spiffe://example.org/w" ++ (48 + index) ∷ []
 
--- the certificates of a generation: the leaf of a workload, the intermediate, and the authority with a serial number
+-- the certificates of a generation: the leaf of a workload,
+-- the intermediate, and the authority with a serial number
 abbrev pub leaf_spec : ℕ → ℕ → CertSpec
-leaf_spec index generation = record { serial = 1 + index; expiry = expiry_of generation; key_usage = Some signs_data; ca = Some false; uris = identity index ∷ [] }
+leaf_spec index generation =
+    record {
+      serial = 1 + index;
+      expiry = expiry_of generation;
+      key_usage = Some signs_data;
+      ca = Some false;
+      uris = identity index ∷ [];
+    }
 
 abbrev pub intermediate_spec : ℕ → CertSpec
-intermediate_spec generation = record { serial = 20; expiry = expiry_of generation; key_usage = Some signs_certificates; ca = Some true; uris = [] }
+intermediate_spec generation =
+    record {
+      serial = 20;
+      expiry = expiry_of generation;
+      key_usage = Some signs_certificates;
+      ca = Some true;
+      uris = [];
+    }
 
 abbrev pub root_spec : ℕ → ℕ → CertSpec
-root_spec serial generation = record { serial = serial; expiry = expiry_of generation; key_usage = None; ca = None; uris = [] }
+root_spec serial generation =
+    record {
+      serial = serial;
+      expiry = expiry_of generation;
+      key_usage = None;
+      ca = None;
+      uris = [];
+    }
 
 abbrev pub leaf : ℕ → ℕ → List ℕ
-leaf index generation = certificate_text (leaf_spec index generation) (expiry_text (expiry_of generation))
+leaf index generation =
+    certificate_text (leaf_spec index generation) (expiry_text (expiry_of generation))
 
 abbrev pub intermediate : ℕ → List ℕ
-intermediate generation = certificate_text (intermediate_spec generation) (expiry_text (expiry_of generation))
+intermediate generation =
+    certificate_text (intermediate_spec generation) (expiry_text (expiry_of generation))
 
 abbrev pub root : ℕ → ℕ → List ℕ
-root serial generation = certificate_text (root_spec serial generation) (expiry_text (expiry_of generation))
+root serial generation =
+    certificate_text (root_spec serial generation) (expiry_text (expiry_of generation))
 
 -- ---- items
 
@@ -138,11 +165,14 @@ frames_by choice generation =
 abbrev pub frames_from : ℕ → ℕ → ℕ → List ℕ
 frames_from zero seed generation = close_frame
 frames_from (suc left) seed generation =
-    frames_by (next_seed seed % 8) (generation_by (next_seed seed) generation) ++ frames_from left (next_seed seed) (generation_by (next_seed seed) generation)
+    frames_by (next_seed seed % 8) (generation_by (next_seed seed) generation)
+    ++ frames_from left (next_seed seed) (generation_by (next_seed seed) generation)
 
 -- MadeSession: the opening, the operations, and the close
 abbrev pub made_session : MakeArguments → List ℕ
-made_session arguments = (moment_frame ++ client_frames ++ item_frame variants.Plain 0 ++ client_frames) ++ frames_from arguments.operations arguments.seed 0
+made_session arguments =
+    (moment_frame ++ client_frames ++ item_frame variants.Plain 0 ++ client_frames)
+    ++ frames_from arguments.operations arguments.seed 0
 
 -- ---- what is still to come
 

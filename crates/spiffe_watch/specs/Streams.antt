@@ -2,7 +2,8 @@
 use Rattle.std.specs.Prelude.{ℕ, List, Option}
 use Rattle.spf_io.specs.Outside.{Rose}
 
--- the bytes that an input has left, or that an output holds, where it tells them, and how often it failed
+-- the bytes that an input has left, or that an output
+-- holds, where they are known, and how often it failed
 pub record Side : Type 0 where
   pub bytes : Option (List ℕ)
   pub failures : ℕ

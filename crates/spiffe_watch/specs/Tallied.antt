@@ -1,26 +1,32 @@
--- What lines say in sum: the revision of the last line that shows one, and how many lines say that the view is withdrawn.
-use Rattle.std.specs.Prelude.{ℕ, ◌+◌, ◌-◌, ◌^◌, min, List, [], ◌∷◌, ◌++◌, ◌==◌, if◌then◌else◌, codes}
+-- What lines say in sum: the revision of the last line that
+-- shows one, and how many lines say that the view is withdrawn.
+use Rattle.std.specs.Prelude.{ℕ, ◌+◌, ◌-◌, ◌^◌, min, List, [], ◌∷◌, ◌++◌, ◌==◌, if◌then◌else◌}
+use Rattle.std.specs.Prelude.{codes}
 use Rattle.std.specs.Option.{option_map_or}
 use Rattle.std.specs.Str.{bytes_eq}
 use Rattle.spiffe_watch.specs.Arguments.{number_up_to}
+use Rattle.spiffe_watch.specs.Octets.{SPACE, LINE_FEED}
 
 -- the octets before the first space
 abbrev pub first_word : List ℕ → List ℕ
 first_word [] = []
-first_word (c ∷ cs) = if c == 32 then [] else c ∷ first_word cs
+first_word (c ∷ cs) = if c == SPACE then [] else c ∷ first_word cs
 
 -- the octets after the first space
 abbrev pub after_word : List ℕ → List ℕ
 after_word [] = []
-after_word (c ∷ cs) = if c == 32 then cs else after_word cs
+after_word (c ∷ cs) = if c == SPACE then cs else after_word cs
 
 -- the second word of a line, where it is a number; otherwise what the revision was before
 unfoldable pub revision_in : ℕ → List ℕ → ℕ
-revision_in before line = option_map_or (λ n. n) (number_up_to (2 ^ 64 - 1) (first_word (after_word line))) before
+revision_in before line =
+    option_map_or (λ n. n) (number_up_to (2 ^ 64 - 1) (first_word (after_word line))) before
 
 -- one more where the third word of a line is `withdrawn`; the count stops at the end of its type
 unfoldable pub withdrawn_in : ℕ → List ℕ → ℕ
-withdrawn_in before line = if bytes_eq (first_word (after_word (after_word line))) (codes "withdrawn") then min (before + 1) (2 ^ 64 - 1) else before
+withdrawn_in before line =
+    if bytes_eq (first_word (after_word (after_word line))) (codes "withdrawn")
+    then min (before + 1) (2 ^ 64 - 1) else before
 
 -- the revision, how many lines say withdrawn, and the line that is not finished
 pub record Tallied : Type 0 where
@@ -34,11 +40,22 @@ none_tallied = record { revision = 0; withdrawn = 0; unfinished = [] }
 
 -- an unfinished line is finished
 abbrev pub with_line : Tallied → Tallied
-with_line t = record { revision = revision_in t.revision t.unfinished; withdrawn = withdrawn_in t.withdrawn t.unfinished; unfinished = [] }
+with_line t =
+    record {
+      revision = revision_in t.revision t.unfinished;
+      withdrawn = withdrawn_in t.withdrawn t.unfinished;
+      unfinished = [];
+    }
 
 -- one octet more, where a line feed finishes the line
 abbrev pub with_octet : Tallied → ℕ → Tallied
-with_octet t c = if c == 10 then with_line t else record { revision = t.revision; withdrawn = t.withdrawn; unfinished = t.unfinished ++ c ∷ [] }
+with_octet t c =
+    if c == LINE_FEED then with_line t
+    else record {
+      revision = t.revision;
+      withdrawn = t.withdrawn;
+      unfinished = t.unfinished ++ c ∷ [];
+    }
 
 -- these octets more
 unfoldable pub tally_from : Tallied → List ℕ → Tallied

@@ -2,13 +2,15 @@
 use Rattle.std.specs.Prelude.{◌≡◌, ℕ, suc, ◌+◌, List, [], ◌∷◌, ◌++◌, length, codes}
 use Rattle.spf_der.specs.declared.writer.CertSpec.{CertSpec}
 use Rattle.spf_der.specs.Value.{length_octets, value_text}
-use Rattle.spf_der.specs.Written.{algorithm_text, certificate_text, extensions_part, extensions_text, no_bits, no_name, public_key_text, version_text}
+use Rattle.spf_der.specs.Written.{algorithm_text, certificate_text, extensions_part}
+use Rattle.spf_der.specs.Written.{extensions_text, no_bits, no_name, public_key_text, version_text}
 use Rattle.spiffe_watch.specs.declared.template.Template.{Template}
 
 -- what stands in tbsCertificate before and after a notAfter of 15 octets
 unfoldable pub tbs_before : CertSpec → List ℕ
 tbs_before spec =
-    version_text (extensions_text spec) ++ value_text 2 (spec.serial ∷ []) ++ algorithm_text ++ no_name
+    version_text (extensions_text spec) ++ value_text 2 (spec.serial ∷ []) ++ algorithm_text
+    ++ no_name
     ++ 48 ∷ 30 ∷ value_text 23 (codes "700101000000Z")
 
 unfoldable pub tbs_after : CertSpec → List ℕ

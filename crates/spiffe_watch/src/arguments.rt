@@ -61,7 +61,13 @@ impl<'a> Model for X509Arguments<'a> {
 
     ghost use Rattle.std.specs.Option.{option_copied};
 
-    ghost view = { λ w. record { limits = w.limits; deadline = w.deadline; max_frames = w.max_frames; hint = option_copied w.hint; ready = w.ready } };
+    ghost view = { λ w. record {
+      limits = w.limits;
+      deadline = w.deadline;
+      max_frames = w.max_frames;
+      hint = option_copied w.hint;
+      ready = w.ready;
+    } };
 }
 
 /// The arguments of `make` and `bench`: the size and the seed of a generated session.
@@ -158,7 +164,8 @@ fn are_options(arguments: &[String]) -> bool
 
 /// The value of an option, if it is set; `None` where it is set twice.
 fn value_of<'a>(arguments: &'a [String], option: &str) -> Option<Option<&'a str>>
-    ensures { option_map option_copied result ≡ at_most_one (values_of option.now (map string_bytes arguments.now)) }
+    ensures { option_map option_copied result
+        ≡ at_most_one (values_of option.now (map string_bytes arguments.now)) }
 {
     let mut found = None;
     let mut rest = arguments;
@@ -188,7 +195,9 @@ fn limit_option(arguments: &[String], option: &str, absent: Option<usize>) -> Op
 /// The moment that an option sets, if it is set.
 #[tactic(auto, unfolding(crate::specs::Arguments::option_in))]
 fn moment_option(arguments: &[String], option: &str) -> Option<Option<i64>>
-    ensures { result ≡ option_in (λ value. option_map Some (moment_in value)) None option.now (map string_bytes arguments.now) }
+    ensures { result
+        ≡ option_in (λ value. option_map Some (moment_in value)) None option.now
+        (map string_bytes arguments.now) }
 {
     match value_of(arguments, option)? {
         None => Some(None),
@@ -210,7 +219,8 @@ fn number_option(arguments: &[String], option: &str, absent: u64) -> Option<u64>
 /// The text that an option sets, if it is set.
 #[tactic(auto, unfolding(crate::specs::Arguments::option_in))]
 fn hint_option<'a>(arguments: &'a [String], option: &str) -> Option<Option<&'a str>>
-    ensures { option_map option_copied result ≡ option_in (λ value. Some (Some value)) None option.now (map string_bytes arguments.now) }
+    ensures { option_map option_copied result
+        ≡ option_in (λ value. Some (Some value)) None option.now (map string_bytes arguments.now) }
 {
     match value_of(arguments, option)? {
         None => Some(None),

@@ -2,7 +2,8 @@
 
 ghost use Rattle.std.specs.Prelude.{◌≡◌, ◌++◌};
 ghost use Rattle.spf_io.specs.Outside.{HasCause, PutAppends};
-ghost use Rattle.spiffe_watch.specs.Causes.{IsReported, reason_line, reason_of_error, frame_in, number_text, status};
+ghost use Rattle.spiffe_watch.specs.Causes.{IsReported, reason_line, reason_of_error, frame_in};
+ghost use Rattle.spiffe_watch.specs.Causes.{number_text, status};
 ghost use Rattle.spiffe_watch.specs.Streams.{side};
 
 use itoa::Buffer;
@@ -115,10 +116,12 @@ fn message_of(reason: ExitReason) -> &'static str
     }
 }
 
-/// Writes the line of the reason to `errors`, and returns the exit status. A failure of `errors` changes nothing.
+/// Writes the line of the reason to `errors`, and returns
+/// the exit status. A failure of `errors` changes nothing.
 pub(crate) fn report<E: Sink>(errors: &mut E, reason: ExitReason) -> u8
     ensures status { result ≡ status reason }
-    ensures line { IsReported (side (E.held errors.old) (E.failures errors.old)) (side (E.held errors.new) (E.failures errors.new)) (reason_line reason) }
+    ensures line { IsReported (side (E.held errors.old) (E.failures errors.old))
+        (side (E.held errors.new) (E.failures errors.new)) (reason_line reason) }
 {
     let _ = put_line(errors, reason);
     status_of(reason)

@@ -1,7 +1,12 @@
 //! Generated sessions: streams of updates of any length, the same for the same seed.
 
 ghost use Rattle.std.specs.Prelude.{◌≡◌, ℕ, ◌+◌, ◌<◌, ◌++◌, ◌%◌, [], IfOk, OnOk, OnErr, pos};
-ghost use Rattle.spiffe_watch.specs.MadeSession.{bundle_of, client_frames, entries as entries_of, first_key as first_key_of, frames_by, generation_by, identity as identity_of, item as item_of, item_frame, leaf_spec, made_session, ordered, root_spec, intermediate_spec};
+ghost use Rattle.spiffe_watch.specs.MadeSession.{bundle_of, client_frames, entries as entries_of};
+ghost use Rattle.spiffe_watch.specs.MadeSession.{first_key as first_key_of, frames_by};
+ghost use Rattle.spiffe_watch.specs.MadeSession.{generation_by, identity as identity_of};
+ghost use Rattle.spiffe_watch.specs.MadeSession.{item as item_of, item_frame, leaf_spec};
+ghost use Rattle.spiffe_watch.specs.MadeSession.{made_session, ordered, root_spec};
+ghost use Rattle.spiffe_watch.specs.MadeSession.{intermediate_spec};
 ghost use Rattle.spiffe_watch.specs.GeneratedParts.{AreParts, IsExpiry, Yields, IsWorkload};
 ghost use Rattle.spiffe_watch.specs.declared.generated.Variant.TheVariants as variants;
 ghost use Rattle.spiffe_watch.specs.Template.{IsTemplate, dated};
@@ -15,7 +20,8 @@ use spf_io::{Bytes, List, OutOfMemory, Text};
 use std::alloc::Global;
 use std::marker::Model;
 
-/// When the certificates of the first item expire, in Unix seconds; each new generation expires a second later.
+/// When the certificates of the first item expire, in Unix
+/// seconds; each new generation expires a second later.
 const FIRST_EXPIRY: i64 = 2_000_000_000;
 
 /// The second of the day 2033-05-18 at which they expire.
@@ -73,7 +79,13 @@ struct Parts {
 }
 
 fn spec(serial: u8, key_usage: Option<KeyUsageBits>, ca: Option<bool>, uris: Vec<Text>) -> CertSpec
-    ensures { result ≡ record { serial = serial; expiry = pos 2000000000; key_usage = key_usage; ca = ca; uris = uris.items } }
+    ensures { result ≡ record {
+      serial = serial;
+      expiry = pos 2000000000;
+      key_usage = key_usage;
+      ca = ca;
+      uris = uris.items;
+    } }
 {
     CertSpec {
         serial,
@@ -107,7 +119,8 @@ fn intermediate(alloc: Global) -> Result<Template, OutOfMemory>
 }
 
 fn leaf(alloc: Global, serial: u8, identity: &str) -> Result<Template, OutOfMemory>
-    ensures { (index : ℕ) → serial ≡ 1 + index → identity.now ≡ identity_of index → IfOk result (IsTemplate (leaf_spec index 0)) }
+    ensures { (index : ℕ) → serial ≡ 1 + index → identity.now ≡ identity_of index
+        → IfOk result (IsTemplate (leaf_spec index 0)) }
 {
     let usage = KeyUsageBits {
         digital_signature: true,
@@ -121,7 +134,8 @@ fn leaf(alloc: Global, serial: u8, identity: &str) -> Result<Template, OutOfMemo
 }
 
 fn make_workload(alloc: Global, serial: u8, identity: &str) -> Result<Workload, OutOfMemory>
-    ensures { (index : ℕ) → serial ≡ 1 + index → identity.now ≡ identity_of index → IfOk result (IsWorkload index) }
+    ensures { (index : ℕ) → serial ≡ 1 + index → identity.now ≡ identity_of index
+        → IfOk result (IsWorkload index) }
 {
     Ok(Workload {
         identity: Text::copy_of(alloc, identity)?,
@@ -198,7 +212,8 @@ fn bundle(
     variant: Variant,
     expiry: &[u8],
 ) -> Result<Bytes, OutOfMemory>
-    ensures { AreParts parts.now → (generation : ℕ) → IsExpiry generation expiry.now → IfOk result (λ b. b ≡ bundle_of variant generation) }
+    ensures { AreParts parts.now → (generation : ℕ) → IsExpiry generation expiry.now
+        → IfOk result (λ b. b ≡ bundle_of variant generation) }
 {
     match variant {
         Variant::Reordered => pair(alloc, &parts.root_b, &parts.root_a, expiry),
@@ -265,7 +280,8 @@ fn entries(
     variant: Variant,
     expiry: &[u8],
 ) -> Result<Vec<SvidEntry>, OutOfMemory>
-    ensures { AreParts parts.now → (generation : ℕ) → IsExpiry generation expiry.now → IfOk result (λ v. v.items ≡ entries_of variant generation) }
+    ensures { AreParts parts.now → (generation : ℕ) → IsExpiry generation expiry.now
+        → IfOk result (λ v. v.items ≡ entries_of variant generation) }
 {
     let bundle = bundle(alloc, parts, variant, expiry)?;
     let bundle = bundle.as_slice();
@@ -331,7 +347,8 @@ fn push_item(
     generation: u16,
     frames: &mut Vec<u8>,
 ) -> Result<(), OutOfMemory>
-    ensures { AreParts parts.now → OnOk result (frames.new.items ≡ frames.old.items ++ item_frame variant generation) }
+    ensures { AreParts parts.now
+        → OnOk result (frames.new.items ≡ frames.old.items ++ item_frame variant generation) }
 {
     let item = item(alloc, parts, variant, generation)?;
     let payload = write_payload(alloc, &Response::Context(item))?;
@@ -360,7 +377,10 @@ fn push_bad_item(
     generation: u16,
     frames: &mut Vec<u8>,
 ) -> Result<(), OutOfMemory>
-    ensures { AreParts parts.now → OnOk result (frames.new.items ≡ frames.old.items ++ (item_frame variants.BadKey generation ++ client_frames)) }
+    ensures { AreParts parts.now
+        → OnOk result
+        (frames.new.items
+        ≡ frames.old.items ++ (item_frame variants.BadKey generation ++ client_frames)) }
 {
     push_item(alloc, parts, Variant::BadKey, generation, frames)?;
     frames.extend_from_slice(CLIENT_MADE_AND_CONNECTED)?;
@@ -376,7 +396,8 @@ fn push_operation(
     generation: u16,
     frames: &mut Vec<u8>,
 ) -> Result<(), OutOfMemory>
-    ensures { AreParts parts.now → OnOk result (frames.new.items ≡ frames.old.items ++ frames_by choice generation) }
+    ensures { AreParts parts.now
+        → OnOk result (frames.new.items ≡ frames.old.items ++ frames_by choice generation) }
 {
     match choice {
         0..=3 => push_item(alloc, parts, Variant::Plain, generation, frames),
@@ -434,7 +455,8 @@ impl GeneratedSession {
         })
     }
 
-    /// Replaces `frames` by those of the next operation, or by the close. Returns `false` where nothing is to come.
+    /// Replaces `frames` by those of the next operation, or by
+    /// the close. Returns `false` where nothing is to come.
     pub(crate) fn next(&mut self, frames: &mut Vec<u8>) -> Result<bool, OutOfMemory>
         ensures frames { IfOk result (λ more. Yields more self.old self.new frames.new.items) }
         ensures kept { OnErr result (self.new ≡ self.old) }

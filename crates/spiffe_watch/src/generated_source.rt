@@ -25,7 +25,11 @@ impl Model for GeneratedSource {
 
     ghost Value = { GeneratedRead };
 
-    ghost view = { λ s. record { ready = drop s.at s.frames.items; later = s.session; failures = s.failed } };
+    ghost view = { λ s. record {
+      ready = drop s.at s.frames.items;
+      later = s.session;
+      failures = s.failed;
+    } };
 
     ghost invariant = { λ s. s.at ≤ vec_len s.frames };
 }
@@ -35,7 +39,8 @@ impl GeneratedSource {
         alloc: Global,
         arguments: MakeArguments,
     ) -> Result<GeneratedSource, OutOfMemory>
-        ensures left { IfOk result (λ s. ⟦<GeneratedSource as Source>⟧.left s ≡ Some (made_session arguments)) }
+        ensures left { IfOk result
+            (λ s. ⟦<GeneratedSource as Source>⟧.left s ≡ Some (made_session arguments)) }
         ensures failures { IfOk result (λ s. ⟦<GeneratedSource as Source>⟧.failures s ≡ 0) }
     {
         let mut frames = Vec::new(alloc);

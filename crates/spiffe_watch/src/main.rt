@@ -1,5 +1,5 @@
-//! `spiffe_watch` follows a stream of SPIFFE Workload API updates and prints, for each event, which identity and which
-//! trust bundles a workload then holds.
+//! `spiffe_watch` follows a stream of SPIFFE Workload API updates and prints, for each event, which
+//! identity and which trust bundles a workload then holds.
 #![tactic(auto)]
 
 mod arguments;
@@ -37,7 +37,8 @@ fn main(rt: HostRuntime) -> ExitCode {
     }
 }
 
-/// Calls `watch` with the standard streams, and returns its exit status. `--help` and `--version`, alone, are answered here.
+/// Calls `watch` with the standard streams, and returns its exit
+/// status. `--help` and `--version`, alone, are answered here.
 fn run<E: Sink>(rt: &HostRuntime, errors: &mut E) -> Result<u8, ExitReason> {
     let arguments = arguments_of(rt)?;
     let mut out = StdSink::new(rt.stdout());

@@ -1,7 +1,9 @@
 //! A sink that keeps a summary of the lines that are put to it.
 
-ghost use Rattle.std.specs.Prelude.{◌≡◌, ◌≤◌, ◌<◌, ◌-◌, ◌^◌, ◌++◌, [], Some, length, take, IfOk, OnErr};
-ghost use Rattle.spiffe_watch.specs.Tallied.{first_word, after_word, revision_in, withdrawn_in, tally_of};
+ghost use Rattle.std.specs.Prelude.{◌≡◌, ◌≤◌, ◌<◌, ◌-◌, ◌^◌, ◌++◌, [], Some, length, take, IfOk};
+ghost use Rattle.std.specs.Prelude.{OnErr};
+ghost use Rattle.spiffe_watch.specs.Tallied.{first_word, after_word, revision_in, withdrawn_in};
+ghost use Rattle.spiffe_watch.specs.Tallied.{tally_of};
 ghost use Rattle.spiffe_watch.specs.Arguments.{number_up_to as number_in_up_to};
 
 use crate::arguments::number_up_to;
@@ -28,7 +30,11 @@ impl Model for Tally {
 
     ghost view = { λ t. record { held = t.written.bytes; failures = t.failed } };
 
-    ghost invariant = { λ t. tally_of t.written.bytes ≡ record { revision = t.counts.revision; withdrawn = t.counts.withdrawn; unfinished = t.unfinished.items } };
+    ghost invariant = { λ t. tally_of t.written.bytes ≡ record {
+      revision = t.counts.revision;
+      withdrawn = t.counts.withdrawn;
+      unfinished = t.unfinished.items;
+    } };
 }
 
 impl Tally {

@@ -24,7 +24,8 @@ impl Template {
         spec: &CertSpec,
         offset: usize,
     ) -> Result<Template, OutOfMemory>
-        ensures { spec.now.expiry ≡ pos 2000000000 → offset ≡ length (before spec.now) → IfOk result (IsTemplate spec.now) }
+        ensures { spec.now.expiry ≡ pos 2000000000 → offset ≡ length (before spec.now)
+            → IfOk result (IsTemplate spec.now) }
     {
         let text = write_certificate(alloc, spec)?;
         let (before, rest) = text.as_slice().split_at(offset.min(text.len()));
@@ -37,7 +38,8 @@ impl Template {
 
     /// Appends the certificate with this notAfter.
     pub(crate) fn push(&self, not_after: &[u8], octets: &mut Vec<u8>) -> Result<(), OutOfMemory>
-        ensures { OnOk result (octets.new.items ≡ octets.old.items ++ dated self.now not_after.now) }
+        ensures { OnOk result
+            (octets.new.items ≡ octets.old.items ++ dated self.now not_after.now) }
     {
         octets.extend_from_slice(self.before.as_slice())?;
         octets.extend_from_slice(not_after)?;

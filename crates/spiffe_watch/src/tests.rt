@@ -1,6 +1,8 @@
 //! Sessions and arguments, with the lines, the status and the line on standard error of each.
 
+mod failing;
 mod fixtures;
+mod made_session;
 
 use fixtures::{octets, run, slow_source, source_of, written_out};
 use spf_io::MemSource;
@@ -8,7 +10,8 @@ use std::alloc::Global;
 use std::process::Abort;
 use std::test::Fail;
 
-/// A name, arguments, frames, the lines, the status, and what standard error says after the name of the program.
+/// A name, arguments, frames, the lines, the status, and
+/// what standard error says after the name of the program.
 type Row = (
     &'static str,
     &'static str,
@@ -23,7 +26,8 @@ static ROWS: [Row; 57] = [
         "first-session",
         "x509",
         "M999 CM CN I1F CL",
-        "1 waiting\n2 waiting\n3 waiting\n4 0 permitted P1 other.org=ROOT2\n5 0 permitted P1 other.org=ROOT2\n",
+        "1 waiting\n2 waiting\n3 waiting\n4 0 permitted P1 other.org=ROOT2\n\
+         5 0 permitted P1 other.org=ROOT2\n",
         0,
         "",
     ),
@@ -47,7 +51,8 @@ static ROWS: [Row; 57] = [
         "expiry-passes",
         "x509",
         "M999 CM CN I1 M1000",
-        "1 waiting\n2 waiting\n3 waiting\n4 0 permitted P1\n5 0 permitted - - - example.org=ROOT1\n",
+        "1 waiting\n2 waiting\n3 waiting\n4 0 permitted P1\n\
+         5 0 permitted - - - example.org=ROOT1\n",
         0,
         "",
     ),
@@ -55,7 +60,12 @@ static ROWS: [Row; 57] = [
         "denial-and-recovery",
         "x509",
         "M999 CM CN I1 CM CN IS7no CM CN BADKEY CM CN IS14x CM CN I1",
-        "1 waiting\n2 waiting\n3 waiting\n4 0 permitted P1\n5 0 permitted P1\n6 0 permitted P1\n7 1 withdrawn permission_denied:6e6f\n8 1 withdrawn permission_denied:6e6f\n9 1 withdrawn permission_denied:6e6f\n10 1 withdrawn permission_denied:6e6f\n11 1 withdrawn permission_denied:6e6f\n12 1 withdrawn permission_denied:6e6f\n13 1 withdrawn permission_denied:6e6f\n14 1 withdrawn permission_denied:6e6f\n15 1 withdrawn permission_denied:6e6f\n16 2 permitted P1\n",
+        "1 waiting\n2 waiting\n3 waiting\n4 0 permitted P1\n5 0 permitted P1\n6 0 permitted P1\n\
+         7 1 withdrawn permission_denied:6e6f\n8 1 withdrawn permission_denied:6e6f\n\
+         9 1 withdrawn permission_denied:6e6f\n10 1 withdrawn permission_denied:6e6f\n\
+         11 1 withdrawn permission_denied:6e6f\n12 1 withdrawn permission_denied:6e6f\n\
+         13 1 withdrawn permission_denied:6e6f\n14 1 withdrawn permission_denied:6e6f\n\
+         15 1 withdrawn permission_denied:6e6f\n16 2 permitted P1\n",
         0,
         "",
     ),
@@ -63,7 +73,9 @@ static ROWS: [Row; 57] = [
         "first-denial-stays",
         "x509",
         "M999 CM CN I1 CM CN IS7no CM CS7issued",
-        "1 waiting\n2 waiting\n3 waiting\n4 0 permitted P1\n5 0 permitted P1\n6 0 permitted P1\n7 1 withdrawn permission_denied:6e6f\n8 1 withdrawn permission_denied:6e6f\n9 1 withdrawn permission_denied:6e6f\n",
+        "1 waiting\n2 waiting\n3 waiting\n4 0 permitted P1\n5 0 permitted P1\n6 0 permitted P1\n\
+         7 1 withdrawn permission_denied:6e6f\n8 1 withdrawn permission_denied:6e6f\n\
+         9 1 withdrawn permission_denied:6e6f\n",
         0,
         "",
     ),
@@ -79,7 +91,9 @@ static ROWS: [Row; 57] = [
         "reshuffled-material",
         "x509",
         "M999 CM CN J1 CM CN J2 J3",
-        "1 waiting\n2 waiting\n3 waiting\n4 0 permitted P1,ROOT2\n5 0 permitted P1,ROOT2\n6 0 permitted P1,ROOT2\n7 0 permitted P1,ROOT2\n8 1 permitted spiffe://example.org/v 1000 LEAF2 example.org=ROOT1,ROOT2\n",
+        "1 waiting\n2 waiting\n3 waiting\n4 0 permitted P1,ROOT2\n5 0 permitted P1,ROOT2\n\
+         6 0 permitted P1,ROOT2\n7 0 permitted P1,ROOT2\n\
+         8 1 permitted spiffe://example.org/v 1000 LEAF2 example.org=ROOT1,ROOT2\n",
         0,
         "",
     ),
@@ -87,7 +101,8 @@ static ROWS: [Row; 57] = [
         "last-bundle-replaces, federated",
         "x509",
         "M999 CM CN TWOFED",
-        "1 waiting\n2 waiting\n3 waiting\n4 0 permitted spiffe://example.org/w 1000 LEAF1 example.org=ROOT3\n",
+        "1 waiting\n2 waiting\n3 waiting\n\
+         4 0 permitted spiffe://example.org/w 1000 LEAF1 example.org=ROOT3\n",
         0,
         "",
     ),
@@ -95,7 +110,8 @@ static ROWS: [Row; 57] = [
         "last-bundle-replaces",
         "x509",
         "M999 CM CN TWO",
-        "1 waiting\n2 waiting\n3 waiting\n4 0 permitted spiffe://example.org/w 1000 LEAF1 example.org=ROOT2\n",
+        "1 waiting\n2 waiting\n3 waiting\n\
+         4 0 permitted spiffe://example.org/w 1000 LEAF1 example.org=ROOT2\n",
         0,
         "",
     ),
@@ -111,7 +127,8 @@ static ROWS: [Row; 57] = [
         "hint-picker",
         "x509 --hint internal",
         "M999 CM CN HINT1 CM CN HINT2",
-        "1 waiting\n2 waiting\n3 waiting\n4 0 permitted P1\n5 0 permitted P1\n6 0 permitted P1\n7 1 permitted - - - example.org=ROOT2\n",
+        "1 waiting\n2 waiting\n3 waiting\n4 0 permitted P1\n5 0 permitted P1\n6 0 permitted P1\n\
+         7 1 permitted - - - example.org=ROOT2\n",
         0,
         "",
     ),
@@ -119,7 +136,8 @@ static ROWS: [Row; 57] = [
         "intermediate-in-chain",
         "x509",
         "M999 CM CN CHAIN2",
-        "1 waiting\n2 waiting\n3 waiting\n4 0 permitted spiffe://example.org/w 1000 LEAF1,INTER1 example.org=ROOT1\n",
+        "1 waiting\n2 waiting\n3 waiting\n\
+         4 0 permitted spiffe://example.org/w 1000 LEAF1,INTER1 example.org=ROOT1\n",
         0,
         "",
     ),
@@ -127,7 +145,8 @@ static ROWS: [Row; 57] = [
         "crls",
         "x509",
         "M999 CM CN I1C CM CN I1CB I1CA",
-        "1 waiting\n2 waiting\n3 waiting\n4 0 permitted P1 #0a,0b\n5 0 permitted P1 #0a,0b\n6 0 permitted P1 #0a,0b\n7 0 permitted P1 #0a,0b\n8 1 permitted P1 #0a\n",
+        "1 waiting\n2 waiting\n3 waiting\n4 0 permitted P1 #0a,0b\n5 0 permitted P1 #0a,0b\n\
+         6 0 permitted P1 #0a,0b\n7 0 permitted P1 #0a,0b\n8 1 permitted P1 #0a\n",
         0,
         "",
     ),
@@ -159,7 +178,10 @@ static ROWS: [Row; 57] = [
         "an item over a limit restores nothing",
         "x509 --max-bundle-bytes 72",
         "M999 CM CN I1 CM CN IS7no CM CN LARGE I1",
-        "1 waiting\n2 waiting\n3 waiting\n4 0 permitted P1\n5 0 permitted P1\n6 0 permitted P1\n7 1 withdrawn permission_denied:6e6f\n8 1 withdrawn permission_denied:6e6f\n9 1 withdrawn permission_denied:6e6f\n10 1 withdrawn permission_denied:6e6f\n11 2 permitted P1\n",
+        "1 waiting\n2 waiting\n3 waiting\n4 0 permitted P1\n5 0 permitted P1\n6 0 permitted P1\n\
+         7 1 withdrawn permission_denied:6e6f\n8 1 withdrawn permission_denied:6e6f\n\
+         9 1 withdrawn permission_denied:6e6f\n10 1 withdrawn permission_denied:6e6f\n\
+         11 2 permitted P1\n",
         0,
         "",
     ),
@@ -433,162 +455,6 @@ fn rows(rt: HostRuntime) -> Result<(), Fail> {
             row,
             slow_source(alloc, octets(alloc, row.2)?, Vec::new(alloc))?,
         )?;
-    }
-    Ok(())
-}
-
-/// What follows the frame at the start of `octets`, where that is whole.
-fn after_frame(octets: &[u8]) -> Option<&[u8]> {
-    match octets {
-        [_, a, b, c, d, payload @ ..] => {
-            payload.get(u32::from_be_bytes([*a, *b, *c, *d]) as usize..)
-        }
-        _ => None,
-    }
-}
-
-/// How many whole frames there are at the start of `octets`.
-fn whole_frames(octets: &[u8]) -> usize {
-    let mut rest = octets;
-    for frames in 0..octets.len() {
-        match after_frame(rest) {
-            Some(after) => rest = after,
-            None => return frames,
-        }
-    }
-    octets.len()
-}
-
-/// The first lines of a text.
-fn first_lines(alloc: Global, text: &str, count: usize) -> Result<String, Fail> {
-    let mut lines = String::new(alloc);
-    for line in text.lines().take(count) {
-        lines.push_str(line)?;
-        lines.push_str("\n")?;
-    }
-    Ok(lines)
-}
-
-/// Row failing-io: the bytes of row first-session one by one, where each read in turn fails. The lines of the frames that
-/// were whole stand.
-#[test]
-fn failing_reads(rt: HostRuntime) -> Result<(), Fail> {
-    let alloc = rt.alloc();
-    let (_, arguments, frames, lines, _, _) = ROWS[0];
-    let session = octets(alloc, frames)?;
-    let lines = written_out(alloc, lines)?;
-    for taken in 0..session.len() {
-        let failing = vec![in alloc; taken as u64 + 1]?;
-        let source = slow_source(alloc, octets(alloc, frames)?, failing)?;
-        let ran = run(alloc, arguments, source, Vec::new(alloc))?;
-        let wanted = first_lines(alloc, lines.as_str(), whole_frames(&session[..taken]))?;
-        assert_eq!(rt;
-            str::from_utf8(ran.out.bytes()),
-            Ok(wanted.as_str()),
-            "after {taken}"
-        );
-        assert_eq!(rt; ran.status, 3, "after {taken}");
-        assert_eq!(rt;
-            ran.errors.bytes(),
-            b"spiffe_watch: read failed\n".as_slice()
-        );
-    }
-    Ok(())
-}
-
-/// Row failing-io: row first-session, where each put in turn fails. The lines before it stand.
-#[test]
-fn failing_puts(rt: HostRuntime) -> Result<(), Fail> {
-    let alloc = rt.alloc();
-    let (_, arguments, frames, lines, _, _) = ROWS[0];
-    let lines = written_out(alloc, lines)?;
-    for put in 0..5 {
-        let source = source_of(alloc, octets(alloc, frames)?);
-        let ran = run(alloc, arguments, source, vec![in alloc; put as u64 + 1]?)?;
-        let wanted = first_lines(alloc, lines.as_str(), put)?;
-        assert_eq!(rt;
-            str::from_utf8(ran.out.bytes()),
-            Ok(wanted.as_str()),
-            "put {put}"
-        );
-        assert_eq!(rt; ran.status, 4, "put {put}");
-        assert_eq!(rt;
-            ran.errors.bytes(),
-            b"spiffe_watch: write failed\n".as_slice()
-        );
-    }
-    Ok(())
-}
-
-/// After a bad kind nothing is read: the failing read after it is not reached.
-#[test]
-fn bad_kind_before_a_failing_read(rt: HostRuntime) -> Result<(), Fail> {
-    let alloc = rt.alloc();
-    let source = slow_source(alloc, octets(alloc, "0a00000000")?, vec![in alloc; 2]?)?;
-    let ran = run(alloc, "x509", source, Vec::new(alloc))?;
-    assert_eq!(rt; ran.status, 6);
-    assert_eq!(rt;
-        ran.errors.bytes(),
-        b"spiffe_watch: bad frame 1\n".as_slice()
-    );
-    Ok(())
-}
-
-/// The summary that lines give: how many there are, the last revision, and how many say withdrawn.
-fn summary_of(alloc: Global, lines: &[u8]) -> Result<String, Fail> {
-    let mut events: u64 = 0;
-    let mut revision: u64 = 0;
-    let mut withdrawn: u64 = 0;
-    for line in str::from_utf8(lines)?.lines() {
-        events = events.saturating_add(1);
-        let mut words = line.split(' ').skip(1);
-        if let Some(word) = words.next() {
-            revision = word.parse::<u64>().unwrap_or(revision);
-        }
-        if words.next() == Some("withdrawn") {
-            withdrawn = withdrawn.saturating_add(1);
-        }
-    }
-    let summary = format!(in alloc; "events {events} revision {revision} withdrawn {withdrawn}\n")?;
-    Ok(summary)
-}
-
-/// What a run without input writes.
-fn written_by(alloc: Global, arguments: &str) -> Result<Vec<u8>, Fail> {
-    let ran = run(
-        alloc,
-        arguments,
-        source_of(alloc, Vec::new(alloc)),
-        Vec::new(alloc),
-    )?;
-    Ok(Vec::from_slice(alloc, ran.out.bytes())?)
-}
-
-/// Row made-session: the summary of `bench` is that of the lines of the session that `make` writes.
-#[test]
-fn made_session(rt: HostRuntime) -> Result<(), Fail> {
-    let alloc = rt.alloc();
-    for (session, summary) in [
-        ("0 7", "events 7 revision 0 withdrawn 0\n"),
-        ("4 1", "events 13 revision 3 withdrawn 3\n"),
-        ("7 1", "events 18 revision 5 withdrawn 3\n"),
-        ("1000 1", ""),
-    ] {
-        let make = format!(in alloc; "make {session}")?;
-        let bench = format!(in alloc; "bench {session}")?;
-        let made = source_of(alloc, written_by(alloc, make.as_str())?);
-        let followed = run(alloc, "x509", made, Vec::new(alloc))?;
-        let found = written_by(alloc, bench.as_str())?;
-        assert_eq!(rt; followed.status, 0, "{session}");
-        assert_eq!(rt;
-            str::from_utf8(found.as_slice()),
-            Ok(summary_of(alloc, followed.out.bytes())?.as_str()),
-            "{session}"
-        );
-        assert!(rt;
-            summary.is_empty() || found.as_slice() == summary.as_bytes(),
-            "{session}"
-        );
     }
     Ok(())
 }

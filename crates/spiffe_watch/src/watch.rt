@@ -6,7 +6,8 @@ ghost use Rattle.spf_feed.specs.Pick.{first_with_hint};
 ghost use Rattle.spf_io.specs.Outside.{Rose};
 ghost use Rattle.spiffe_watch.specs.Arguments.{command_in};
 ghost use Rattle.spiffe_watch.specs.Causes.{HasCauses, is_bad_arguments};
-ghost use Rattle.spiffe_watch.specs.Headline.{FollowsSession, Does, Ended, Headline, Completes, Puts, ended_by};
+ghost use Rattle.spiffe_watch.specs.Headline.{FollowsSession, Does, Ended, Headline, Completes};
+ghost use Rattle.spiffe_watch.specs.Headline.{Puts, ended_by};
 ghost use Rattle.spiffe_watch.specs.MadeSession.{made_session};
 ghost use Rattle.spiffe_watch.specs.Streams.{Side, Streams, side};
 ghost use Rattle.spiffe_watch.specs.declared.exit_reason.ExitReason.TheVariants as reasons;
@@ -21,8 +22,8 @@ use spf_feed::{FollowError, HintPicker, NoRecorder, SvidPicker, follow_x509};
 use spf_io::{OutOfMemory, Sink, Source, Text};
 use std::alloc::Global;
 
-/// Does what the arguments ask for, and returns the exit status: 0 where all went well. Where it did not, a line on `errors`
-/// says why.
+/// Does what the arguments ask for, and returns the exit status: 0 where all went well. Where it
+/// did not, a line on `errors` says why.
 pub fn watch<S: Source, K: Sink, E: Sink>(
     alloc: Global,
     arguments: &[String],
@@ -32,18 +33,47 @@ pub fn watch<S: Source, K: Sink, E: Sink>(
 ) -> u8
     // Status 1 comes exactly where the arguments are not those of the program.
     ensures arguments { (result ≡ 1) ↔ (command_in (map string_bytes arguments.now) ≡ None) }
-    // What the arguments ask for is done, and the status and the line on `errors` say how it ended. Of a session, what is read,
-    // written and returned belongs to one list of events; `make` and `bench` write a generated session, and its summary.
-    ensures does { let before : Streams = record { input = side (S.left source.old) (S.failures source.old); output = side (K.held out.old) (K.failures out.old); errors = side (E.held errors.old) (E.failures errors.old) } in
-        let after : Streams = record { input = side (S.left source.new) (S.failures source.new); output = side (K.held out.new) (K.failures out.new); errors = side (E.held errors.new) (E.failures errors.new) } in
+    // What the arguments ask for is done, and the status and the line on `errors` say how it ended.
+    // Of a session, what is read, written and returned belongs to one list of events; `make` and
+    // `bench` write a generated session, and its summary.
+    ensures does { let before : Streams =
+        record {
+          input = side (S.left source.old) (S.failures source.old);
+          output = side (K.held out.old) (K.failures out.old);
+          errors = side (E.held errors.old) (E.failures errors.old);
+        } in
+        let after : Streams = record {
+          input = side (S.left source.new) (S.failures source.new);
+          output = side (K.held out.new) (K.failures out.new);
+          errors = side (E.held errors.new) (E.failures errors.new);
+        } in
         Ended (command_in (map string_bytes arguments.now)) before after result }
     // Status 0: the input held a whole session, and the output is one line for each event.
-    ensures headline { let before : Streams = record { input = side (S.left source.old) (S.failures source.old); output = side (K.held out.old) (K.failures out.old); errors = side (E.held errors.old) (E.failures errors.old) } in
-        let after : Streams = record { input = side (S.left source.new) (S.failures source.new); output = side (K.held out.new) (K.failures out.new); errors = side (E.held errors.new) (E.failures errors.new) } in
+    ensures headline { let before : Streams =
+        record {
+          input = side (S.left source.old) (S.failures source.old);
+          output = side (K.held out.old) (K.failures out.old);
+          errors = side (E.held errors.old) (E.failures errors.old);
+        } in
+        let after : Streams = record {
+          input = side (S.left source.new) (S.failures source.new);
+          output = side (K.held out.new) (K.failures out.new);
+          errors = side (E.held errors.new) (E.failures errors.new);
+        } in
         result ≡ 0 → Headline (command_in (map string_bytes arguments.now)) before after }
-    // A whole session with an accepted event, within the bound and without a failure, ends with 0, or out of memory.
-    ensures complete { let before : Streams = record { input = side (S.left source.old) (S.failures source.old); output = side (K.held out.old) (K.failures out.old); errors = side (E.held errors.old) (E.failures errors.old) } in
-        let after : Streams = record { input = side (S.left source.new) (S.failures source.new); output = side (K.held out.new) (K.failures out.new); errors = side (E.held errors.new) (E.failures errors.new) } in
+    // A whole session with an accepted event, within the bound
+    // and without a failure, ends with 0, or out of memory.
+    ensures complete { let before : Streams =
+        record {
+          input = side (S.left source.old) (S.failures source.old);
+          output = side (K.held out.old) (K.failures out.old);
+          errors = side (E.held errors.old) (E.failures errors.old);
+        } in
+        let after : Streams = record {
+          input = side (S.left source.new) (S.failures source.new);
+          output = side (K.held out.new) (K.failures out.new);
+          errors = side (E.held errors.new) (E.failures errors.new);
+        } in
         Completes (command_in (map string_bytes arguments.now)) before after result }
     ensures read_fault { result ≡ 3 → Rose (S.failures source.old) (S.failures source.new) }
     ensures write_fault { result ≡ 4 → Rose (K.failures out.old) (K.failures out.new) }
@@ -60,13 +90,23 @@ fn run<S: Source, K: Sink>(
     source: &mut S,
     out: &mut K,
 ) -> Result<(), ExitReason>
-    ensures arguments { (result ≡ Err reasons.BadArguments) ↔ (command_in (map string_bytes arguments.now) ≡ None) }
+    ensures arguments { (result ≡ Err reasons.BadArguments)
+        ↔ (command_in (map string_bytes arguments.now) ≡ None) }
     // whatever the error output holds
     ensures does { (errors errors' : Side) →
-        let before : Streams = record { input = side (S.left source.old) (S.failures source.old); output = side (K.held out.old) (K.failures out.old); errors = errors } in
-        let after : Streams = record { input = side (S.left source.new) (S.failures source.new); output = side (K.held out.new) (K.failures out.new); errors = errors' } in
+        let before : Streams = record {
+          input = side (S.left source.old) (S.failures source.old);
+          output = side (K.held out.old) (K.failures out.old);
+          errors = errors;
+        } in
+        let after : Streams = record {
+          input = side (S.left source.new) (S.failures source.new);
+          output = side (K.held out.new) (K.failures out.new);
+          errors = errors';
+        } in
         Does (command_in (map string_bytes arguments.now)) before after result }
-    ensures cause { HasCauses (S.failures source.old) (S.failures source.new) (K.failures out.old) (K.failures out.new) result }
+    ensures cause { HasCauses (S.failures source.old) (S.failures source.new) (K.failures out.old)
+        (K.failures out.new) result }
 {
     match parse_command(arguments) {
         None => Err(ExitReason::BadArguments),
@@ -78,7 +118,9 @@ fn run<S: Source, K: Sink>(
 
 /// A picker of the first SVID with a hint, if there is a hint.
 fn picker_of(alloc: Global, hint: Option<&str>) -> Result<Option<HintPicker>, OutOfMemory>
-    ensures { IfOk result (λ p. option_map ⟦<HintPicker as SvidPicker>⟧.picks p ≡ option_map first_with_hint (option_copied hint.entry)) }
+    ensures { IfOk result
+        (λ p. option_map ⟦<HintPicker as SvidPicker>⟧.picks p
+        ≡ option_map first_with_hint (option_copied hint.entry)) }
 {
     match hint {
         None => Ok(None),
@@ -86,7 +128,8 @@ fn picker_of(alloc: Global, hint: Option<&str>) -> Result<Option<HintPicker>, Ou
     }
 }
 
-/// Follows the session of `source`, and writes a line for each event. Nothing keeps its steps and its records.
+/// Follows the session of `source`, and writes a line for
+/// each event. Nothing keeps its steps and its records.
 fn follow<S: Source, K: Sink>(
     alloc: Global,
     arguments: X509Arguments<'_>,
@@ -94,8 +137,10 @@ fn follow<S: Source, K: Sink>(
     out: &mut K,
 ) -> Result<(), ExitReason>
     ensures arguments { IfErr result (λ e. is_bad_arguments e ≡ false) }
-    ensures session { FollowsSession arguments.entry (S.left source.old) (S.left source.new) (K.held out.old) (K.held out.new) result }
-    ensures cause { HasCauses (S.failures source.old) (S.failures source.new) (K.failures out.old) (K.failures out.new) result }
+    ensures session { FollowsSession arguments.entry (S.left source.old) (S.left source.new)
+        (K.held out.old) (K.held out.new) result }
+    ensures cause { HasCauses (S.failures source.old) (S.failures source.new) (K.failures out.old)
+        (K.failures out.new) result }
 {
     let picker = picker_of(alloc, arguments.hint)?;
     let followed = follow_x509(
@@ -125,7 +170,8 @@ fn end_of(followed: Result<u64, FollowError>) -> Result<(), ExitReason>
 
 /// Writes a generated session, the frames of one operation after another.
 fn make<K: Sink>(alloc: Global, arguments: MakeArguments, out: &mut K) -> Result<(), ExitReason>
-    ensures text { Puts (λ text. text ≡ made_session arguments) (K.held out.old) (K.held out.new) result }
+    ensures text { Puts (λ text. text ≡ made_session arguments) (K.held out.old) (K.held out.new)
+        result }
     ensures cause { HasCauses 0 0 (K.failures out.old) (K.failures out.new) result }
 {
     let mut frames = Vec::new(alloc);

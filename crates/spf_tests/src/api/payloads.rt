@@ -153,7 +153,8 @@ fn further_payloads(rt: HostRuntime) -> Result<(), Fail> {
     Ok(())
 }
 
-/// The payload of a validation with one claim, whose value is null in so many lists, each the one member of the next.
+/// The payload of a validation with one claim, whose value is
+/// null in so many lists, each the one member of the next.
 fn nested_payload(alloc: Global, lists: usize) -> Result<Vec<u8>, Fail> {
     let mut payload = Vec::new(alloc);
     payload.extend_from_slice(b"\0\0\0\x01a\x01\0\0\0\x01\0\0\0\x01a")?;
@@ -216,7 +217,8 @@ fn gives_first_context(alloc: Global, view: ContextView<'_>) -> Result<bool, Fai
     Ok(same && both(context_from_view(alloc, &view), context_from(alloc, &item)))
 }
 
-/// Whether the view of the payload gives the context of the first item; none where there is no view.
+/// Whether the view of the payload gives the context
+/// of the first item; none where there is no view.
 fn viewed(alloc: Global, payload: &[u8]) -> Result<Option<bool>, Fail> {
     match read_context_view(alloc, payload)? {
         None => Ok(None),

@@ -109,7 +109,8 @@ fn refusals(rt: HostRuntime) -> Result<(), Fail> {
     Ok(())
 }
 
-/// Whether the set has a bundle of the trust domain with that authority alone, or with none where there are no octets.
+/// Whether the set has a bundle of the trust domain with that
+/// authority alone, or with none where there are no octets.
 fn holds(
     alloc: Global,
     set: &X509BundleSet,

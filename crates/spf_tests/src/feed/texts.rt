@@ -50,7 +50,8 @@ static SOURCE_ERRORS: [(u8, &str); 12] = [
     (0, "x509 source error: empty Workload API response"),
     (
         1,
-        "required Workload API RPC FetchX509SVID is unsupported during initial synchronization: empty Workload API response",
+        "required Workload API RPC FetchX509SVID is unsupported during initial synchronization: \
+         empty Workload API response",
     ),
     (2, "no suitable svid found"),
     (3, "material withdrawn: permission denied: no"),
@@ -92,7 +93,8 @@ static FOLLOW_ERRORS: [(u8, &str); 10] = [
     (5, "x509 source error: empty Workload API response"),
     (
         6,
-        "required Workload API RPC FetchX509SVID is unsupported during initial synchronization: empty Workload API response",
+        "required Workload API RPC FetchX509SVID is unsupported during initial synchronization: \
+         empty Workload API response",
     ),
     (7, "initial synchronization timed out"),
     (8, "source is closed"),

@@ -192,7 +192,8 @@ fn svid_text(alloc: Global, state: &X509SourceState, now: Option<i64>) -> Result
     }
 }
 
-/// The line of a state, then its SVID, its revision, and whether it is closed, is usable and has a context.
+/// The line of a state, then its SVID, its revision, and
+/// whether it is closed, is usable and has a context.
 fn state_text(alloc: Global, state: &X509SourceState, now: Option<i64>) -> Result<String, Fail> {
     let line = state_line(alloc, state, now)?;
     let svid = svid_text(alloc, state, now)?;
@@ -252,7 +253,8 @@ static STATES: [(&str, bool, bool, Option<i64>, &str); 5] = [
         true,
         false,
         Some(5),
-        "1 withdrawn no_identity_issued\nmaterial withdrawn: no identity issued 1 false false false",
+        "1 withdrawn no_identity_issued\n\
+         material withdrawn: no identity issued 1 false false false",
     ),
     (
         "withdrawn, closed",

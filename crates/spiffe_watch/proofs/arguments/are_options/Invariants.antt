@@ -4,7 +4,8 @@ use Rattle.spiffe_watch.specs.Arguments.{are_options}
 use Rattle.spiffe_watch.proofs.arguments.are_options.Given as goal
 
 abbrev pub invariant-loop-rest : goal.invariant-loop-rest
-invariant-loop-rest l = are_options (map string_bytes l.rest) ≡ are_options (map string_bytes l.arguments)
+invariant-loop-rest l =
+    are_options (map string_bytes l.rest) ≡ are_options (map string_bytes l.arguments)
 
 abbrev pub decreases-loop-rest : goal.decreases-loop-rest
 decreases-loop-rest l = length l.rest

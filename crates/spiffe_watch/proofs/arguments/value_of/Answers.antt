@@ -5,5 +5,6 @@ use Rattle.spiffe_watch.proofs.arguments.value_of.Goals as goal
 
 pub returns : goal.returns
 returns c =
-    let none = values_none string_bytes c.args.option.now c.loop-rest.rest.now c.in_default.len_below in
+    let none = values_none string_bytes c.args.option.now c.loop-rest.rest.now
+    c.in_default.len_below in
     rw (c.loop-rest.invariant, none) (found_all (option_copied c.loop-rest.found))

@@ -6,7 +6,9 @@ use Rattle.spiffe_watch.proofs.Pairs.{found_list}
 use Rattle.spiffe_watch.proofs.arguments.value_of.Given as goal
 
 abbrev pub invariant-loop-rest : goal.invariant-loop-rest
-invariant-loop-rest l = values_of l.option (map string_bytes l.arguments) ≡ found_list (option_copied l.found) ++ values_of l.option (map string_bytes l.rest)
+invariant-loop-rest l =
+    values_of l.option (map string_bytes l.arguments)
+    ≡ found_list (option_copied l.found) ++ values_of l.option (map string_bytes l.rest)
 
 abbrev pub decreases-loop-rest : goal.decreases-loop-rest
 decreases-loop-rest l = length l.rest

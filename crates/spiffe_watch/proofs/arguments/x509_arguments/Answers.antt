@@ -7,7 +7,9 @@ pub returns : goal.returns
 returns c =
     let default = c.default_limits-limits.ensures in
     rw c.new.ensures
-    (setting_read (map string_bytes c.args.arguments.now) _ _ _ _ _ _ _ _ (sym c.if-not-are_options.ensures)
+    (setting_read (map string_bytes c.args.arguments.now) _ _ _ _ _ _ _ _
+    (sym c.if-not-are_options.ensures)
     (rw default at c.in_ok-limit_option.ensures) (rw default at c.in_ok-limit_option-2.ensures)
     (rw default at c.in_ok-limit_option-3.ensures) (rw default at c.in_ok-limit_option-4.ensures)
-    c.in_ok-moment_option.ensures c.in_ok-number_option.ensures c.in_ok-hint_option.ensures c.in_ok-ready_option.ensures)
+    c.in_ok-moment_option.ensures c.in_ok-number_option.ensures c.in_ok-hint_option.ensures
+    c.in_ok-ready_option.ensures)

@@ -6,5 +6,6 @@ use Rattle.spiffe_watch.proofs.generated.push_bad_item.Goals as goal
 
 pub returns : goal.returns
 returns c = λ parts.
-    c.in_ok-extend_from_slice.ensures.items ∙ ap (λ (l : List ℕ). l ++ client_octets) (c.in_ok-push_item.ensures parts)
+    c.in_ok-extend_from_slice.ensures.items
+    ∙ ap (λ (l : List ℕ). l ++ client_octets) (c.in_ok-push_item.ensures parts)
     ∙ put_client c.args.frames.now.items (item_frame variants.BadKey c.args.generation)

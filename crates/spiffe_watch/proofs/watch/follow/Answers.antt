@@ -15,7 +15,20 @@ returns-in_err-picker-clause-session g c =
 pub returns-clause-session : goal.returns-clause-session
 returns-clause-session g c =
     let inside = c.arguments.inside in
-    let setting : Setting = record { limits = inside.limits; deadline = inside.deadline; max_frames = inside.max_frames; hint = option_copied inside.hint; ready = inside.ready } in
-    subst (λ (s : Setting). FollowsSession s (g.S.Source.left c.args.source.now) (g.S.Source.left c.follow_x509-followed.new.source) (g.K.Sink.held c.args.out.now) (g.K.Sink.held c.follow_x509-followed.new.sink) c.end_of.result)
+    let setting : Setting =
+    record {
+      limits = inside.limits;
+      deadline = inside.deadline;
+      max_frames = inside.max_frames;
+      hint = option_copied inside.hint;
+      ready = inside.ready;
+    } in
+    subst (λ (s : Setting).
+    FollowsSession s (g.S.Source.left c.args.source.now)
+    (g.S.Source.left c.follow_x509-followed.new.source) (g.K.Sink.held c.args.out.now)
+    (g.K.Sink.held c.follow_x509-followed.new.sink) c.end_of.result)
     c.arguments.view_is
-    (ran setting _ _ _ _ c.follow_x509-followed.result _ _ (ap (rules_with inside.limits inside.deadline inside.ready) (shared_map _ _ _ c.as_ref.ensures.value ∙ c.in_ok-picker.ensures)) c.follow_x509-followed.ensures.followed c.end_of.ensures)
+    (ran setting _ _ _ _ c.follow_x509-followed.result _ _
+    (ap (rules_with inside.limits inside.deadline inside.ready)
+    (shared_map _ _ _ c.as_ref.ensures.value ∙ c.in_ok-picker.ensures))
+    c.follow_x509-followed.ensures.followed c.end_of.ensures)

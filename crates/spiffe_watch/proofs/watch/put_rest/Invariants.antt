@@ -6,7 +6,8 @@ use Rattle.spiffe_watch.proofs.watch.put_rest.Given as goal
 abbrev pub invariant-loop-out : goal.invariant-loop-out
 invariant-loop-out g l =
     (g.K.Sink.failures l.initial.out ≤ g.K.Sink.failures l.out)
-    × ((text : List ℕ) × Grows (g.K.Sink.held l.initial.out) (g.K.Sink.held l.out) text × (l.initial.session ≡ text ++ l.session))
+    × ((text : List ℕ) × Grows (g.K.Sink.held l.initial.out) (g.K.Sink.held l.out) text
+    × (l.initial.session ≡ text ++ l.session))
 
 abbrev pub decreases-loop-out : goal.decreases-loop-out
 decreases-loop-out g l = length l.session

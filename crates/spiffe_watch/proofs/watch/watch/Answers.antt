@@ -33,12 +33,14 @@ returns-in-Ok-clause-complete g c =
       output = side (g.K.Sink.held c.run.new.out) (g.K.Sink.failures c.run.new.out);
       errors = errors;
     } in
-    completes _ before after c.run.result _ (sym (ap status_of_end c.in-Ok.is)) (c.run.ensures.does errors errors) c.run.ensures.cause
+    completes _ before after c.run.result _ (sym (ap status_of_end c.in-Ok.is))
+    (c.run.ensures.does errors errors) c.run.ensures.cause
 
 pub returns-in-Err-clause-complete : goal.returns-in-Err-clause-complete
 returns-in-Err-clause-complete g c =
     let errors = side (g.E.Sink.held c.args.errors.now) (g.E.Sink.failures c.args.errors.now) in
-    let errors' = side (g.E.Sink.held c.report.new.errors) (g.E.Sink.failures c.report.new.errors) in
+    let errors' =
+    side (g.E.Sink.held c.report.new.errors) (g.E.Sink.failures c.report.new.errors) in
     let before : Streams = record {
       input = side (g.S.Source.left c.args.source.now) (g.S.Source.failures c.args.source.now);
       output = side (g.K.Sink.held c.args.out.now) (g.K.Sink.failures c.args.out.now);
@@ -49,4 +51,6 @@ returns-in-Err-clause-complete g c =
       output = side (g.K.Sink.held c.run.new.out) (g.K.Sink.failures c.run.new.out);
       errors = errors';
     } in
-    completes _ before after c.run.result _ (c.report.ensures.status ∙ sym (ap status_of_end c.in-Err.is)) (c.run.ensures.does errors errors') c.run.ensures.cause
+    completes _ before after c.run.result _
+    (c.report.ensures.status ∙ sym (ap status_of_end c.in-Err.is))
+    (c.run.ensures.does errors errors') c.run.ensures.cause

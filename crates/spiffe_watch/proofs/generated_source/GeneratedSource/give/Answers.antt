@@ -1,4 +1,5 @@
-use Rattle.std.proofs.Common.{◌≡◌, ◌+◌, ◌≤◌, ◌++◌, ◌∙◌, ap, refl, length, take, drop, slice_range, arith, rules, length-append, length-drop, length-take-le}
+use Rattle.std.proofs.Common.{◌≡◌, ◌+◌, ◌≤◌, ◌++◌, ◌∙◌, ap, refl, length, take, drop, slice_range}
+use Rattle.std.proofs.Common.{arith, rules, length-append, length-drop, length-take-le}
 use Rattle.spf_io.proofs.Reading.{read_gives}
 use Rattle.spiffe_watch.proofs.generated_source.GeneratedSource.give.Goals as goal
 
@@ -14,8 +15,16 @@ returns-clause-given c =
     let long : length c.copy_from_slice.new.self ≡ n = search rules in
     let held : c.len.result ≡ length xs = search rules in
     let most : n ≤ length c.args.buf.now = search rules in
-    let whole : length (c.copy_from_slice.new.self ++ rest) ≡ length c.args.buf.now = omega (arith, long, most, length-append c.copy_from_slice.new.self rest, length-drop n c.args.buf.now) in
-    let taken : length (take n (c.copy_from_slice.new.self ++ rest)) ≡ n = length-take-le n (c.copy_from_slice.new.self ++ rest) (omega (arith, whole, most)) in
+    let whole : length (c.copy_from_slice.new.self ++ rest) ≡ length c.args.buf.now =
+    omega (
+      arith,
+      long,
+      most,
+      length-append c.copy_from_slice.new.self rest,
+      length-drop n c.args.buf.now,
+    ) in
+    let taken : length (take n (c.copy_from_slice.new.self ++ rest)) ≡ n =
+    length-take-le n (c.copy_from_slice.new.self ++ rest) (omega (arith, whole, most)) in
     rw (← c.self.view_is) (record {
       front = read_gives xs c.copy_from_slice.new.self rest at n fits after;
       size = taken ∙ omega (arith, whole, held, c.min-n.ensures, length-drop at xs);

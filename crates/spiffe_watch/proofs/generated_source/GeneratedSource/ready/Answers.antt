@@ -8,7 +8,8 @@ returns-then-self-len c =
     let view : c.args.self.now.ready ≡ drop at xs = ap (λ r. r.ready) (sym c.self.view_is) in
     record {
       same = refl;
-      ended = λ good none. let none_left : length (drop at xs) ≡ 0 = ap length (sym view ∙ none) in absurd (omega (arith, none_left, length-drop at xs, c.if-self-len.true, c.len.ensures));
+      ended = λ good none. let none_left : length (drop at xs) ≡ 0 = ap length (sym view ∙ none) in
+          absurd (omega (arith, none_left, length-drop at xs, c.if-self-len.true, c.len.ensures));
       more = omega arith;
       failed = λ bad. absurd cc;
     }

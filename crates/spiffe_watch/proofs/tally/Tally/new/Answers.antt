@@ -4,4 +4,7 @@ use Rattle.spiffe_watch.proofs.TallyLemmas.{tally_nothing}
 use Rattle.spiffe_watch.proofs.tally.Tally.new.Goals as goal
 
 pub invariant_of-result : goal.invariant_of-result
-invariant_of-result c = ap tally_of c.new-2.ensures ∙ tally_nothing none_tallied ∙ ap (λ (l : List ℕ). record { revision = 0; withdrawn = 0; unfinished = l }) (sym c.new.ensures.items)
+invariant_of-result c =
+    ap tally_of c.new-2.ensures ∙ tally_nothing none_tallied
+    ∙ ap (λ (l : List ℕ). record { revision = 0; withdrawn = 0; unfinished = l })
+    (sym c.new.ensures.items)
