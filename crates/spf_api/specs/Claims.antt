@@ -1,10 +1,14 @@
 -- The layout of the claims of a validation response, and their readers.
-use Rattle.std.specs.Prelude.{ℕ, ℤ, zero, suc, FitsSigned, Bool, true, false, List, [], ◌∷◌, ◌++◌, length, Option, Some, None, ◌==◌, if◌then◌else◌}
+use Rattle.std.specs.Prelude.{ℕ, ℤ, zero, suc, FitsSigned, Bool, true, false, List, [], ◌∷◌, ◌++◌}
+use Rattle.std.specs.Prelude.{length, Option, Some, None, ◌==◌, if◌then◌else◌}
 use Rattle.std.specs.Option.{IfSome}
 use Rattle.std.specs.Int.{w64, to_be_bytes, from_be_bytes, cast_unsigned, cast_signed}
 use Rattle.spf_io.specs.Option.{◌>>=◌}
 use Rattle.spf_api.specs.declared.response.Claim.{Claim}
-use Rattle.spf_api.specs.declared.response.ClaimValue.{ClaimValue, ClaimValue-F, Unset, Null, Bool as Truth, Whole, OtherNumber, Words, Items, Fields, fold-ClaimValue, out-ClaimValue}
+use Rattle.spf_api.specs.declared.response.ClaimValue.{ClaimValue, ClaimValue-F, Unset, Null}
+use Rattle.spf_api.specs.declared.response.ClaimValue.{Bool as Truth, Whole, OtherNumber, Words}
+use Rattle.spf_api.specs.declared.response.ClaimValue.{Items, Fields, fold-ClaimValue}
+use Rattle.spf_api.specs.declared.response.ClaimValue.{out-ClaimValue}
 use Rattle.spf_api.specs.declared.response.ClaimValue.TheOpen.{Claim-F}
 use Rattle.spf_api.specs.declared.payload_validation.TheConstants.{MAX_CLAIM_DEPTH}
 use Rattle.spf_api.specs.declared.response.ValidationResponse.{ValidationResponse}
@@ -70,17 +74,20 @@ pub record IsValidation (r : ValidationResponse) : Type 0 where
   pub claims : IfSome r.claims (IsListOf (IsClaim (IsClaimValue MAX_CLAIM_DEPTH)))
 
 -- what was read, as a value
-abbrev pub as_value : {A : Type 0} → (A → ClaimValue) → Option (A × List ℕ) → Option (ClaimValue × List ℕ)
+abbrev pub as_value : {A : Type 0} → (A → ClaimValue) → Option (A × List ℕ)
+    → Option (ClaimValue × List ℕ)
 as_value value found = found >>= λ x. Some (value x.0, x.1)
 
 -- one octet, 0 or 1
 unfoldable pub truth_at : List ℕ → Option (Bool × List ℕ)
 truth_at [] = None
-truth_at (octet ∷ rest) = if octet == 0 then Some (false, rest) else (if octet == 1 then Some (true, rest) else None)
+truth_at (octet ∷ rest) =
+    if octet == 0 then Some (false, rest) else (if octet == 1 then Some (true, rest) else None)
 
 -- eight octets, in two's complement
 unfoldable pub whole_at : List ℕ → Option (ℤ × List ℕ)
-whole_at (a ∷ b ∷ c ∷ d ∷ e ∷ f ∷ g ∷ h ∷ rest) = Some (cast_signed w64 (from_be_bytes w64 (a ∷ b ∷ c ∷ d ∷ e ∷ f ∷ g ∷ h ∷ [])), rest)
+whole_at (a ∷ b ∷ c ∷ d ∷ e ∷ f ∷ g ∷ h ∷ rest) =
+    Some (cast_signed w64 (from_be_bytes w64 (a ∷ b ∷ c ∷ d ∷ e ∷ f ∷ g ∷ h ∷ [])), rest)
 whole_at _ = None
 
 unfoldable pub claim_at : (List ℕ → Option (ClaimValue × List ℕ)) → List ℕ → Option (Claim × List ℕ)
@@ -90,7 +97,8 @@ claim_at value_at bytes = do
   Some (record { name = n.0; value = v.0 }, v.1)
 
 -- the contents of a value of that kind
-abbrev pub contents_at : (List ℕ → Option (ClaimValue × List ℕ)) → ℕ → List ℕ → Option (ClaimValue × List ℕ)
+abbrev pub contents_at : (List ℕ → Option (ClaimValue × List ℕ)) → ℕ → List ℕ
+    → Option (ClaimValue × List ℕ)
 contents_at value_at kind rest =
     if kind == 0 then Some (Unset, rest)
     else (if kind == 1 then Some (Null, rest)
@@ -113,7 +121,9 @@ abbrev pub optional_claims_at : List ℕ → Option (Option (List Claim))
 optional_claims_at [] = None
 optional_claims_at (flag ∷ rest) =
     if flag == 0 then (if length rest == 0 then Some None else None)
-    else (if flag == 1 then (list_at (claim_at (claim_value_at MAX_CLAIM_DEPTH)) rest >>= λ c. if length c.1 == 0 then Some (Some c.0) else None)
+    else (if flag == 1
+    then (list_at (claim_at (claim_value_at MAX_CLAIM_DEPTH)) rest >>= λ c. if length c.1 == 0
+    then Some (Some c.0) else None)
     else None)
 
 -- a validation response, after which nothing follows

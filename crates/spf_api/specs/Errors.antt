@@ -62,7 +62,9 @@ is_denied _ = false
 -- the error that a status stands for
 abbrev pub status_reading : Refused → WorkloadApiError
 status_reading s =
-    if is_denied s.code then (if holds (codes "no identity issued") s.message then api.NoIdentityIssued else api.PermissionDenied s.message)
+    if is_denied s.code
+    then (if holds (codes "no identity issued") s.message then api.NoIdentityIssued
+    else api.PermissionDenied s.message)
     else api.Transport (transport.Status s)
 
 -- the code of a status of the transport

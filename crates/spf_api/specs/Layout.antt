@@ -29,7 +29,8 @@ pub record IsListOf {A : Type 0} (P : A → Type 0) (members : List A) : Type 0 
   pub each : All P members
 
 unfoldable pub svid_entry_text : SvidEntry → List ℕ
-svid_entry_text e = flat_map field_text (e.spiffe_id ∷ e.x509_svid ∷ e.x509_svid_key ∷ e.bundle ∷ e.hint ∷ [])
+svid_entry_text e =
+    flat_map field_text (e.spiffe_id ∷ e.x509_svid ∷ e.x509_svid_key ∷ e.bundle ∷ e.hint ∷ [])
 
 pub record IsSvidEntry (e : SvidEntry) : Type 0 where
   pub spiffe_id : IsText e.spiffe_id
@@ -54,7 +55,9 @@ pub record IsJwtSvidEntry (e : JwtSvidEntry) : Type 0 where
   pub hint : IsText e.hint
 
 unfoldable pub context_payload : ContextResponse → List ℕ
-context_payload r = list_text svid_entry_text r.svids ++ (list_text bundle_entry_text r.federated ++ list_text field_text r.crls)
+context_payload r =
+    list_text svid_entry_text r.svids
+    ++ (list_text bundle_entry_text r.federated ++ list_text field_text r.crls)
 
 pub record IsContext (r : ContextResponse) : Type 0 where
   pub svids : IsListOf IsSvidEntry r.svids

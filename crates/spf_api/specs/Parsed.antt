@@ -1,5 +1,6 @@
 -- The response rule: what a response means, or the first rule that it breaks.
-use Rattle.std.specs.Prelude.{ℕ, List, [], ◌∷◌, ◌++◌, length, map, codes, Option, Some, None, Result, Ok, Err, ◌==◌, if◌then◌else◌}
+use Rattle.std.specs.Prelude.{ℕ, List, [], ◌∷◌, ◌++◌, length, map, codes, Option, Some, None}
+use Rattle.std.specs.Prelude.{Result, Ok, Err, ◌==◌, if◌then◌else◌}
 use Rattle.std.specs.Str.{bytes_eq}
 use Rattle.spf_io.specs.Rule.{◌>>=◌, broken_as, each}
 use Rattle.spf_id.specs.Rule.{name_rule}
@@ -65,7 +66,8 @@ named_bundle_of e = do
   bundle_for domain e.bundle
 
 -- the SVIDs of entries with their bundles, in order
-unfoldable pub svids_and_bundles_of : List SvidEntry → Result (List (Svid × Bundle)) WorkloadApiError
+unfoldable pub svids_and_bundles_of : List SvidEntry
+    → Result (List (Svid × Bundle)) WorkloadApiError
 svids_and_bundles_of entries = do
   _ ← entries_rule entries
   each svid_and_bundle_of entries
@@ -87,21 +89,28 @@ abbrev pub bundles_in : List (Svid × Bundle) → List Bundle
 bundles_in materials = map (λ (m : Svid × Bundle). m.1) materials
 
 -- the SVIDs that were brought, and the set with their bundles added
-abbrev pub brought_to : List (List ℕ × Bundle) → List (Svid × Bundle) → List Svid × List (List ℕ × Bundle)
+abbrev pub brought_to : List (List ℕ × Bundle) → List (Svid × Bundle)
+    → List Svid × List (List ℕ × Bundle)
 brought_to set materials = (svids_in materials, with_bundles set (bundles_in materials))
 
 -- the last of the bundles of that trust domain
 abbrev pub last_for : List ℕ → List Bundle → Option Bundle
 last_for domain [] = None
-last_for domain (b ∷ bundles) = or_else (last_for domain bundles) (if bytes_eq domain b.domain then Some b else None)
+last_for domain (b ∷ bundles) =
+    or_else (last_for domain bundles) (if bytes_eq domain b.domain then Some b else None)
 
--- Parsed: the context of a response, or the first broken rule (SPIFFE Workload API section 5). Of the bundles of one trust
--- domain the last counts, and those of SVIDs come before the federated ones.
+-- Parsed: the context of a response, or the first broken rule (SPIFFE
+-- Workload API section 5). Of the bundles of one trust domain the
+-- last counts, and those of SVIDs come before the federated ones.
 unfoldable pub parsed_of : ContextResponse → Result Context WorkloadApiError
 parsed_of r = do
   materials ← svids_and_bundles_of r.svids
   federated ← each named_bundle_of r.federated
-  Ok (record { svids = svids_in materials; bundles = with_bundles [] (bundles_in materials ++ federated); crls = r.crls })
+  Ok (record {
+    svids = svids_in materials;
+    bundles = with_bundles [] (bundles_in materials ++ federated);
+    crls = r.crls;
+  })
 
 -- the SVIDs of a response, whose federated entries are not looked at
 unfoldable pub svids_of : ContextResponse → Result (List Svid) WorkloadApiError
@@ -118,8 +127,10 @@ first_svid_of r = do
   svids ← svids_of r
   first_of svids
 
--- the bundle set of a bundles response, or the first broken rule: the last bundle of a trust domain counts
+-- the bundle set of a bundles response, or the first
+-- broken rule: the last bundle of a trust domain counts
 unfoldable pub bundle_set_of : BundlesResponse → Result (List (List ℕ × Bundle)) WorkloadApiError
 bundle_set_of r =
-    if length r.bundles == 0 then Err (api.MissingRequiredField (codes "X509BundlesResponse.bundles"))
+    if length r.bundles == 0
+    then Err (api.MissingRequiredField (codes "X509BundlesResponse.bundles"))
     else read_as (with_bundles []) (each named_bundle_of r.bundles)

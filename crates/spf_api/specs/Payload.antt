@@ -9,10 +9,12 @@ use Rattle.spf_api.specs.declared.response.ResponseKind.{ResponseKind}
 use Rattle.spf_api.specs.declared.response.ResponseKind.TheVariants as kind
 use Rattle.spf_api.specs.Reading.{context_at, bundles_at, jwt_svids_at}
 use Rattle.spf_api.specs.Claims.{validation_payload, IsValidation, validation_at}
-use Rattle.spf_api.specs.Layout.{list_text, IsListOf, bundle_entry_text, IsBundleEntry, jwt_svid_entry_text, IsJwtSvidEntry, context_payload, IsContext}
+use Rattle.spf_api.specs.Layout.{list_text, IsListOf, bundle_entry_text, IsBundleEntry}
+use Rattle.spf_api.specs.Layout.{jwt_svid_entry_text, IsJwtSvidEntry, context_payload, IsContext}
 
 -- the octets are the text of a response that may be laid out
-pub record LaysOut {R : Type 0} (Fits : R → Type 0) (text : R → List ℕ) (bytes : List ℕ) (r : R) : Type 0 where
+pub record LaysOut {R : Type 0} (Fits : R → Type 0) (text : R → List ℕ) (bytes : List ℕ)
+    (r : R) : Type 0 where
   pub fits : Fits r
   pub octets : bytes ≡ text r
 
@@ -41,7 +43,8 @@ Payload kind.Context bytes (response.Context r) = LaysOut IsContext context_payl
 Payload kind.Bundles bytes (response.Bundles r) = LaysOut IsBundles bundles_payload bytes r
 Payload kind.JwtSvids bytes (response.JwtSvids r) = LaysOut IsJwtSvids jwt_svids_payload bytes r
 Payload kind.JwtBundles bytes (response.JwtBundles r) = LaysOut IsBundles bundles_payload bytes r
-Payload kind.Validation bytes (response.Validation r) = LaysOut IsValidation validation_payload bytes r
+Payload kind.Validation bytes (response.Validation r) =
+    LaysOut IsValidation validation_payload bytes r
 Payload _ _ _ = ⊥
 
 -- the response that the octets lay out; none where they lay out none
@@ -52,9 +55,12 @@ Finds kind bytes None = (r : Response) → ¬ (Payload kind bytes r)
 -- what reading a payload of that kind gives
 unfoldable pub IsRead : ResponseKind → List ℕ → Option Response → Type 0
 IsRead kind.Context bytes found = found ≡ option_map response.Context (context_at bytes)
-IsRead kind.Bundles bytes found = found ≡ option_map (λ l. response.Bundles (record { bundles = l })) (bundles_at bytes)
-IsRead kind.JwtSvids bytes found = found ≡ option_map (λ l. response.JwtSvids (record { svids = l })) (jwt_svids_at bytes)
-IsRead kind.JwtBundles bytes found = found ≡ option_map (λ l. response.JwtBundles (record { bundles = l })) (bundles_at bytes)
+IsRead kind.Bundles bytes found =
+    found ≡ option_map (λ l. response.Bundles (record { bundles = l })) (bundles_at bytes)
+IsRead kind.JwtSvids bytes found =
+    found ≡ option_map (λ l. response.JwtSvids (record { svids = l })) (jwt_svids_at bytes)
+IsRead kind.JwtBundles bytes found =
+    found ≡ option_map (λ l. response.JwtBundles (record { bundles = l })) (bundles_at bytes)
 IsRead kind.Validation bytes found = found ≡ option_map response.Validation (validation_at bytes)
 
 -- what was appended lays out the response

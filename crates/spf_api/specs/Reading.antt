@@ -1,5 +1,6 @@
 -- Readers of a payload: the value at its start, and the octets that follow.
-use Rattle.std.specs.Prelude.{ℕ, zero, suc, List, [], ◌∷◌, length, take, drop, Option, Some, None, nat_lt, ◌==◌, if◌then◌else◌}
+use Rattle.std.specs.Prelude.{ℕ, zero, suc, List, [], ◌∷◌, length, take, drop, Option, Some, None}
+use Rattle.std.specs.Prelude.{nat_lt, ◌==◌, if◌then◌else◌}
 use Rattle.std.specs.Int.{w32, from_be_bytes}
 use Rattle.std.specs.Str.{is_utf8}
 use Rattle.spf_api.specs.declared.response.SvidEntry.{SvidEntry}
@@ -30,12 +31,15 @@ text_field_at bytes = do
   if is_utf8 t.0 then Some (t.0, t.1) else None
 
 -- n entries
-abbrev pub counted : {A : Type 0} → (List ℕ → Option (A × List ℕ)) → ℕ → List ℕ → Option (List A × List ℕ)
+abbrev pub counted : {A : Type 0} → (List ℕ → Option (A × List ℕ)) → ℕ → List ℕ
+    → Option (List A × List ℕ)
 counted one zero bytes = Some ([], bytes)
-counted one (suc n) bytes = one bytes >>= λ x. counted one n x.1 >>= λ others. Some (x.0 ∷ others.0, others.1)
+counted one (suc n) bytes =
+    one bytes >>= λ x. counted one n x.1 >>= λ others. Some (x.0 ∷ others.0, others.1)
 
 -- a count and that many entries
-abbrev pub list_at : {A : Type 0} → (List ℕ → Option (A × List ℕ)) → List ℕ → Option (List A × List ℕ)
+abbrev pub list_at : {A : Type 0} → (List ℕ → Option (A × List ℕ)) → List ℕ
+    → Option (List A × List ℕ)
 list_at one bytes = number_at bytes >>= λ n. counted one n.0 n.1
 
 unfoldable pub svid_entry_at : List ℕ → Option (SvidEntry × List ℕ)
@@ -45,7 +49,10 @@ svid_entry_at bytes = do
   k ← byte_field_at c.1
   b ← byte_field_at k.1
   h ← text_field_at b.1
-  Some (record { spiffe_id = i.0; x509_svid = c.0; x509_svid_key = k.0; bundle = b.0; hint = h.0 }, h.1)
+  Some (
+    record { spiffe_id = i.0; x509_svid = c.0; x509_svid_key = k.0; bundle = b.0; hint = h.0 },
+    h.1,
+  )
 
 unfoldable pub bundle_entry_at : List ℕ → Option (BundleEntry × List ℕ)
 bundle_entry_at bytes = do

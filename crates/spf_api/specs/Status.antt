@@ -1,5 +1,6 @@
 -- The names and numbers of status codes, and what a message holds.
-use Rattle.std.specs.Prelude.{ℕ, Bool, List, [], ◌∷◌, Option, Some, None, codes, ◌==◌, ◌||◌, nat_eq, if◌then◌else◌}
+use Rattle.std.specs.Prelude.{ℕ, Bool, List, [], ◌∷◌, Option, Some, None, codes, ◌==◌, ◌||◌, nat_eq}
+use Rattle.std.specs.Prelude.{if◌then◌else◌}
 use Rattle.std.specs.List.{starts_with}
 use Rattle.spf_api.specs.declared.status.GrpcStatusCode.{GrpcStatusCode}
 use Rattle.spf_api.specs.declared.status.GrpcStatusCode.TheVariants as code

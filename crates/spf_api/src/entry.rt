@@ -30,13 +30,15 @@ pub(crate) trait EntryView<'a>: Drop {
         ensures { IfOk result (λ e. e ≡ entry_of self.now) };
 }
 
-/// Returns the list at the start of the bytes, and what follows it. Memory grows with the entries that are there, and not
-/// with the count.
+/// Returns the list at the start of the bytes, and what follows it. Memory grows with the entries
+/// that are there, and not with the count.
 pub(crate) fn read_entries<'a, V: EntryView<'a>>(
     alloc: Global,
     bytes: &'a [u8],
 ) -> Result<Option<(Vec<V>, &'a [u8])>, OutOfMemory>
-    ensures { IfOk result (λ o. option_map (λ x. (map V.entry_of x.0.items, x.1.now)) o ≡ list_at V.entry_at bytes.now) }
+    ensures { IfOk result
+        (λ o. option_map (λ x. (map V.entry_of x.0.items, x.1.now)) o
+        ≡ list_at V.entry_at bytes.now) }
 {
     let Some((count, mut rest)) = read_number(bytes) else {
         return Ok(None);

@@ -76,8 +76,9 @@ fn says_no_identity(message: &str) -> bool
 }
 
 impl WorkloadApiError {
-    /// Returns the error that a status stands for. PERMISSION_DENIED is a denial, or NoIdentityIssued where its message says
-    /// that no identity was issued; any other code is an error of the transport.
+    /// Returns the error that a status stands for. PERMISSION_DENIED is
+    /// a denial, or NoIdentityIssued where its message says that no
+    /// identity was issued; any other code is an error of the transport.
     pub fn from_status(status: GrpcStatusError) -> WorkloadApiError
         ensures { result ≡ status_reading status }
     {

@@ -51,7 +51,8 @@ impl JsonError {
 /// The first broken rule of a JWT-SVID, in this order.
 #[derive(Debug, PartialEq, Eq, Drop, Error)]
 pub enum JwtSvidError {
-    /// The token is not three parts joined by `.`, or the third is empty or outside the base64url alphabet.
+    /// The token is not three parts joined by `.`, or the
+    /// third is empty or outside the base64url alphabet.
     #[error("Parts")]
     Parts,
     /// The header is not base64url without padding of a JSON object.

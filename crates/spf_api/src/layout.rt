@@ -1,4 +1,5 @@
-//! Numbers, byte fields and text fields of a payload. A reader returns the value, and the bytes that follow it.
+//! Numbers, byte fields and text fields of a payload. A
+//! reader returns the value, and the bytes that follow it.
 
 ghost use Rattle.std.specs.Prelude.{◌≡◌, ◌<◌, ◌^◌, ◌++◌, length, IfOk, OnOk};
 ghost use Rattle.std.specs.Int.{w32, to_be_bytes};
@@ -20,8 +21,8 @@ pub(crate) fn read_number(bytes: &[u8]) -> Option<(usize, &[u8])>
     }
 }
 
-/// Returns the byte field at the start of the bytes, which is a length of four octets and that many octets, and what follows
-/// it.
+/// Returns the byte field at the start of the bytes, which is a
+/// length of four octets and that many octets, and what follows it.
 #[tactic(auto, unfolding(crate::specs::Reading::byte_field_at))]
 pub fn read_byte_field(bytes: &[u8]) -> Option<(&[u8], &[u8])>
     ensures { option_map (λ x. (x.0.now, x.1.now)) result ≡ byte_field_at bytes.now }
@@ -33,7 +34,8 @@ pub fn read_byte_field(bytes: &[u8]) -> Option<(&[u8], &[u8])>
     Some(rest.split_at(length))
 }
 
-/// Returns the text field at the start of the bytes, which is a byte field in UTF-8, and what follows it.
+/// Returns the text field at the start of the bytes,
+/// which is a byte field in UTF-8, and what follows it.
 #[tactic(auto, unfolding(crate::specs::Reading::text_field_at))]
 pub fn read_text_field(bytes: &[u8]) -> Option<(&str, &[u8])>
     ensures { option_map (λ x. (x.0.now, x.1.now)) result ≡ text_field_at bytes.now }

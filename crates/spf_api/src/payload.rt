@@ -80,8 +80,8 @@ fn put_response(out: &mut Vec<u8>, response: &Response) -> Result<(), OutOfMemor
     }
 }
 
-/// Returns the payload that lays out the response. A response without a layout, with a length or a count from 2^32 on or
-/// claim values more than 64 deep, counts as out of memory.
+/// Returns the payload that lays out the response. A response without a layout, with a length or a
+/// count from 2^32 on or claim values more than 64 deep, counts as out of memory.
 pub fn write_payload(alloc: Global, response: &Response) -> Result<Vec<u8>, OutOfMemory>
     ensures { IfOk result (λ v. Payload (kind_of response.now) v.items response.now) }
 {

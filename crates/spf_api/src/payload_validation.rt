@@ -5,8 +5,10 @@ ghost use Rattle.std.specs.Option.{option_map};
 ghost use Rattle.std.specs.Int.{w64, to_be_bytes, cast_unsigned};
 ghost use Rattle.spf_api.specs.Layout.{list_text, IsListOf};
 ghost use Rattle.spf_api.specs.Reading.{list_at};
-ghost use Rattle.spf_api.specs.Claims.{truth_octet, truth_at, whole_at, claim_at, contents_at, claim_value_at, optional_claims_at, validation_at};
-ghost use Rattle.spf_api.specs.Claims.{claim_value_text, claim_text, IsClaim, IsClaimValue, optional_claims_text, validation_payload, IsValidation};
+ghost use Rattle.spf_api.specs.Claims.{truth_octet, truth_at, whole_at, claim_at, contents_at};
+ghost use Rattle.spf_api.specs.Claims.{claim_value_at, optional_claims_at, validation_at};
+ghost use Rattle.spf_api.specs.Claims.{claim_value_text, claim_text, IsClaim, IsClaimValue};
+ghost use Rattle.spf_api.specs.Claims.{optional_claims_text, validation_payload, IsValidation};
 
 use crate::layout::{put_number, put_text, read_number, read_owned_text, read_text_field};
 use crate::response::{Claim, ClaimValue, ValidationResponse};
@@ -49,7 +51,8 @@ fn claim_value(
     depth: usize,
     bytes: &[u8],
 ) -> Result<Option<(ClaimValue, &[u8])>, OutOfMemory>
-    ensures { IfOk result (λ o. option_map (λ x. (x.0, x.1.now)) o ≡ claim_value_at depth bytes.now) }
+    ensures { IfOk result
+        (λ o. option_map (λ x. (x.0, x.1.now)) o ≡ claim_value_at depth bytes.now) }
 {
     let Some(inner) = depth.checked_sub(1) else {
         return Ok(None);
@@ -68,7 +71,9 @@ fn claim_contents(
     kind: u8,
     rest: &[u8],
 ) -> Result<Option<(ClaimValue, &[u8])>, OutOfMemory>
-    ensures { IfOk result (λ o. option_map (λ x. (x.0, x.1.now)) o ≡ contents_at (claim_value_at depth) kind rest.now) }
+    ensures { IfOk result
+        (λ o. option_map (λ x. (x.0, x.1.now)) o
+        ≡ contents_at (claim_value_at depth) kind rest.now) }
 {
     match kind {
         0 => Ok(Some((ClaimValue::Unset, rest))),
@@ -107,7 +112,8 @@ fn claim_values(
     depth: usize,
     bytes: &[u8],
 ) -> Result<Option<(Vec<ClaimValue>, &[u8])>, OutOfMemory>
-    ensures { IfOk result (λ o. option_map (λ x. (x.0.items, x.1.now)) o ≡ list_at (claim_value_at depth) bytes.now) }
+    ensures { IfOk result
+        (λ o. option_map (λ x. (x.0.items, x.1.now)) o ≡ list_at (claim_value_at depth) bytes.now) }
 {
     let Some((count, mut rest)) = read_number(bytes) else {
         return Ok(None);
@@ -127,7 +133,8 @@ fn claim_values(
 #[cycle(claims)]
 #[tactic(auto, unfolding(crate::specs::Claims::claim_at))]
 fn claim(alloc: Global, depth: usize, bytes: &[u8]) -> Result<Option<(Claim, &[u8])>, OutOfMemory>
-    ensures { IfOk result (λ o. option_map (λ x. (x.0, x.1.now)) o ≡ claim_at (claim_value_at depth) bytes.now) }
+    ensures { IfOk result
+        (λ o. option_map (λ x. (x.0, x.1.now)) o ≡ claim_at (claim_value_at depth) bytes.now) }
 {
     let Some((name, rest)) = read_text_field(bytes) else {
         return Ok(None);
@@ -145,7 +152,9 @@ fn claims(
     depth: usize,
     bytes: &[u8],
 ) -> Result<Option<(Vec<Claim>, &[u8])>, OutOfMemory>
-    ensures { IfOk result (λ o. option_map (λ x. (x.0.items, x.1.now)) o ≡ list_at (claim_at (claim_value_at depth)) bytes.now) }
+    ensures { IfOk result
+        (λ o. option_map (λ x. (x.0.items, x.1.now)) o
+        ≡ list_at (claim_at (claim_value_at depth)) bytes.now) }
 {
     let Some((count, mut rest)) = read_number(bytes) else {
         return Ok(None);
@@ -210,7 +219,8 @@ fn put_truth(out: &mut Vec<u8>, truth: bool) -> Result<(), OutOfMemory>
 }
 
 fn put_whole(out: &mut Vec<u8>, number: i64) -> Result<(), OutOfMemory>
-    ensures { OnOk result (out.new.items ≡ out.old.items ++ to_be_bytes w64 (cast_unsigned w64 number)) }
+    ensures { OnOk result
+        (out.new.items ≡ out.old.items ++ to_be_bytes w64 (cast_unsigned w64 number)) }
 {
     out.extend_from_slice(&number.to_be_bytes())?;
     Ok(())
@@ -264,7 +274,8 @@ fn put_claim_values(
     values: &[ClaimValue],
 ) -> Result<(), OutOfMemory>
     ensures fits { OnOk result (IsListOf (IsClaimValue depth) values.now) }
-    ensures octets { OnOk result (out.new.items ≡ out.old.items ++ list_text claim_value_text values.now) }
+    ensures octets { OnOk result
+        (out.new.items ≡ out.old.items ++ list_text claim_value_text values.now) }
 {
     put_number(out, values.len())?;
     for value in values {
@@ -288,7 +299,8 @@ fn put_claim(out: &mut Vec<u8>, depth: usize, claim: &Claim) -> Result<(), OutOf
 #[tactic(auto, unfolding(crate::specs::Layout::list_text))]
 fn put_claims(out: &mut Vec<u8>, depth: usize, claims: &[Claim]) -> Result<(), OutOfMemory>
     ensures fits { OnOk result (IsListOf (IsClaim (IsClaimValue depth)) claims.now) }
-    ensures octets { OnOk result (out.new.items ≡ out.old.items ++ list_text claim_text claims.now) }
+    ensures octets { OnOk result
+        (out.new.items ≡ out.old.items ++ list_text claim_text claims.now) }
 {
     put_number(out, claims.len())?;
     for claim in claims {
@@ -298,8 +310,10 @@ fn put_claims(out: &mut Vec<u8>, depth: usize, claims: &[Claim]) -> Result<(), O
 }
 
 fn put_optional_claims(out: &mut Vec<u8>, claims: &Option<List<Claim>>) -> Result<(), OutOfMemory>
-    ensures fits { OnOk result (IfSome claims.now (IsListOf (IsClaim (IsClaimValue MAX_CLAIM_DEPTH)))) }
-    ensures octets { OnOk result (out.new.items ≡ out.old.items ++ optional_claims_text claims.now) }
+    ensures fits { OnOk result
+        (IfSome claims.now (IsListOf (IsClaim (IsClaimValue MAX_CLAIM_DEPTH)))) }
+    ensures octets { OnOk result
+        (out.new.items ≡ out.old.items ++ optional_claims_text claims.now) }
 {
     match claims {
         None => put_octet(out, 0),
@@ -317,7 +331,8 @@ pub(crate) fn put_validation(
     validation: &ValidationResponse,
 ) -> Result<(), OutOfMemory>
     ensures fits { OnOk result (IsValidation validation.now) }
-    ensures octets { OnOk result (out.new.items ≡ out.old.items ++ validation_payload validation.now) }
+    ensures octets { OnOk result
+        (out.new.items ≡ out.old.items ++ validation_payload validation.now) }
 {
     put_text(out, &validation.spiffe_id)?;
     put_optional_claims(out, &validation.claims)?;

@@ -140,13 +140,16 @@ fn context<'a>(alloc: Global, payload: &'a [u8]) -> Result<Option<ContextView<'a
     }))
 }
 
-/// Returns the context response that the payload lays out, as slices of it, and None where it lays out none.
+/// Returns the context response that the payload lays
+/// out, as slices of it, and None where it lays out none.
 pub fn read_context_view<'a>(
     alloc: Global,
     payload: &'a [u8],
 ) -> Result<Option<ContextView<'a>>, OutOfMemory>
     ensures exact { IfOk result (λ o. option_map context_of o ≡ context_at payload.now) }
-    ensures laid { IfOk result (λ o. Finds kind.Context payload.now (option_map response.Context (option_map context_of o))) }
+    ensures laid { IfOk result
+        (λ o. Finds kind.Context payload.now
+        (option_map response.Context (option_map context_of o))) }
 {
     context(alloc, payload)
 }

@@ -6,8 +6,10 @@ ghost use Rattle.spf_io.specs.Rule.{Gives, each};
 ghost use Rattle.spf_x509.specs.Bundle.{with_bundles};
 ghost use Rattle.spf_api.specs.Errors.{is_memory_api};
 ghost use Rattle.spf_api.specs.Views.{svid_entry_of, bundle_entry_of, context_of};
-ghost use Rattle.spf_api.specs.Parsed.{required, bundle_required, fields_required, kept_by_each, entries_rule};
-ghost use Rattle.spf_api.specs.Parsed.{svid_and_bundle_of, named_bundle_of, svids_in, brought_to, read_as, parsed_of, svids_of, first_svid_of, bundle_set_of};
+ghost use Rattle.spf_api.specs.Parsed.{required, bundle_required, fields_required, kept_by_each};
+ghost use Rattle.spf_api.specs.Parsed.{entries_rule};
+ghost use Rattle.spf_api.specs.Parsed.{svid_and_bundle_of, named_bundle_of, svids_in, brought_to};
+ghost use Rattle.spf_api.specs.Parsed.{read_as, parsed_of, svids_of, first_svid_of, bundle_set_of};
 
 use crate::entry::{to_entries, views_of};
 use crate::error::WorkloadApiError;
@@ -23,7 +25,8 @@ use std::alloc::Global;
 use std::sync::Arc;
 
 fn missing(alloc: Global, field: &str) -> WorkloadApiError
-    ensures { MatchBool (is_memory_api result) (Unit {0}) (result ≡ WorkloadApiError.MissingRequiredField field.now) }
+    ensures { MatchBool (is_memory_api result) (Unit {0})
+        (result ≡ WorkloadApiError.MissingRequiredField field.now) }
 {
     match Text::copy_of(alloc, field) {
         Ok(field) => WorkloadApiError::MissingRequiredField { field },
@@ -49,7 +52,8 @@ fn check_bundle(alloc: Global, entry: &SvidEntryView<'_>) -> Result<(), Workload
 }
 
 fn check_bundles(alloc: Global, entries: &[SvidEntryView<'_>]) -> Result<(), WorkloadApiError>
-    ensures { Gives is_memory_api (λ _. tt) result (kept_by_each bundle_required (map svid_entry_of entries.now)) }
+    ensures { Gives is_memory_api (λ _. tt) result
+        (kept_by_each bundle_required (map svid_entry_of entries.now)) }
 {
     for entry in entries {
         check_bundle(alloc, entry)?;
@@ -67,7 +71,8 @@ fn check_fields(alloc: Global, entry: &SvidEntryView<'_>) -> Result<(), Workload
 }
 
 fn check_all_fields(alloc: Global, entries: &[SvidEntryView<'_>]) -> Result<(), WorkloadApiError>
-    ensures { Gives is_memory_api (λ _. tt) result (kept_by_each fields_required (map svid_entry_of entries.now)) }
+    ensures { Gives is_memory_api (λ _. tt) result
+        (kept_by_each fields_required (map svid_entry_of entries.now)) }
 {
     for entry in entries {
         check_fields(alloc, entry)?;
@@ -95,7 +100,8 @@ fn held_bundle<'a>(
     held?.bundle_set().get_ref(trust_domain)
 }
 
-/// The SVID of an entry, and the bundle of its trust domain. The entries before it most often have the same bundle.
+/// The SVID of an entry, and the bundle of its trust domain.
+/// The entries before it most often have the same bundle.
 #[tactic(auto, unfolding(crate::specs::Parsed::svid_and_bundle_of))]
 fn shared_material(
     alloc: Global,
@@ -104,7 +110,8 @@ fn shared_material(
     bundles: &X509BundleSet,
     held: Option<&X509Context>,
 ) -> Result<(Arc<X509Svid>, Arc<X509Bundle>), WorkloadApiError>
-    ensures { Gives is_memory_api (λ m. (arc_value m.0, arc_value m.1)) result (svid_and_bundle_of (svid_entry_of entry.now)) }
+    ensures { Gives is_memory_api (λ m. (arc_value m.0, arc_value m.1)) result
+        (svid_and_bundle_of (svid_entry_of entry.now)) }
 {
     let svid = shared_svid(alloc, entry, held_svid(held, index, entry))?;
     let trust_domain = svid.spiffe_id().trust_domain();
@@ -121,7 +128,9 @@ fn shared_svids(
     bundles: &mut X509BundleSet,
     held: Option<&X509Context>,
 ) -> Result<Vec<Arc<X509Svid>>, WorkloadApiError>
-    ensures { Gives is_memory_api (λ v. (map arc_value v.items, bundles.new)) result (read_as (brought_to bundles.old) (each svid_and_bundle_of (map svid_entry_of entries.now))) }
+    ensures { Gives is_memory_api (λ v. (map arc_value v.items, bundles.new)) result
+        (read_as (brought_to bundles.old)
+        (each svid_and_bundle_of (map svid_entry_of entries.now))) }
 {
     let mut svids = Vec::new(alloc);
     for entry in entries {
@@ -152,7 +161,9 @@ fn add_named(
     bundles: &mut X509BundleSet,
     held: Option<&X509Context>,
 ) -> Result<(), WorkloadApiError>
-    ensures { Gives is_memory_api (λ _. bundles.new) result (read_as (with_bundles bundles.old) (each named_bundle_of (map bundle_entry_of entries.now))) }
+    ensures { Gives is_memory_api (λ _. bundles.new) result
+        (read_as (with_bundles bundles.old)
+        (each named_bundle_of (map bundle_entry_of entries.now))) }
 {
     for entry in entries {
         let bundle = named_bundle(alloc, entry, held)?;
@@ -161,9 +172,10 @@ fn add_named(
     Ok(())
 }
 
-/// Returns the context of the response that the view holds, where a later bundle of a trust domain replaces an earlier
-/// one. What `held` holds of the same bytes, SVIDs at the same index or beside it and bundles of the same trust domain, is
-/// shared with it and not read again: the result is the same with any context or none.
+/// Returns the context of the response that the view holds, where a later bundle of a
+/// trust domain replaces an earlier one. What `held` holds of the same bytes, SVIDs
+/// at the same index or beside it and bundles of the same trust domain, is shared
+/// with it and not read again: the result is the same with any context or none.
 #[tactic(auto, unfolding(crate::specs::Parsed::parsed_of, crate::specs::Parsed::svids_and_bundles_of))]
 pub fn context_from_view_sharing(
     alloc: Global,
@@ -181,8 +193,8 @@ pub fn context_from_view_sharing(
     Ok(X509Context::new(svids, Arc::new(alloc, bundles)?, crls.into_vec()))
 }
 
-/// Returns the context of the response that the view holds, where a later bundle of a trust domain replaces an earlier
-/// one.
+/// Returns the context of the response that the view holds, where
+/// a later bundle of a trust domain replaces an earlier one.
 pub fn context_from_view(
     alloc: Global,
     view: &ContextView<'_>,
@@ -206,7 +218,8 @@ fn material(
     alloc: Global,
     entry: &SvidEntryView<'_>,
 ) -> Result<(X509Svid, X509Bundle), WorkloadApiError>
-    ensures { Gives is_memory_api (λ m. (m.0, m.1)) result (svid_and_bundle_of (svid_entry_of entry.now)) }
+    ensures { Gives is_memory_api (λ m. (m.0, m.1)) result
+        (svid_and_bundle_of (svid_entry_of entry.now)) }
 {
     let svid = parse_svid(alloc, entry)?;
     let bundle = parse_bundle(alloc, svid.spiffe_id().trust_domain(), entry.bundle)?;
@@ -218,7 +231,8 @@ fn owned_svids(
     alloc: Global,
     entries: &[SvidEntryView<'_>],
 ) -> Result<Vec<X509Svid>, WorkloadApiError>
-    ensures { Gives is_memory_api (λ v. v.items) result (read_as svids_in (each svid_and_bundle_of (map svid_entry_of entries.now))) }
+    ensures { Gives is_memory_api (λ v. v.items) result
+        (read_as svids_in (each svid_and_bundle_of (map svid_entry_of entries.now))) }
 {
     let mut svids = Vec::new(alloc);
     for entry in entries {
@@ -250,7 +264,8 @@ pub fn svid_from(alloc: Global, r: &ContextResponse) -> Result<X509Svid, Workloa
     }
 }
 
-/// Returns the bundles of the response, of which a later one of a trust domain replaces an earlier one.
+/// Returns the bundles of the response, of which a
+/// later one of a trust domain replaces an earlier one.
 #[tactic(auto, unfolding(crate::specs::Parsed::bundle_set_of))]
 pub fn bundle_set_from(
     alloc: Global,

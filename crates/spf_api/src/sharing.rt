@@ -1,4 +1,5 @@
-//! The SVIDs and bundles of entries. What was read before from the same bytes is shared, and not read again.
+//! The SVIDs and bundles of entries. What was read before
+//! from the same bytes is shared, and not read again.
 
 ghost use Rattle.std.specs.Prelude.{◌≡◌, IfOk, IfSome, IsTrue, Ok};
 ghost use Rattle.std.specs.Arc.{arc_value};
@@ -73,8 +74,8 @@ fn read_from<'a>(
     }
 }
 
-/// Returns the SVID of the held context that was read from the bytes of the entry, at that index or beside it. An agent sends
-/// the SVIDs of a workload in an order that may change.
+/// Returns the SVID of the held context that was read from the bytes of the entry, at that index or
+/// beside it. An agent sends the SVIDs of a workload in an order that may change.
 pub(crate) fn held_svid<'a>(
     held: Option<&'a X509Context>,
     index: usize,
@@ -129,7 +130,9 @@ fn share_of(
     trust_domain: &TrustDomain,
     der: &[u8],
 ) -> Result<Option<Arc<X509Bundle>>, OutOfMemory>
-    ensures { IfOk result (λ o. IfSome o (λ b. bundle_of trust_domain.now (authorities_rule der.now) ≡ Ok (arc_value b))) }
+    ensures { IfOk result
+        (λ o. IfSome o
+        (λ b. bundle_of trust_domain.now (authorities_rule der.now) ≡ Ok (arc_value b))) }
 {
     let Some(bundle) = bundle else {
         return Ok(None);
@@ -140,7 +143,8 @@ fn share_of(
     Ok(Some(Arc::try_clone(bundle)?))
 }
 
-/// Returns the bundle of a trust domain, which is one of the two others where that was read from the same bytes.
+/// Returns the bundle of a trust domain, which is one of
+/// the two others where that was read from the same bytes.
 #[tactic(auto, unfolding(crate::specs::Parsed::bundle_for))]
 pub(crate) fn shared_bundle(
     alloc: Global,

@@ -215,13 +215,16 @@ pub enum TransportError {
 
 impl TransportError {
     pub fn status(code: GrpcStatusCode, message: Text) -> TransportError
-        ensures { result ≡ TransportError.Status (record { code = code; message = message; source = None }) }
+        ensures { result
+            ≡ TransportError.Status (record { code = code; message = message; source = None }) }
     {
         TransportError::Status(GrpcStatusError::new(code, message))
     }
 
     pub fn status_with_source(code: GrpcStatusCode, message: Text, source: Text) -> TransportError
-        ensures { result ≡ TransportError.Status (record { code = code; message = message; source = Some source }) }
+        ensures { result
+            ≡ TransportError.Status
+            (record { code = code; message = message; source = Some source }) }
     {
         TransportError::Status(GrpcStatusError::with_source(code, message, source))
     }

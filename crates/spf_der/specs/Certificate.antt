@@ -1,8 +1,10 @@
 -- Certificates, in the order of RFC 5280 section 4.1: what is read at the start of the bytes.
-use Rattle.std.specs.Prelude.{ℕ, ℤ, ◌+◌, List, [], ◌∷◌, length, Option, Some, None, Bool, true, false, ◌==◌, ◌||◌, if◌then◌else◌}
+use Rattle.std.specs.Prelude.{ℕ, ℤ, ◌+◌, List, [], ◌∷◌, length, Option, Some, None, Bool, true}
+use Rattle.std.specs.Prelude.{false, ◌==◌, ◌||◌, if◌then◌else◌}
 use Rattle.spf_io.specs.Option.{◌>>=◌}
 use Rattle.spf_der.specs.Value.{contents_at, tagged_at, whole_at, optional_at}
-use Rattle.spf_der.specs.Types.{object_identifier_at, integer_at, small_integer_at, default_false_at, after_bit_string_at, after_algorithm_at}
+use Rattle.spf_der.specs.Types.{object_identifier_at, integer_at, small_integer_at}
+use Rattle.spf_der.specs.Types.{default_false_at, after_bit_string_at, after_algorithm_at}
 use Rattle.spf_der.specs.Time.{time_at}
 use Rattle.spf_der.specs.declared.certificate.ExtensionPart.{ExtensionPart}
 use Rattle.spf_der.specs.declared.value.TheConstants.{OCTET_STRING, SEQUENCE}
@@ -39,7 +41,8 @@ after_public_key_at bytes = do
   end ← after_bit_string_at key
   if length end == 0 then Some whole.1 else None
 
--- what follows a unique identifier of that number, primitive or constructed, which may be left out (section 4.1.2.8)
+-- what follows a unique identifier of that number, primitive
+-- or constructed, which may be left out (section 4.1.2.8)
 unfoldable pub after_unique_id_at : ℕ → List ℕ → Option (List ℕ)
 after_unique_id_at number [] = Some []
 after_unique_id_at number (tag ∷ bytes) =
@@ -48,7 +51,8 @@ after_unique_id_at number (tag ∷ bytes) =
       Some v.1)
     else Some (tag ∷ bytes)
 
--- the text of the extensions that end the bytes, which is empty where they are left out (section 4.1.2.9)
+-- the text of the extensions that end the bytes, which
+-- is empty where they are left out (section 4.1.2.9)
 abbrev pub extension_text_of : Option (List ℕ) → Option (List ℕ)
 extension_text_of None = Some []
 extension_text_of (Some inner) = whole_at SEQUENCE inner
@@ -58,7 +62,8 @@ extension_text_at bytes = do
   v ← optional_at 163 bytes
   if length v.1 == 0 then extension_text_of v.0 else None
 
--- what stands before the validity of tbsCertificate: version, serial number, signature, issuer (sections 4.1.2.1 to 4.1.2.4)
+-- what stands before the validity of tbsCertificate: version,
+-- serial number, signature, issuer (sections 4.1.2.1 to 4.1.2.4)
 unfoldable pub after_issuer_at : List ℕ → Option (List ℕ)
 after_issuer_at bytes = do
   serial ← after_version_at bytes
@@ -67,7 +72,8 @@ after_issuer_at bytes = do
   validity ← tagged_at SEQUENCE issuer
   Some validity.1
 
--- the expiry and the text of the extensions of the tbsCertificate that the bytes are (section 4.1.2)
+-- the expiry and the text of the extensions of the
+-- tbsCertificate that the bytes are (section 4.1.2)
 unfoldable pub tbs_of : List ℕ → Option (ℤ × List ℕ)
 tbs_of bytes = do
   validity ← after_issuer_at bytes
@@ -79,7 +85,8 @@ tbs_of bytes = do
   text ← extension_text_at extensions
   Some (subject.0, text)
 
--- the expiry and the text of the extensions of the certificate at the start, and what follows it (section 4.1.1)
+-- the expiry and the text of the extensions of the certificate
+-- at the start, and what follows it (section 4.1.1)
 unfoldable pub certificate_at : List ℕ → Option (ℤ × List ℕ × List ℕ)
 certificate_at bytes = do
   whole ← tagged_at SEQUENCE bytes

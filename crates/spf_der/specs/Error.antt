@@ -1,9 +1,11 @@
 -- Which errors speak of memory alone, and how a kind is called.
-use Rattle.std.specs.Prelude.{List, ℕ, codes, Bool, true, false, Option, Some, None, Result, Ok, Err}
+use Rattle.std.specs.Prelude.{List, ℕ, codes, Bool, true, false, Option, Some, None, Result, Ok}
+use Rattle.std.specs.Prelude.{Err}
 use Rattle.spf_der.specs.declared.error.CertReadError.{CertReadError}
 use Rattle.spf_der.specs.declared.error.CertReadError.TheVariants.{Parse, OutOfMemory}
 use Rattle.spf_der.specs.declared.error.X509ParseKind.{X509ParseKind}
-use Rattle.spf_der.specs.declared.error.X509ParseKind.TheVariants.{InvalidCertificate, DuplicateExtensions}
+use Rattle.spf_der.specs.declared.error.X509ParseKind.TheVariants.{InvalidCertificate}
+use Rattle.spf_der.specs.declared.error.X509ParseKind.TheVariants.{DuplicateExtensions}
 
 abbrev pub is_memory : CertReadError → Bool
 is_memory OutOfMemory = true

@@ -1,4 +1,5 @@
--- The grammar of the three extensions that are read (RFC 5280 section 4.2.1): which octets are a text, and what it means.
+-- The grammar of the three extensions that are read (RFC 5280
+-- section 4.2.1): which octets are a text, and what it means.
 use Rattle.std.specs.Prelude.{◌≡◌, ℕ, List, [], ◌∷◌, ◌++◌, ◌⊎◌, drop, Option, Some, Bool, true}
 use Rattle.spf_der.specs.Value.{Value}
 use Rattle.spf_der.specs.Types.{is_bit_string}
@@ -38,7 +39,9 @@ pub record NameText (b : List ℕ) (uri : Option (List ℕ)) : Type 0 where
 -- a concatenation of names, with the URIs among them
 abbrev pub NameTexts : List ℕ → List (Option (List ℕ)) → Type 0
 NameTexts b [] = b ≡ []
-NameTexts b (name ∷ names) = (text : List ℕ) × (others : List ℕ) × (b ≡ text ++ others) × NameText text name × NameTexts others names
+NameTexts b (name ∷ names) =
+    (text : List ℕ) × (others : List ℕ) × (b ≡ text ++ others) × NameText text name
+    × NameTexts others names
 
 abbrev pub uris_among : List (Option (List ℕ)) → List (List ℕ)
 uris_among [] = []

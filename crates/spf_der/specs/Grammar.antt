@@ -1,11 +1,14 @@
--- The grammar of certificates (RFC 5280 section 4.1) and of keys (RFC 5958 section 2): which octets are a text, piece by piece.
-use Rattle.std.specs.Prelude.{◌≡◌, ◌≢◌, ℕ, ◌+◌, ◌≤◌, ◌⊎◌, List, [], ◌∷◌, ◌++◌, Some, Bool, true, false, ℤ}
+-- The grammar of certificates (RFC 5280 section 4.1) and of keys
+-- (RFC 5958 section 2): which octets are a text, piece by piece.
+use Rattle.std.specs.Prelude.{◌≡◌, ◌≢◌, ℕ, ◌+◌, ◌≤◌, ◌⊎◌, List, [], ◌∷◌, ◌++◌, Some, Bool, true}
+use Rattle.std.specs.Prelude.{false, ℤ}
 use Rattle.spf_der.specs.Value.{Value}
 use Rattle.spf_der.specs.Types.{is_bit_string}
 use Rattle.spf_der.specs.Time.{unix_of}
 use Rattle.spf_der.specs.Part.{Parts}
 use Rattle.spf_der.specs.declared.certificate.ExtensionPart.{ExtensionPart}
-use Rattle.spf_der.specs.declared.value.TheConstants.{BIT_STRING, BOOLEAN, INTEGER, OBJECT_IDENTIFIER, OCTET_STRING, SEQUENCE}
+use Rattle.spf_der.specs.declared.value.TheConstants.{BIT_STRING, BOOLEAN, INTEGER}
+use Rattle.spf_der.specs.declared.value.TheConstants.{OBJECT_IDENTIFIER, OCTET_STRING, SEQUENCE}
 
 -- the pieces, one after another
 abbrev pub joined : List (List ℕ) → List ℕ
@@ -114,7 +117,8 @@ pub record ExtensionText (b : List ℕ) (extension : ExtensionPart) : Type 0 whe
 abbrev pub ExtensionTexts : List ℕ → List ExtensionPart → Type 0
 ExtensionTexts b [] = b ≡ []
 ExtensionTexts b (extension ∷ extensions) =
-    (text : List ℕ) × (others : List ℕ) × (b ≡ text ++ others) × ExtensionText text extension × ExtensionTexts others extensions
+    (text : List ℕ) × (others : List ℕ) × (b ≡ text ++ others) × ExtensionText text extension
+    × ExtensionTexts others extensions
 
 -- Extensions (section 4.1.2.9), whose list has these octets
 pub record ListedText (b list : List ℕ) : Type 0 where
@@ -126,7 +130,8 @@ pub record ListedText (b list : List ℕ) : Type 0 where
 abbrev pub ExtensionsText : List ℕ → List ℕ → Type 0
 ExtensionsText b list = ((b ≡ []) × (list ≡ [])) ⊎ ListedText b list
 
--- the contents of tbsCertificate (section 4.1.2): its expiry, and the octets of its list of extensions
+-- the contents of tbsCertificate (section 4.1.2): its
+-- expiry, and the octets of its list of extensions
 pub record TbsText (b : List ℕ) (expiry : ℤ) (list : List ℕ) : Type 0 where
   pub version : List ℕ
   pub number : List ℕ
@@ -141,7 +146,9 @@ pub record TbsText (b : List ℕ) (expiry : ℤ) (list : List ℕ) : Type 0 wher
   pub issuer_id : List ℕ
   pub subject_id : List ℕ
   pub extensions : List ℕ
-  pub order : b ≡ joined (version ∷ serial ∷ signature ∷ issuer ∷ validity ∷ subject ∷ public_key ∷ issuer_id ∷ subject_id ∷ extensions ∷ [])
+  pub order : b
+      ≡ joined (version ∷ serial ∷ signature ∷ issuer ∷ validity ∷ subject ∷ public_key ∷ issuer_id
+      ∷ subject_id ∷ extensions ∷ [])
   pub version_is : VersionText version
   pub serial_is : IntegerText serial number
   pub signature_is : AlgorithmText signature
@@ -174,7 +181,9 @@ pub record CertText (b : List ℕ) (parts : Parts) : Type 0 where
 -- the certificates of which the bytes are the concatenation
 abbrev pub CertsOf : List ℕ → List (List ℕ) → Type 0
 CertsOf b [] = b ≡ []
-CertsOf b (text ∷ texts) = (parts : Parts) × (others : List ℕ) × (b ≡ text ++ others) × CertText text parts × CertsOf others texts
+CertsOf b (text ∷ texts) =
+    (parts : Parts) × (others : List ℕ) × (b ≡ text ++ others) × CertText text parts
+    × CertsOf others texts
 
 -- what may stand for the attributes of a key, which are unread
 pub record AttributesText (b : List ℕ) : Type 0 where
@@ -195,4 +204,5 @@ pub record KeyText (b : List ℕ) : Type 0 where
   pub algorithm_is : AlgorithmText algorithm
   pub octets_are : Value octets OCTET_STRING key
   pub attributes_are : (attributes ≡ []) ⊎ AttributesText attributes
-  pub public_key_is : ((version ≡ 0) × (public_key ≡ [])) ⊎ ((version ≡ 1) × BitsText 129 public_key)
+  pub public_key_is : ((version ≡ 0) × (public_key ≡ []))
+      ⊎ ((version ≡ 1) × BitsText 129 public_key)

@@ -1,5 +1,6 @@
 -- The names of a subject alternative name (RFC 5280 section 4.2.1.6).
-use Rattle.std.specs.Prelude.{ℕ, zero, suc, List, [], ◌∷◌, length, Option, Some, None, Bool, not, ◌&&◌, nat_le, nat_lt, ◌==◌, if◌then◌else◌, bit_and}
+use Rattle.std.specs.Prelude.{ℕ, zero, suc, List, [], ◌∷◌, length, Option, Some, None, Bool, not}
+use Rattle.std.specs.Prelude.{◌&&◌, nat_le, nat_lt, ◌==◌, if◌then◌else◌, bit_and}
 use Rattle.std.specs.List.{list_all}
 use Rattle.std.specs.Option.{option_map_or}
 use Rattle.spf_io.specs.Option.{◌>>=◌}
@@ -23,7 +24,8 @@ uri_of tag contents = do
 -- a name by its tag and contents octets: its URI if it is one, where it may stand at all
 abbrev pub name_of : ℕ → List ℕ → Option (Option (List ℕ))
 name_of tag contents =
-    if not (is_name_tag tag) then None else (if bit_and tag 31 == 6 then uri_of tag contents else Some None)
+    if not (is_name_tag tag) then None
+    else (if bit_and tag 31 == 6 then uri_of tag contents else Some None)
 
 -- the name at the start, and what follows it
 unfoldable pub name_at : List ℕ → Option (Option (List ℕ) × List ℕ)
@@ -60,7 +62,8 @@ san_uris_of contents = do
 abbrev pub uris_before : ℕ → List ℕ → List (List ℕ)
 uris_before n [] = []
 uris_before zero (b ∷ bytes) = []
-uris_before (suc n) (b ∷ bytes) = option_map_or (λ name. with_name name.0 (uris_before n name.1)) (name_at (b ∷ bytes)) []
+uris_before (suc n) (b ∷ bytes) =
+    option_map_or (λ name. with_name name.0 (uris_before n name.1)) (name_at (b ∷ bytes)) []
 
 -- the URIs that are left to a walk over the names
 abbrev pub uris_left : List ℕ → List (List ℕ)

@@ -1,5 +1,6 @@
 -- What is read of a certificate, or why none is.
-use Rattle.std.specs.Prelude.{ℕ, ◌+◌, ◌-◌, List, [], ◌∷◌, length, Bool, false, Option, Some, None, Result, Ok, Err, if◌then◌else◌}
+use Rattle.std.specs.Prelude.{ℕ, ◌+◌, ◌-◌, List, [], ◌∷◌, length, Bool, false, Option, Some, None}
+use Rattle.std.specs.Prelude.{Result, Ok, Err, if◌then◌else◌}
 use Rattle.std.specs.Str.{bytes_eq}
 use Rattle.spf_io.specs.Rule.{◌>>=◌, many}
 use Rattle.spf_der.specs.Certificate.{certificate_at, extension_at}
@@ -9,7 +10,8 @@ use Rattle.spf_der.specs.declared.certificate.ExtensionPart.{ExtensionPart}
 use Rattle.spf_der.specs.declared.error.CertReadError.{CertReadError}
 use Rattle.spf_der.specs.declared.error.CertReadError.TheVariants.{Parse}
 use Rattle.spf_der.specs.declared.error.X509ParseKind.{X509ParseKind}
-use Rattle.spf_der.specs.declared.error.X509ParseKind.TheVariants.{InvalidCertificate, DuplicateExtensions}
+use Rattle.spf_der.specs.declared.error.X509ParseKind.TheVariants.{InvalidCertificate}
+use Rattle.spf_der.specs.declared.error.X509ParseKind.TheVariants.{DuplicateExtensions}
 
 -- the extension at the start, and what follows it
 abbrev pub part_at : List ℕ → Result (ExtensionPart × List ℕ) CertReadError
@@ -36,13 +38,15 @@ only_one (x ∷ y ∷ xs) = Err DuplicateExtensions
 abbrev pub contents_with : List ℕ → List ExtensionPart → List (List ℕ)
 contents_with oid [] = []
 contents_with oid (e ∷ extensions) =
-    if bytes_eq e.oid oid then e.contents ∷ contents_with oid extensions else contents_with oid extensions
+    if bytes_eq e.oid oid then e.contents ∷ contents_with oid extensions
+    else contents_with oid extensions
 
 -- their indices, counted from n
 abbrev pub indices_with : List ℕ → ℕ → List ExtensionPart → List ℕ
 indices_with oid n [] = []
 indices_with oid n (e ∷ extensions) =
-    if bytes_eq e.oid oid then n ∷ indices_with oid (n + 1) extensions else indices_with oid (n + 1) extensions
+    if bytes_eq e.oid oid then n ∷ indices_with oid (n + 1) extensions
+    else indices_with oid (n + 1) extensions
 
 -- the contents of the one extension with that identifier, if there is one
 abbrev pub unique_rule : List ℕ → List ExtensionPart → Result (Option (List ℕ)) X509ParseKind

@@ -1,5 +1,6 @@
 -- Times (RFC 5280 section 4.1.2.5), as Unix seconds.
-use Rattle.std.specs.Prelude.{ℕ, ◌+◌, ◌-◌, ◌*◌, List, [], ◌∷◌, Option, Some, None, Bool, ◌&&◌, nat_le, ◌==◌, if◌then◌else◌, ℤ, pos, ◌+ℤ◌, ◌*ℤ◌}
+use Rattle.std.specs.Prelude.{ℕ, ◌+◌, ◌-◌, ◌*◌, List, [], ◌∷◌, Option, Some, None, Bool, ◌&&◌}
+use Rattle.std.specs.Prelude.{nat_le, ◌==◌, if◌then◌else◌, ℤ, pos, ◌+ℤ◌, ◌*ℤ◌}
 use Rattle.std.specs.Char.{is_ascii_digit}
 use Rattle.jiff_core.specs.Calendar.{days_from_civil, days_in_month}
 use Rattle.spf_io.specs.Option.{◌>>=◌}
@@ -53,7 +54,9 @@ generalized_time _ = None
 
 -- a time, by its tag and its contents octets
 abbrev pub unix_of : ℕ → List ℕ → Option ℤ
-unix_of tag bytes = if tag == UTC_TIME then utc_time bytes else (if tag == GENERALIZED_TIME then generalized_time bytes else None)
+unix_of tag bytes =
+    if tag == UTC_TIME then utc_time bytes
+    else (if tag == GENERALIZED_TIME then generalized_time bytes else None)
 
 -- the time at the start, and what follows it
 unfoldable pub time_at : List ℕ → Option (ℤ × List ℕ)

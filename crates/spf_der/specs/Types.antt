@@ -1,8 +1,10 @@
 -- The small types that certificates and keys share.
-use Rattle.std.specs.Prelude.{ℕ, List, [], ◌∷◌, length, Option, Some, None, Bool, true, false, not, ◌&&◌, ◌||◌, nat_le, ◌==◌, if◌then◌else◌}
+use Rattle.std.specs.Prelude.{ℕ, List, [], ◌∷◌, length, Option, Some, None, Bool, true, false, not}
+use Rattle.std.specs.Prelude.{◌&&◌, ◌||◌, nat_le, ◌==◌, if◌then◌else◌}
 use Rattle.spf_io.specs.Option.{◌>>=◌}
 use Rattle.spf_der.specs.Value.{value_at, tagged_at, optional_at}
-use Rattle.spf_der.specs.declared.value.TheConstants.{BIT_STRING, BOOLEAN, INTEGER, OBJECT_IDENTIFIER, SEQUENCE}
+use Rattle.spf_der.specs.declared.value.TheConstants.{BIT_STRING, BOOLEAN, INTEGER}
+use Rattle.spf_der.specs.declared.value.TheConstants.{OBJECT_IDENTIFIER, SEQUENCE}
 
 -- OBJECT IDENTIFIER (X.690 section 8.19): its contents octets, of which there is at least one
 unfoldable pub object_identifier_at : List ℕ → Option (List ℕ × List ℕ)
@@ -30,7 +32,8 @@ small_integer_at max bytes = do
 
 -- the contents octets of a BOOLEAN (X.690 sections 8.2 and 11.1)
 abbrev pub boolean_of : List ℕ → Option Bool
-boolean_of (octet ∷ []) = if octet == 255 then Some true else (if octet == 0 then Some false else None)
+boolean_of (octet ∷ []) =
+    if octet == 255 then Some true else (if octet == 0 then Some false else None)
 boolean_of _ = None
 
 -- a BOOLEAN that may be left out, which is false then
@@ -45,7 +48,8 @@ default_false_at bytes = do
   flag ← flag_of v.0
   Some (flag, v.1)
 
--- the contents octets of a BIT STRING (X.690 section 8.6): how many bits of the last octet are unused, and the octets
+-- the contents octets of a BIT STRING (X.690 section 8.6):
+-- how many bits of the last octet are unused, and the octets
 abbrev pub is_bit_string : List ℕ → Bool
 is_bit_string [] = false
 is_bit_string (unused ∷ octets) = nat_le unused 7 && (unused == 0 || not (length octets == 0))
@@ -56,7 +60,8 @@ after_bit_string_at bytes = do
   v ← tagged_at BIT_STRING bytes
   if is_bit_string v.0 then Some v.1 else None
 
--- what follows an AlgorithmIdentifier (RFC 5280 section 4.1.1.2): an identifier and at max one value of parameters
+-- what follows an AlgorithmIdentifier (RFC 5280 section
+-- 4.1.1.2): an identifier and at max one value of parameters
 unfoldable pub after_algorithm_at : List ℕ → Option (List ℕ)
 after_algorithm_at bytes = do
   whole ← tagged_at SEQUENCE bytes

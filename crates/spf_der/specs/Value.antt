@@ -1,5 +1,8 @@
--- Values of DER: a tag octet, the shortest length, and that many contents octets (X.690 sections 8.1 and 10.1).
-use Rattle.std.specs.Prelude.{◌≡◌, ◌≢◌, ℕ, ◌+◌, ◌*◌, ◌/◌, ◌%◌, ◌^◌, ◌<◌, ◌≤◌, List, [], ◌∷◌, ◌++◌, length, take, drop, Option, Some, None, MatchOption, nat_lt, ◌==◌, if◌then◌else◌, bit_and}
+-- Values of DER: a tag octet, the shortest length, and
+-- that many contents octets (X.690 sections 8.1 and 10.1).
+use Rattle.std.specs.Prelude.{◌≡◌, ◌≢◌, ℕ, ◌+◌, ◌*◌, ◌/◌, ◌%◌, ◌^◌, ◌<◌, ◌≤◌, List, [], ◌∷◌, ◌++◌}
+use Rattle.std.specs.Prelude.{length, take, drop, Option, Some, None, MatchOption, nat_lt, ◌==◌}
+use Rattle.std.specs.Prelude.{if◌then◌else◌, bit_and}
 use Rattle.std.specs.Borrow.{Bor}
 use Rattle.std.specs.List.{All}
 use Rattle.std.specs.Option.{option_map}
@@ -51,7 +54,8 @@ three_octets (a ∷ b ∷ c ∷ rest) = if a == 0 then None else Some ((a * 256 
 three_octets _ = None
 
 abbrev pub four_octets : List ℕ → Option (ℕ × List ℕ)
-four_octets (a ∷ b ∷ c ∷ d ∷ rest) = if a == 0 then None else Some (((a * 256 + b) * 256 + c) * 256 + d, rest)
+four_octets (a ∷ b ∷ c ∷ d ∷ rest) =
+    if a == 0 then None else Some (((a * 256 + b) * 256 + c) * 256 + d, rest)
 four_octets _ = None
 
 -- a length of several octets, after the first of them
@@ -105,7 +109,8 @@ optional_at tag (first ∷ bytes) =
 -- a number that was read of `count` octets, and what is left after them
 abbrev pub MeetsRest : ℕ → Option ℕ → Option (ℕ × List ℕ) → List ℕ → Type 0
 MeetsRest count result found bytes =
-    MatchOption result (found ≡ None) (λ n. (count ≤ length bytes) × (found ≡ Some (n, drop count bytes)))
+    MatchOption result (found ≡ None)
+    (λ n. (count ≤ length bytes) × (found ≡ Some (n, drop count bytes)))
 
 -- what a reader found, without where it lies
 abbrev pub seen : Option (Bor (List ℕ)) → Option (List ℕ)
@@ -117,5 +122,6 @@ seen_two found = option_map (λ x. (x.0.now, x.1.now)) found
 abbrev pub seen_value : Option (ℕ × Bor (List ℕ) × Bor (List ℕ)) → Option (ℕ × List ℕ × List ℕ)
 seen_value found = option_map (λ x. (x.0, x.1.now, x.2.now)) found
 
-abbrev pub seen_optional : Option (Option (Bor (List ℕ)) × Bor (List ℕ)) → Option (Option (List ℕ) × List ℕ)
+abbrev pub seen_optional : Option (Option (Bor (List ℕ)) × Bor (List ℕ))
+    → Option (Option (List ℕ) × List ℕ)
 seen_optional found = option_map (λ x. (seen x.0, x.1.now)) found

@@ -1,11 +1,16 @@
--- The texts that are written (RFC 5280 section 4.1, RFC 5958 section 2): names, public keys and signatures are empty.
-use Rattle.std.specs.Prelude.{◌≡◌, ℕ, ◌+◌, List, [], ◌∷◌, ◌++◌, flat_map, Option, Some, None, Bool, if◌then◌else◌, codes}
-use Rattle.spf_der.specs.Identifier.{basic_constraints_identifier, key_usage_identifier, subject_alt_name_identifier}
+-- The texts that are written (RFC 5280 section 4.1, RFC 5958
+-- section 2): names, public keys and signatures are empty.
+use Rattle.std.specs.Prelude.{◌≡◌, ℕ, ◌+◌, List, [], ◌∷◌, ◌++◌, flat_map, Option, Some, None, Bool}
+use Rattle.std.specs.Prelude.{if◌then◌else◌, codes}
+use Rattle.spf_der.specs.Identifier.{basic_constraints_identifier, key_usage_identifier}
+use Rattle.spf_der.specs.Identifier.{subject_alt_name_identifier}
 use Rattle.spf_der.specs.Value.{value_text}
 use Rattle.spf_der.specs.WrittenTime.{IsTimeText}
 use Rattle.spf_der.specs.declared.extensions.KeyUsageBits.{KeyUsageBits}
 use Rattle.spf_der.specs.declared.writer.CertSpec.{CertSpec}
-use Rattle.spf_der.specs.declared.value.TheConstants.{BIT_STRING, BOOLEAN, INTEGER, OBJECT_IDENTIFIER, OCTET_STRING, SEQUENCE, UTC_TIME}
+use Rattle.spf_der.specs.declared.value.TheConstants.{BIT_STRING, BOOLEAN, INTEGER}
+use Rattle.spf_der.specs.declared.value.TheConstants.{OBJECT_IDENTIFIER, OCTET_STRING, SEQUENCE}
+use Rattle.spf_der.specs.declared.value.TheConstants.{UTC_TIME}
 
 -- an AlgorithmIdentifier of 1.3.101.112 (RFC 8410 section 3)
 abbrev pub algorithm_text : List ℕ
@@ -21,7 +26,9 @@ no_name = value_text SEQUENCE []
 
 -- the octet of a key usage that holds all its bits
 abbrev pub usage_octet : KeyUsageBits → ℕ
-usage_octet bits = (if bits.digital_signature then 128 else 0) + (if bits.key_cert_sign then 4 else 0) + (if bits.crl_sign then 2 else 0)
+usage_octet bits =
+    (if bits.digital_signature then 128 else 0) + (if bits.key_cert_sign then 4 else 0)
+    + (if bits.crl_sign then 2 else 0)
 
 -- the contents octets of a key usage, which ends with its last bit that is set
 abbrev pub usage_octets : KeyUsageBits → List ℕ
@@ -42,7 +49,8 @@ names_text uris = value_text SEQUENCE (flat_map (value_text 134) uris)
 
 -- an Extension without a BOOLEAN
 abbrev pub extension_text : List ℕ → List ℕ → List ℕ
-extension_text oid contents = value_text SEQUENCE (value_text OBJECT_IDENTIFIER oid ++ value_text OCTET_STRING contents)
+extension_text oid contents =
+    value_text SEQUENCE (value_text OBJECT_IDENTIFIER oid ++ value_text OCTET_STRING contents)
 
 abbrev pub usage_part : Option KeyUsageBits → List ℕ
 usage_part None = []
@@ -79,12 +87,14 @@ public_key_text = value_text SEQUENCE (algorithm_text ++ no_bits)
 -- the contents of tbsCertificate, with that text of the expiry
 abbrev pub tbs_text : CertSpec → List ℕ → List ℕ
 tbs_text spec time =
-    version_text (extensions_text spec) ++ value_text INTEGER (spec.serial ∷ []) ++ algorithm_text ++ no_name
+    version_text (extensions_text spec) ++ value_text INTEGER (spec.serial ∷ []) ++ algorithm_text
+    ++ no_name
     ++ validity_text time ++ no_name ++ public_key_text ++ extensions_part (extensions_text spec)
 
 -- the certificate, with that text of the expiry
 abbrev pub certificate_text : CertSpec → List ℕ → List ℕ
-certificate_text spec time = value_text SEQUENCE (value_text SEQUENCE (tbs_text spec time) ++ algorithm_text ++ no_bits)
+certificate_text spec time =
+    value_text SEQUENCE (value_text SEQUENCE (tbs_text spec time) ++ algorithm_text ++ no_bits)
 
 -- the certificate of the spec
 pub record IsCertificateOf (spec : CertSpec) (text : List ℕ) : Type 0 where
@@ -94,4 +104,6 @@ pub record IsCertificateOf (spec : CertSpec) (text : List ℕ) : Type 0 where
 
 -- a key of one octet
 abbrev pub key_text : ℕ → List ℕ
-key_text serial = value_text SEQUENCE (value_text INTEGER (0 ∷ []) ++ algorithm_text ++ value_text OCTET_STRING (serial ∷ []))
+key_text serial =
+    value_text SEQUENCE
+    (value_text INTEGER (0 ∷ []) ++ algorithm_text ++ value_text OCTET_STRING (serial ∷ []))

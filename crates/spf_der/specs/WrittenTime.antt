@@ -1,5 +1,6 @@
 -- The times that are written (RFC 5280 section 4.1.2.5).
-use Rattle.std.specs.Prelude.{◌≡◌, ℕ, zero, suc, ◌+◌, ◌-◌, ◌/◌, ◌%◌, List, [], ◌∷◌, Some, nat_lt, if◌then◌else◌, ℤ, pos, unsigned_abs, ◌≤ℤ◌}
+use Rattle.std.specs.Prelude.{◌≡◌, ℕ, zero, suc, ◌+◌, ◌-◌, ◌/◌, ◌%◌, List, [], ◌∷◌, Some, nat_lt}
+use Rattle.std.specs.Prelude.{if◌then◌else◌, ℤ, pos, unsigned_abs, ◌≤ℤ◌}
 use Rattle.jiff_core.specs.Calendar.{days_in_month, days_in_year}
 use Rattle.spf_der.specs.Value.{value_text}
 use Rattle.spf_der.specs.Time.{unix_of}
@@ -14,10 +15,12 @@ abbrev pub two : ℕ → List ℕ → List ℕ
 two n rest = (48 + n / 10 % 10) ∷ (48 + n % 10) ∷ rest
 
 abbrev pub utc_text : ℕ → ℕ → ℕ → ℕ → ℕ → ℕ → List ℕ
-utc_text year month day hour minute second = two year (two month (two day (two hour (two minute (two second (90 ∷ []))))))
+utc_text year month day hour minute second =
+    two year (two month (two day (two hour (two minute (two second (90 ∷ []))))))
 
 abbrev pub generalized_text : ℕ → ℕ → ℕ → ℕ → ℕ → ℕ → List ℕ
-generalized_text year month day hour minute second = two (year / 100) (utc_text year month day hour minute second)
+generalized_text year month day hour minute second =
+    two (year / 100) (utc_text year month day hour minute second)
 
 -- UTCTime for years up to 2049, GeneralizedTime after
 abbrev pub time_tag : ℤ → ℕ
@@ -27,7 +30,8 @@ time_tag moment = if nat_lt (unsigned_abs moment) 2524608000 then UTC_TIME else 
 abbrev pub year_of : ℕ → ℕ → ℕ → ℕ × ℕ
 year_of zero year day = (year, day)
 year_of (suc n) year day =
-    if nat_lt day (days_in_year (pos year)) then (year, day) else year_of n (year + 1) (day - days_in_year (pos year))
+    if nat_lt day (days_in_year (pos year)) then (year, day)
+    else year_of n (year + 1) (day - days_in_year (pos year))
 
 -- the month of a day of a year, of at most `n` after `month`, and the day of the month, from 1
 abbrev pub month_of : ℕ → ℕ → ℕ → ℕ → ℕ × ℕ
@@ -55,8 +59,11 @@ second_text n =
     let date = civil_day (n / 86400) in
     let second = n % 86400 in
     if nat_lt n 2524608000
-    then value_text UTC_TIME (utc_text date.year date.month date.day (second / 3600) (second / 60 % 60) (second % 60))
-    else value_text GENERALIZED_TIME (generalized_text date.year date.month date.day (second / 3600) (second / 60 % 60) (second % 60))
+    then value_text UTC_TIME
+    (utc_text date.year date.month date.day (second / 3600) (second / 60 % 60) (second % 60))
+    else value_text GENERALIZED_TIME
+    (generalized_text date.year date.month date.day (second / 3600) (second / 60 % 60)
+    (second % 60))
 
 -- what is written of an expiry of the years 1970 to 9999
 abbrev pub expiry_text : ℤ → List ℕ

@@ -2,11 +2,15 @@
 ghost use Rattle.std.specs.Prelude.{◌≡◌, ◌<◌, ◌≤◌, length, map, take, IfOk, IfSome};
 ghost use Rattle.std.specs.Option.{option_map};
 ghost use Rattle.spf_io.specs.Rule.{Gives};
-ghost use Rattle.spf_der.specs.Certificate.{after_issuer_at, after_public_key_at, after_unique_id_at, after_version_at, certificate_at, ends, extension_at, extension_text_at, is_version, tbs_of, validity_at};
+ghost use Rattle.spf_der.specs.Certificate.{after_issuer_at, after_public_key_at};
+ghost use Rattle.spf_der.specs.Certificate.{after_unique_id_at, after_version_at, certificate_at};
+ghost use Rattle.spf_der.specs.Certificate.{ends, extension_at, extension_text_at, is_version};
+ghost use Rattle.spf_der.specs.Certificate.{tbs_of, validity_at};
 ghost use Rattle.spf_der.specs.Error.{is_memory};
 ghost use Rattle.spf_der.specs.Grammar.{CertText};
 ghost use Rattle.spf_der.specs.Part.{plain};
-ghost use Rattle.spf_der.specs.Read.{certificate_rule, extensions_rule, never, index_rule, unique_rule};
+ghost use Rattle.spf_der.specs.Read.{certificate_rule, extensions_rule, never, index_rule};
+ghost use Rattle.spf_der.specs.Read.{unique_rule};
 ghost use Rattle.spf_der.specs.Value.{seen};
 
 use crate::error::{CertReadError, X509ParseError, X509ParseKind};

@@ -78,7 +78,8 @@ fn ascii(octets: &[u8]) -> Option<&str>
     }
 }
 
-/// A name by its tag and contents octets: its URI if it is one, and `None` where it may not stand at all.
+/// A name by its tag and contents octets: its URI if it
+/// is one, and `None` where it may not stand at all.
 #[inline]
 fn name_parts(tag: u8, contents: &[u8]) -> Option<Option<&str>>
     ensures { option_map seen result ≡ name_of tag contents.now }
@@ -124,7 +125,8 @@ fn are_names(bytes: &[u8]) -> bool
 
 /// The first URI among the names, and the names after it.
 fn first_uri(names: &[u8]) -> Option<(&str, &[u8])>
-    ensures { MatchOption result (uris_left names.now ≡ []) (λ x. uris_left names.now ≡ x.0.now ∷ uris_left x.1.now) }
+    ensures { MatchOption result (uris_left names.now ≡ [])
+        (λ x. uris_left names.now ≡ x.0.now ∷ uris_left x.1.now) }
 {
     let mut rest = names;
     while !rest.is_empty() {
@@ -137,7 +139,8 @@ fn first_uri(names: &[u8]) -> Option<(&str, &[u8])>
     None
 }
 
-/// The URIs among the names of a subject alternative name, which contracts see as the list of those that are left.
+/// The URIs among the names of a subject alternative name,
+/// which contracts see as the list of those that are left.
 #[derive(Debug, Drop)]
 pub struct SanUris<'a> {
     rest: &'a [u8],
@@ -155,7 +158,8 @@ impl<'a> Model for SanUris<'a> {
 impl<'a> SanUris<'a> {
     /// The next URI, whose octets are all below 128.
     pub fn next_uri(&mut self) -> Option<&'a str>
-        ensures { MatchOption result ((self.old ≡ []) × (self.new ≡ [])) (λ uri. self.old ≡ uri.now ∷ self.new) }
+        ensures { MatchOption result ((self.old ≡ []) × (self.new ≡ []))
+            (λ uri. self.old ≡ uri.now ∷ self.new) }
     {
         let (uri, rest) = first_uri(self.rest)?;
         self.rest = rest;
@@ -163,7 +167,8 @@ impl<'a> SanUris<'a> {
     }
 }
 
-/// The URIs of a subject alternative name (section 4.2.1.6), or `None` where one of its names is unreadable.
+/// The URIs of a subject alternative name (section 4.2.1.6),
+/// or `None` where one of its names is unreadable.
 #[tactic(auto, unfolding(crate::specs::Names::san_uris_of))]
 pub fn read_san_uri_views<'a>(contents: &'a [u8]) -> Option<SanUris<'a>>
     ensures { result ≡ san_uris_of contents.now }
@@ -188,7 +193,8 @@ fn copies(alloc: Global, mut uris: SanUris) -> Result<Vec<Text>, OutOfMemory>
     Ok(texts)
 }
 
-/// The URIs of a subject alternative name (section 4.2.1.6), or `None` where one of its names is unreadable.
+/// The URIs of a subject alternative name (section 4.2.1.6),
+/// or `None` where one of its names is unreadable.
 pub fn read_san_uris(alloc: Global, contents: &[u8]) -> Result<Option<Vec<Text>>, OutOfMemory>
     ensures { IfOk result (λ o. option_map (λ v. v.items) o ≡ san_uris_of contents.now) }
 {

@@ -1,8 +1,8 @@
 //! Certificates and private keys in DER, read where they lie, and a writer of small certificates.
 //!
-//! A certificate is read by the grammar of RFC 5280 section 4.1, its extensions by section 4.2.1, a key by RFC 5958
-//! section 2, and every value in the one spelling of DER (X.690 section 10.1). Names, public keys, signatures and
-//! unknown extensions are passed over unread.
+//! A certificate is read by the grammar of RFC 5280 section 4.1, its extensions by section 4.2.1, a
+//! key by RFC 5958 section 2, and every value in the one spelling of DER (X.690 section 10.1).
+//! Names, public keys, signatures and unknown extensions are passed over unread.
 #![tactic(auto)]
 
 mod certificate;

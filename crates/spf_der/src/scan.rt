@@ -1,11 +1,13 @@
-//! What the rules of an SVID look up in a certificate, found in one walk over its extensions and without memory.
+//! What the rules of an SVID look up in a certificate, found
+//! in one walk over its extensions and without memory.
 ghost use Rattle.std.specs.Prelude.{◌≡◌, ◌<◌, ◌≤◌, length, take, IfOk};
 ghost use Rattle.spf_io.specs.Rule.{Gives};
 ghost use Rattle.spf_der.specs.Error.{is_memory};
 ghost use Rattle.spf_der.specs.Grammar.{CertText};
 ghost use Rattle.spf_der.specs.Part.{plain};
 ghost use Rattle.spf_der.specs.Read.{certificate_rule, extensions_rule, never, unique_rule};
-ghost use Rattle.spf_der.specs.Identifier.{basic_constraints_identifier, key_usage_identifier, subject_alt_name_identifier};
+ghost use Rattle.spf_der.specs.Identifier.{basic_constraints_identifier, key_usage_identifier};
+ghost use Rattle.spf_der.specs.Identifier.{subject_alt_name_identifier};
 ghost use Rattle.spf_der.specs.Scan.{FoundWith, IsScanned, found_after, found_of, last_arc_of};
 ghost use Rattle.spf_der.specs.Value.{seen};
 
@@ -105,7 +107,8 @@ fn scan_extensions<'a>(text: &'a [u8]) -> Result<Extensions<'a>, CertReadError>
     Ok(found)
 }
 
-/// A certificate by its expiry and its extensions, of which those that an SVID's rules look up are found.
+/// A certificate by its expiry and its extensions, of
+/// which those that an SVID's rules look up are found.
 #[derive(Debug, Drop)]
 pub struct CertScan<'a> {
     expiry: i64,
@@ -141,14 +144,16 @@ impl<'a> CertScan<'a> {
 
     /// The contents of the subject alternative name (section 4.2.1.6), if there is one.
     pub fn subject_alt_name(&self) -> Result<Option<&'a [u8]>, X509ParseError>
-        ensures { Gives never seen result (unique_rule subject_alt_name_identifier self.now.extensions) }
+        ensures { Gives never seen result
+            (unique_rule subject_alt_name_identifier self.now.extensions) }
     {
         unique(self.found.subject_alt_name)
     }
 
     /// The contents of the basic constraints (section 4.2.1.9), if there are such.
     pub fn basic_constraints(&self) -> Result<Option<&'a [u8]>, X509ParseError>
-        ensures { Gives never seen result (unique_rule basic_constraints_identifier self.now.extensions) }
+        ensures { Gives never seen result
+            (unique_rule basic_constraints_identifier self.now.extensions) }
     {
         unique(self.found.basic_constraints)
     }

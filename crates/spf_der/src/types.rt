@@ -1,7 +1,9 @@
 //! The small types that certificates and keys share.
 ghost use Rattle.std.specs.Prelude.{◌≡◌};
 ghost use Rattle.std.specs.Option.{option_map};
-ghost use Rattle.spf_der.specs.Types.{after_algorithm_at, after_bit_string_at, boolean_of, default_false_at, integer_at, is_bit_string, object_identifier_at, small_integer_at, small_of};
+ghost use Rattle.spf_der.specs.Types.{after_algorithm_at, after_bit_string_at, boolean_of};
+ghost use Rattle.spf_der.specs.Types.{default_false_at, integer_at, is_bit_string};
+ghost use Rattle.spf_der.specs.Types.{object_identifier_at, small_integer_at, small_of};
 ghost use Rattle.spf_der.specs.Value.{seen, seen_two};
 
 use crate::value::{

@@ -1,7 +1,11 @@
-//! Values of DER: a tag octet, the shortest length, and that many contents octets (X.690 sections 8.1 and 10.1).
+//! Values of DER: a tag octet, the shortest length, and
+//! that many contents octets (X.690 sections 8.1 and 10.1).
 ghost use Rattle.std.specs.Prelude.{◌≡◌, ◌-◌, ◌<◌, ◌≤◌, length, IfSome};
 ghost use Rattle.std.specs.Option.{option_map};
-ghost use Rattle.spf_der.specs.Value.{MeetsRest, contents_at, four_octets, length_at, long_length_at, one_octet, optional_at, seen, seen_optional, seen_two, seen_value, tagged_at, three_octets, two_octets, value_at, whole_at};
+ghost use Rattle.spf_der.specs.Value.{MeetsRest, contents_at, four_octets, length_at};
+ghost use Rattle.spf_der.specs.Value.{long_length_at, one_octet, optional_at, seen, seen_optional};
+ghost use Rattle.spf_der.specs.Value.{seen_two, seen_value, tagged_at, three_octets, two_octets};
+ghost use Rattle.spf_der.specs.Value.{value_at, whole_at};
 
 /// Tag octets (X.690 section 8.1.2).
 pub const BOOLEAN: u8 = 0x01;

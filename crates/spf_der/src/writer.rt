@@ -1,8 +1,14 @@
 //! Certificates and keys of fixed parts, as made sessions and tests need them.
 ghost use Rattle.std.specs.Prelude.{◌≡◌, ◌+◌, ◌/◌, ◌%◌, ◌++◌, flat_map, unsigned_abs, IfOk, OnOk};
 ghost use Rattle.spf_der.specs.Value.{length_octets, value_text};
-ghost use Rattle.spf_der.specs.Written.{IsCertificateOf, algorithm_text, constraints_part, constraints_text, extension_text, extensions_part, extensions_text, key_text, names_part, names_text, no_bits, no_name, public_key_text, usage_octet, usage_part, usage_text, validity_text, version_text, certificate_text, tbs_text};
-ghost use Rattle.spf_der.specs.WrittenTime.{IsTimeText, IsWritable, expiry_text, generalized_text, utc_text};
+ghost use Rattle.spf_der.specs.Written.{IsCertificateOf, algorithm_text, constraints_part};
+ghost use Rattle.spf_der.specs.Written.{constraints_text, extension_text, extensions_part};
+ghost use Rattle.spf_der.specs.Written.{extensions_text, key_text, names_part, names_text, no_bits};
+ghost use Rattle.spf_der.specs.Written.{no_name, public_key_text, usage_octet, usage_part};
+ghost use Rattle.spf_der.specs.Written.{usage_text, validity_text, version_text, certificate_text};
+ghost use Rattle.spf_der.specs.Written.{tbs_text};
+ghost use Rattle.spf_der.specs.WrittenTime.{IsTimeText, IsWritable, expiry_text, generalized_text};
+ghost use Rattle.spf_der.specs.WrittenTime.{utc_text};
 
 use crate::extensions::{BASIC_CONSTRAINTS, KEY_USAGE, KeyUsageBits, SUBJECT_ALT_NAME};
 use crate::value::{
@@ -311,7 +317,9 @@ fn utc_octets(year: u64, month: u64, day: u64, hour: u64, minute: u64, second: u
 
 /// `YYMMDDHHMMSSZ` of a date and a second of its day, from the last two digits of the year.
 fn date_octets(date: &Date, second: u64) -> [u8; 13]
-    ensures { result ≡ utc_text (unsigned_abs date.now.year) date.now.month date.now.day (second / 3600) (second / 60 % 60) (second % 60) }
+    ensures { result
+        ≡ utc_text (unsigned_abs date.now.year) date.now.month date.now.day (second / 3600)
+        (second / 60 % 60) (second % 60) }
 {
     utc_octets(
         date.year.unsigned_abs() as u64,
@@ -325,7 +333,10 @@ fn date_octets(date: &Date, second: u64) -> [u8; 13]
 
 /// The contents octets of the GeneralizedTime of a date and a second of its day.
 fn generalized_octets(alloc: Global, date: &Date, second: u64) -> Result<Vec<u8>, OutOfMemory>
-    ensures { IfOk result (λ v. v.items ≡ generalized_text (unsigned_abs date.now.year) date.now.month date.now.day (second / 3600) (second / 60 % 60) (second % 60)) }
+    ensures { IfOk result
+        (λ v. v.items
+        ≡ generalized_text (unsigned_abs date.now.year) date.now.month date.now.day (second / 3600)
+        (second / 60 % 60) (second % 60)) }
 {
     let century = date.year.unsigned_abs() as u64 / 100;
     let mut contents = Vec::with_capacity(alloc, 15)?;
@@ -334,7 +345,8 @@ fn generalized_octets(alloc: Global, date: &Date, second: u64) -> Result<Vec<u8>
     Ok(contents)
 }
 
-/// The Time of a Unix second from 1970 to 9999: a UTCTime for years up to 2049, a GeneralizedTime after.
+/// The Time of a Unix second from 1970 to 9999: a UTCTime
+/// for years up to 2049, a GeneralizedTime after.
 fn time_value(alloc: Global, moment: i64) -> Result<Vec<u8>, OutOfMemory>
     ensures text { IsWritable moment → IfOk result (λ v. v.items ≡ expiry_text moment) }
     ensures means { IsWritable moment → IfOk result (λ v. IsTimeText moment v.items) }
@@ -367,10 +379,13 @@ fn tbs_certificate(alloc: Global, spec: &CertSpec, time: &[u8]) -> Result<Vec<u8
     Ok(tbs)
 }
 
-/// The certificate of the spec, whose expiry is in the years 1970 to 9999. Names, key and signature are empty.
+/// The certificate of the spec, whose expiry is in the
+/// years 1970 to 9999. Names, key and signature are empty.
 pub fn write_certificate(alloc: Global, spec: &CertSpec) -> Result<Vec<u8>, OutOfMemory>
-    ensures text { IsWritable spec.now.expiry → IfOk result (λ v. v.items ≡ certificate_text spec.now (expiry_text spec.now.expiry)) }
-    ensures means { IsWritable spec.now.expiry → IfOk result (λ v. IsCertificateOf spec.now v.items) }
+    ensures text { IsWritable spec.now.expiry
+        → IfOk result (λ v. v.items ≡ certificate_text spec.now (expiry_text spec.now.expiry)) }
+    ensures means { IsWritable spec.now.expiry
+        → IfOk result (λ v. IsCertificateOf spec.now v.items) }
 {
     let time = time_value(alloc, spec.expiry)?;
     signed(alloc, spec, time.as_slice())

@@ -1,5 +1,6 @@
 -- Lists that are handed on one by one.
-use Rattle.std.proofs.Common.{◌≡◌, Bool, true, List, [], ◌∷◌, Option, Some, None, Result, Ok, Err, refl, sym, ap, subst, arith, length, take_all}
+use Rattle.std.proofs.Common.{◌≡◌, Bool, true, List, [], ◌∷◌, Option, Some, None, Result, Ok, Err}
+use Rattle.std.proofs.Common.{refl, sym, ap, subst, arith, length, take_all}
 use Rattle.spf_view.specs.Sessions.{Grows, GrowsUpTo}
 use Rattle.spf_view.proofs.FollowLemmas.{grows_nil, grows_none}
 use Rattle.spf_feed.specs.Records.{RecordAppends}
@@ -13,45 +14,84 @@ use Rattle.spf_feed.specs.Following.{HandsOn, TurnState, StoppedShort, IsTaken}
 pub none_yet : {X : Type 0} (old : Option (List X)) (more : List X) → GrowsUpTo old old more true
 none_yet old more = record { count = 0; grows = grows_nil old; all = λ e. absurd cc }
 
-unfoldable pub none_since : {X : Type 0} (old new : Option (List X)) (more : List X) → new ≡ old → GrowsUpTo old new more true
-none_since old new more same = record { count = 0; grows = grows_none old new same; all = λ e. absurd cc }
+unfoldable pub none_since : {X : Type 0} (old new : Option (List X)) (more : List X) → new ≡ old
+    → GrowsUpTo old new more true
+none_since old new more same = record {
+  count = 0;
+  grows = grows_none old new same;
+  all = λ e. absurd cc;
+}
 
 -- one was handed on
-pub one_more : {X E : Type 0} (old new : Option (List X)) (r : Result (Unit {0}) E) (x : X) → RecordAppends old new r x → HandsOn old new r (x ∷ [])
+pub one_more : {X E : Type 0} (old new : Option (List X)) (r : Result (Unit {0}) E) (x : X)
+    → RecordAppends old new r x → HandsOn old new r (x ∷ [])
 one_more None None (Ok done) x h = tt
 one_more None None (Err e) x h = none_yet None (x ∷ [])
 one_more None (Some after) r x h = absurd h
 one_more (Some before) None r x h = absurd h
 one_more (Some before) (Some after) (Ok done) x h = h
-one_more (Some before) (Some after) (Err e) x h = none_since (Some before) (Some after) (x ∷ []) (ap Some h)
+one_more (Some before) (Some after) (Err e) x h =
+    none_since (Some before) (Some after) (x ∷ []) (ap Some h)
 
 -- a refused call handed on a beginning
-pub stopped_there : {X T E : Type 0} (old new : Option (List X)) (r : Result T E) (more : List X) → IsErr r → GrowsUpTo old new more true → HandsOn old new r more
+pub stopped_there : {X T E : Type 0} (old new : Option (List X)) (r : Result T E) (more : List X)
+    → IsErr r → GrowsUpTo old new more true → HandsOn old new r more
 stopped_there old new (Ok done) more bad h = absurd cc
 stopped_there old new (Err e) more bad h = h
 
 -- the whole list was handed on
-unfoldable pub all_grown : {X : Type 0} (old new : Option (List X)) (more : List X) (cut : Bool) → Grows old new more → GrowsUpTo old new more cut
-all_grown old new more cut h = record { count = length more; grows = subst (Grows old new) (sym (take_all (length more) more (omega arith))) h; all = λ e. refl }
+unfoldable pub all_grown : {X : Type 0} (old new : Option (List X)) (more : List X) (cut : Bool)
+    → Grows old new more → GrowsUpTo old new more cut
+all_grown old new more cut h = record {
+  count = length more;
+  grows = subst (Grows old new) (sym (take_all (length more) more (omega arith))) h;
+  all = λ e. refl;
+}
 
 -- memory ran out before a step was handed on
-pub step_unpublished : {E : Type 0} (step : PlainStep) (records : List MetricsRecord) (old new : TurnState) (r : Result Bool E) → IsErr r → GrowsUpTo old.steps new.steps (step ∷ []) true → new.records ≡ old.records → IsTaken (Some step) records old new r
+pub step_unpublished : {E : Type 0} (step : PlainStep) (records : List MetricsRecord)
+    (old new : TurnState) (r : Result Bool E) → IsErr r
+    → GrowsUpTo old.steps new.steps (step ∷ []) true → new.records ≡ old.records
+    → IsTaken (Some step) records old new r
 unfolding none_since
 step_unpublished step records old new (Ok b) bad a same = absurd cc
-step_unpublished step records old new (Err e) bad a same = record { steps_are = a; records_are = none_since old.records new.records records same; steps_first = λ lt. absurd (omega arith) }
+step_unpublished step records old new (Err e) bad a same = record {
+  steps_are = a;
+  records_are = none_since old.records new.records records same;
+  steps_first = λ lt. absurd (omega arith);
+}
 
 -- memory ran out over the records of a step
-pub step_unrecorded : {E : Type 0} (step : PlainStep) (records : List MetricsRecord) (old new : TurnState) (r : Result Bool E) → IsErr r → Grows old.steps new.steps (step ∷ []) → GrowsUpTo old.records new.records records true → IsTaken (Some step) records old new r
+pub step_unrecorded : {E : Type 0} (step : PlainStep) (records : List MetricsRecord)
+    (old new : TurnState) (r : Result Bool E) → IsErr r → Grows old.steps new.steps (step ∷ [])
+    → GrowsUpTo old.records new.records records true → IsTaken (Some step) records old new r
 unfolding all_grown
 step_unrecorded step records old new (Ok b) bad a c = absurd cc
-step_unrecorded step records old new (Err e) bad a c = record { steps_are = all_grown old.steps new.steps (step ∷ []) true a; records_are = c; steps_first = λ lt. refl }
+step_unrecorded step records old new (Err e) bad a c =
+    record {
+      steps_are = all_grown old.steps new.steps (step ∷ []) true a;
+      records_are = c;
+      steps_first = λ lt. refl;
+    }
 
 -- memory ran out over the records of a turn without a step
-pub records_short : (records : List MetricsRecord) (old new : TurnState) → new.steps ≡ old.steps → GrowsUpTo old.records new.records records true → StoppedShort None records old new
+pub records_short : (records : List MetricsRecord) (old new : TurnState) → new.steps ≡ old.steps
+    → GrowsUpTo old.records new.records records true → StoppedShort None records old new
 unfolding all_grown
-records_short records old new same c = record { steps_are = all_grown old.steps new.steps [] true (grows_none old.steps new.steps same); records_are = c; steps_first = λ lt. refl }
+records_short records old new same c =
+    record {
+      steps_are = all_grown old.steps new.steps [] true
+          (grows_none old.steps new.steps same);
+      records_are = c;
+      steps_first = λ lt. refl;
+    }
 
 -- memory ran out before anything was handed on
-pub nothing_done : (step : Option PlainStep) (records : List MetricsRecord) (state : TurnState) → StoppedShort step records state state
+pub nothing_done : (step : Option PlainStep) (records : List MetricsRecord) (state : TurnState)
+    → StoppedShort step records state state
 unfolding none_yet
-nothing_done step records state = record { steps_are = none_yet state.steps (option_to_list step); records_are = none_yet state.records records; steps_first = λ lt. absurd (omega arith) }
+nothing_done step records state = record {
+  steps_are = none_yet state.steps (option_to_list step);
+  records_are = none_yet state.records records;
+  steps_first = λ lt. absurd (omega arith);
+}

@@ -1,18 +1,26 @@
 -- What the loop of `follow_x509` keeps, and what each of its exits gives.
-use Rattle.std.proofs.Common.{◌≡◌, ℕ, ◌+◌, Bool, true, false, cond, ltb, List, [], ◌∷◌, ◌++◌, take, length, Option, None, Some, Result, Ok, Err, inl, inr, refl, sym, ap, ◌∙◌, subst, arith}
+use Rattle.std.proofs.Common.{◌≡◌, ℕ, ◌+◌, Bool, true, false, cond, ltb, List, [], ◌∷◌, ◌++◌, take}
+use Rattle.std.proofs.Common.{length, Option, None, Some, Result, Ok, Err, inl, inr, refl, sym, ap}
+use Rattle.std.proofs.Common.{◌∙◌, subst, arith}
 use Rattle.std.specs.Prelude.{ℤ, is_some, ◌⊎◌, decimal}
 use Rattle.std.specs.Option.{option_or}
 use Rattle.std.specs.Cmp.{IsEquivalence}
 use Rattle.std.specs.Io.KnownBytes.{Consumes, IsAtEnd, Appends}
 use Rattle.std.proofs.lemmas.Bool.{ltb-true, ltb-false}
-use Rattle.spf_view.specs.Views.{Waiting, outcome_with, outcome, outcomes, last_moment, view_of, revision_of, has_synced}
+use Rattle.spf_view.specs.Views.{Waiting, outcome_with, outcome, outcomes, last_moment, view_of}
+use Rattle.spf_view.specs.Views.{revision_of, has_synced}
 use Rattle.spf_view.specs.Steps.{step_in, step_with}
 use Rattle.spf_view.specs.Standing.{Kept, is_change, shown_by, raised}
-use Rattle.spf_view.specs.Sessions.{Ports, Grows, Followed, Whole, OutOfMemory, WriteFault, Refused, NeverSynced}
+use Rattle.spf_view.specs.Sessions.{Ports, Grows, Followed, Whole, OutOfMemory, WriteFault, Refused}
+use Rattle.spf_view.specs.Sessions.{NeverSynced}
 use Rattle.spf_view.specs.Keeping.{kept_with_any, IsAt}
-use Rattle.spf_view.proofs.FollowLemmas.{SoFar, OnlyRead, begins, IsNext, followed_end, followed_long, followed_bad, followed_failure, followed_no_frame, followed_refused, followed_stopped, followed_unput, followed_closed, goes_on, AddsAll}
+use Rattle.spf_view.proofs.FollowLemmas.{SoFar, OnlyRead, begins, IsNext, followed_end}
+use Rattle.spf_view.proofs.FollowLemmas.{followed_long, followed_bad, followed_failure}
+use Rattle.spf_view.proofs.FollowLemmas.{followed_no_frame, followed_refused, followed_stopped}
+use Rattle.spf_view.proofs.FollowLemmas.{followed_unput, followed_closed, goes_on, AddsAll}
 use Rattle.spf_view.proofs.SessionLemmas.{length-onto}
-use Rattle.spf_view.proofs.KeepingLemmas.{at_start, synced_at, moment_at, outcome_at, revision_at, view_at, waiting_at, at_more}
+use Rattle.spf_view.proofs.KeepingLemmas.{at_start, synced_at, moment_at, outcome_at, revision_at}
+use Rattle.spf_view.proofs.KeepingLemmas.{view_at, waiting_at, at_more}
 use Rattle.spf_feed.specs.declared.follow_error.FollowError.{FollowError}
 use Rattle.spf_feed.specs.declared.follow_error.FollowError.TheVariants as answers
 use Rattle.spf_frame.specs.declared.error.FrameError.{FrameError}
@@ -26,9 +34,11 @@ use Rattle.spf_feed.specs.declared.turn.Terminal.TheVariants as terminal
 use Rattle.spf_feed.specs.declared.event.SessionEvent.TheVariants as events
 use Rattle.spf_feed.specs.declared.following.Change.TheVariants as change
 use Rattle.spf_feed.specs.Events.{closes, map_item}
-use Rattle.spf_feed.specs.Following.{answer_to, is_changed, changes_any, error_at, IsEventRead, IsEventUnread, TurnState, TurnTaken}
+use Rattle.spf_feed.specs.Following.{answer_to, is_changed, changes_any, error_at, IsEventRead}
+use Rattle.spf_feed.specs.Following.{IsEventUnread, TurnState, TurnTaken}
 use Rattle.spf_feed.specs.Items.{Event, Received, Rules, subject, subject_by, context_in, moment_of}
-use Rattle.spf_feed.specs.Received.{received_ask, received_refusal, received_outcome, received_records, received_moment, received_close}
+use Rattle.spf_feed.specs.Received.{received_ask, received_refusal, received_outcome}
+use Rattle.spf_feed.specs.Received.{received_records, received_moment, received_close}
 use Rattle.spf_feed.specs.Turns.{IsTurn}
 use Rattle.spf_feed.specs.declared.turn.Turn.{Turn}
 use Rattle.spf_feed.specs.Following.{IsLineOf, IsShownAfter}
@@ -38,7 +48,8 @@ use Rattle.spf_feed.specs.Shown.{shown_text}
 use Rattle.spf_feed.specs.Steps.{Material, PlainStep, same_material}
 use Rattle.spf_feed.proofs.TurnLemmas.{asked-map_item, moment-map_item, closes-map_item}
 use Rattle.spf_feed.proofs.Alike.{material_equiv}
-use Rattle.spf_feed.proofs.Turned.{turn_at, step_after, IsThrough, went, IsRefused, IsStopped, ended_by}
+use Rattle.spf_feed.proofs.Turned.{turn_at, step_after, IsThrough, went, IsRefused, IsStopped}
+use Rattle.spf_feed.proofs.Turned.{ended_by}
 use Rattle.spf_feed.proofs.HandLemmas.{none_since, all_grown}
 use Rattle.spf_feed.proofs.SeenShown.{waiting_text, shown_seen}
 
@@ -46,14 +57,18 @@ use Rattle.spf_feed.proofs.SeenShown.{waiting_text, shown_seen}
 abbrev pub state_of : Option (Kept Material Denial) → Ports PlainStep MetricsRecord → TurnState
 state_of kept ports = record { kept = kept; steps = ports.steps; records = ports.records }
 
-pub record LoopAt (rules : Rules) (max_frames : ℕ) (old cur : Ports PlainStep MetricsRecord) (count : ℕ) (kept : Option (Kept Material Denial)) (moment : Option ℤ) (phase : Phase) (line : LineView) : Type 0 where
+pub record LoopAt (rules : Rules) (max_frames : ℕ) (old cur : Ports PlainStep MetricsRecord)
+    (count : ℕ) (kept : Option (Kept Material Denial)) (moment : Option ℤ) (phase : Phase)
+    (line : LineView) : Type 0 where
   pub past : List Event
   pub so_far : SoFar (stream rules) (outputs rules) max_frames old cur past count
   pub at : IsAt (subject rules) past moment kept
   pub asks : ask_of context_in rules past ≡ phase
   pub line_is : IsLineOf line kept moment
 
-pub loop_begins : (rules : Rules) (max_frames : ℕ) (old : Ports PlainStep MetricsRecord) (line : LineView) → line.text ≡ shown_text Waiting 0 None → LoopAt rules max_frames old old 0 None None phases.Client line
+pub loop_begins : (rules : Rules) (max_frames : ℕ) (old : Ports PlainStep MetricsRecord)
+    (line : LineView) → line.text ≡ shown_text Waiting 0 None
+    → LoopAt rules max_frames old old 0 None None phases.Client line
 loop_begins rules max_frames old line is = record {
   past = [];
   so_far = begins (stream rules) (outputs rules) max_frames old;
@@ -64,42 +79,78 @@ loop_begins rules max_frames old line is = record {
 
 -- ---- the exits before an event
 
-whole_end : (b : Bool) (n : ℕ) → end_for (cond b (Ok n) (Err answers.NeverSynced)) ≡ cond b (Whole n) NeverSynced
+whole_end : (b : Bool) (n : ℕ)
+    → end_for (cond b (Ok n) (Err answers.NeverSynced)) ≡ cond b (Whole n) NeverSynced
 whole_end true n = refl
 whole_end false n = refl
 
-pub exit_end : (rules : Rules) (max_frames : ℕ) (old cur new : Ports PlainStep MetricsRecord) (count : ℕ) (kept : Option (Kept Material Denial)) (moment : Option ℤ) (phase : Phase) (line : LineView) (r : Result ℕ FollowError)
-    → LoopAt rules max_frames old cur count kept moment phase line → OnlyRead cur new → Consumes cur.left new.left [] → IsAtEnd cur.left → r ≡ cond (is_some kept) (Ok count) (Err answers.NeverSynced) → Followed (stream rules) (outputs rules) max_frames old new (end_for r)
+pub exit_end : (rules : Rules) (max_frames : ℕ) (old cur new : Ports PlainStep MetricsRecord)
+    (count : ℕ) (kept : Option (Kept Material Denial)) (moment : Option ℤ) (phase : Phase)
+    (line : LineView) (r : Result ℕ FollowError)
+    → LoopAt rules max_frames old cur count kept moment phase line → OnlyRead cur new
+    → Consumes cur.left new.left [] → IsAtEnd cur.left
+    → r ≡ cond (is_some kept) (Ok count) (Err answers.NeverSynced)
+    → Followed (stream rules) (outputs rules) max_frames old new (end_for r)
 exit_end rules max_frames old cur new count kept moment phase line r at same took end is =
-    followed_end (stream rules) (outputs rules) max_frames old cur new at.past count (end_for r) at.so_far same took end
-    (ap end_for is ∙ whole_end (is_some kept) count ∙ ap (λ b. cond b (Whole count) NeverSynced) (sym (synced_at (subject rules) at.past moment kept at.at)))
+    followed_end (stream rules) (outputs rules) max_frames old cur new at.past count (end_for r)
+    at.so_far same took end
+    (ap end_for is ∙ whole_end (is_some kept) count
+    ∙ ap (λ b. cond b (Whole count) NeverSynced)
+    (sym (synced_at (subject rules) at.past moment kept at.at)))
 
 -- why no event was read, and what was taken
-pub exit_unread : (rules : Rules) (max_frames : ℕ) (old cur new : Ports PlainStep MetricsRecord) (count : ℕ) (kept : Option (Kept Material Denial)) (moment : Option ℤ) (phase : Phase) (line : LineView) (e : FrameError)
-    (at : LoopAt rules max_frames old cur count kept moment phase line) → OnlyRead cur new → IsEventUnread rules at.past (ltb count max_frames) cur.left new.left e → Followed (stream rules) (outputs rules) max_frames old new (end_for (Err (error_at count e)))
+pub exit_unread : (rules : Rules) (max_frames : ℕ) (old cur new : Ports PlainStep MetricsRecord)
+    (count : ℕ) (kept : Option (Kept Material Denial)) (moment : Option ℤ) (phase : Phase)
+    (line : LineView) (e : FrameError)
+    (at : LoopAt rules max_frames old cur count kept moment phase line) → OnlyRead cur new
+    → IsEventUnread rules at.past (ltb count max_frames) cur.left new.left e
+    → Followed (stream rules) (outputs rules) max_frames old new (end_for (Err (error_at count e)))
 exit_unread rules max_frames old cur new count kept moment phase line errors.TooLong at same h =
-    followed_long (stream rules) (outputs rules) max_frames old cur new at.past count h.1.0 at.so_far same (ltb-false count max_frames h.0) h.1.1
+    followed_long (stream rules) (outputs rules) max_frames old cur new at.past count h.1.0
+    at.so_far same (ltb-false count max_frames h.0) h.1.1
 exit_unread rules max_frames old cur new count kept moment phase line errors.BadFrame at same h =
-    followed_bad (stream rules) (outputs rules) max_frames old cur new at.past count h.1.0 at.so_far same (ltb-true count max_frames h.0) h.1.1 h.1.2.0 h.1.2.1 h.1.2.2
+    followed_bad (stream rules) (outputs rules) max_frames old cur new at.past count h.1.0 at.so_far
+    same (ltb-true count max_frames h.0) h.1.1 h.1.2.0 h.1.2.1 h.1.2.2
 exit_unread rules max_frames old cur new count kept moment phase line errors.ReadFault at same h =
-    followed_failure (stream rules) (outputs rules) max_frames old cur new at.past count h.0 at.so_far same h.1 h.2.0 h.2.1 h.2.2
+    followed_failure (stream rules) (outputs rules) max_frames old cur new at.past count h.0
+    at.so_far same h.1 h.2.0 h.2.1 h.2.2
 exit_unread rules max_frames old cur new count kept moment phase line errors.OutOfMemory at same h =
-    followed_no_frame (stream rules) (outputs rules) max_frames old cur new at.past count h.1.0 at.so_far same (ltb-true count max_frames h.0) h.1.1 h.1.2
+    followed_no_frame (stream rules) (outputs rules) max_frames old cur new at.past count h.1.0
+    at.so_far same (ltb-true count max_frames h.0) h.1.1 h.1.2
 
 -- ---- one event more
 
-pub next_of : (rules : Rules) (max_frames : ℕ) (old cur : Ports PlainStep MetricsRecord) (count : ℕ) (kept : Option (Kept Material Denial)) (moment : Option ℤ) (phase : Phase) (line : LineView) (after : Option (List ℕ)) (received : Received)
-    (at : LoopAt rules max_frames old cur count kept moment phase line) (read : IsEventRead rules at.past (ltb count max_frames) cur.left after received) → IsNext (stream rules) max_frames cur.left after at.past count read.event
-next_of rules max_frames old cur count kept moment phase line after received at read = record { room = ltb-true count max_frames read.leave; front = read.front; frame = read.frame; took = read.taken }
+pub next_of : (rules : Rules) (max_frames : ℕ) (old cur : Ports PlainStep MetricsRecord) (count : ℕ)
+    (kept : Option (Kept Material Denial)) (moment : Option ℤ) (phase : Phase) (line : LineView)
+    (after : Option (List ℕ)) (received : Received)
+    (at : LoopAt rules max_frames old cur count kept moment phase line)
+    (read : IsEventRead rules at.past (ltb count max_frames) cur.left after received)
+    → IsNext (stream rules) max_frames cur.left after at.past count read.event
+next_of rules max_frames old cur count kept moment phase line after received at read =
+    record {
+      room = ltb-true count max_frames read.leave;
+      front = read.front;
+      frame = read.frame;
+      took = read.taken;
+    }
 
 -- a refusal
-exit_refused : (rules : Rules) (max_frames : ℕ) (old cur new : Ports PlainStep MetricsRecord) (count : ℕ) (kept kept' : Option (Kept Material Denial)) (moment : Option ℤ) (phase : Phase) (line : LineView) (e : Event) (x : FollowError)
-    (at : LoopAt rules max_frames old cur count kept moment phase line) → IsNext (stream rules) max_frames cur.left new.left at.past count e → new.held ≡ cur.held → IsRefused rules at.past e (state_of kept cur) (state_of kept' new) x
+exit_refused : (rules : Rules) (max_frames : ℕ) (old cur new : Ports PlainStep MetricsRecord)
+    (count : ℕ) (kept kept' : Option (Kept Material Denial)) (moment : Option ℤ) (phase : Phase)
+    (line : LineView) (e : Event) (x : FollowError)
+    (at : LoopAt rules max_frames old cur count kept moment phase line)
+    → IsNext (stream rules) max_frames cur.left new.left at.past count e → new.held ≡ cur.held
+    → IsRefused rules at.past e (state_of kept cur) (state_of kept' new) x
     → Followed (stream rules) (outputs rules) max_frames old new (end_for (Err x))
-exit_refused rules max_frames old cur new count kept kept' moment phase line e x at next held refused =
-    let ends : end_for (Err x) ≡ Refused refused.end = ap (λ a. end_for (Err a)) refused.answer ∙ refused_end refused.end in
+exit_refused rules max_frames old cur new count kept kept' moment phase line e x at next held
+    refused =
+    let ends : end_for (Err x) ≡ Refused refused.end =
+    ap (λ a. end_for (Err a)) refused.answer ∙ refused_end refused.end in
     subst (λ r. Followed (stream rules) (outputs rules) max_frames old new r) (sym ends)
-    (followed_refused (stream rules) (outputs rules) max_frames old cur new at.past count e refused.end at.so_far next (record { held = held; steps = refused.steps_same; records = refused.records_same }) refused.refused)
+    (followed_refused (stream rules) (outputs rules) max_frames old cur new at.past count e
+    refused.end at.so_far next
+    (record { held = held; steps = refused.steps_same; records = refused.records_same })
+    refused.refused)
   where
     refused_end : (t : Terminal) → end_for (Err (answer_to t)) ≡ Refused t
     refused_end (terminal.Source a) = refl
@@ -108,13 +159,20 @@ exit_refused rules max_frames old cur new count kept kept' moment phase line e x
     refused_end terminal.Closed = refl
 
 -- memory ran out over a turn
-exit_stopped : (rules : Rules) (max_frames : ℕ) (old cur new : Ports PlainStep MetricsRecord) (count : ℕ) (kept kept' : Option (Kept Material Denial)) (moment : Option ℤ) (phase : Phase) (line : LineView) (e : Event) (x : FollowError)
-    (at : LoopAt rules max_frames old cur count kept moment phase line) → IsNext (stream rules) max_frames cur.left new.left at.past count e → new.held ≡ cur.held → IsStopped rules at.past e (state_of kept cur) (state_of kept' new) x
+exit_stopped : (rules : Rules) (max_frames : ℕ) (old cur new : Ports PlainStep MetricsRecord)
+    (count : ℕ) (kept kept' : Option (Kept Material Denial)) (moment : Option ℤ) (phase : Phase)
+    (line : LineView) (e : Event) (x : FollowError)
+    (at : LoopAt rules max_frames old cur count kept moment phase line)
+    → IsNext (stream rules) max_frames cur.left new.left at.past count e → new.held ≡ cur.held
+    → IsStopped rules at.past e (state_of kept cur) (state_of kept' new) x
     → Followed (stream rules) (outputs rules) max_frames old new (end_for (Err x))
 unfolding none_since
-exit_stopped rules max_frames old cur new count kept kept' moment phase line e x at next held stopped =
-    subst (λ r. Followed (stream rules) (outputs rules) max_frames old new r) (sym (ap (λ a. end_for (Err a)) stopped.answer))
-    (followed_stopped (stream rules) (outputs rules) max_frames old cur new at.past count e at.so_far next stopped.none (record {
+exit_stopped rules max_frames old cur new count kept kept' moment phase line e x at next held
+    stopped =
+    subst (λ r. Followed (stream rules) (outputs rules) max_frames old new r)
+    (sym (ap (λ a. end_for (Err a)) stopped.answer))
+    (followed_stopped (stream rules) (outputs rules) max_frames old cur new at.past count e
+    at.so_far next stopped.none (record {
       line = none_since cur.held new.held ((outputs rules).line at.past e) held;
       steps = stopped.short.steps_are;
       records = stopped.short.records_are;
@@ -123,18 +181,30 @@ exit_stopped rules max_frames old cur new count kept kept' moment phase line e x
     }))
 
 -- what is kept after the event
-pub kept_after : (o : IsEquivalence same_material) (rules : Rules) (past : List Event) (moment : Option ℤ) (kept kept' : Option (Kept Material Denial)) (e : Event) → IsAt (subject rules) past moment kept
-    → kept' ≡ kept_with_any same_material kept (step_in rules.limits (outcome (subject rules) e past)) → IsAt (subject rules) (e ∷ past) (option_or (moment_of (map_item context_in e)) moment) kept'
+pub kept_after : (o : IsEquivalence same_material) (rules : Rules) (past : List Event)
+    (moment : Option ℤ) (kept kept' : Option (Kept Material Denial)) (e : Event)
+    → IsAt (subject rules) past moment kept
+    → kept' ≡ kept_with_any same_material kept
+    (step_in rules.limits (outcome (subject rules) e past))
+    → IsAt (subject rules) (e ∷ past) (option_or (moment_of (map_item context_in e)) moment) kept'
 kept_after o rules past moment kept kept' e at is =
-    let step : step_in rules.limits (outcome (subject rules) e past) ≡ step_with (subject rules) (is_some kept) moment e = ap (step_in rules.limits) (outcome_at (subject rules) past moment kept e at) in
-    let same : kept_with_any same_material kept (step_with (subject rules) (is_some kept) moment e) ≡ kept' = sym (is ∙ ap (kept_with_any same_material kept) step) in
-    let when : option_or (moment_of e) moment ≡ option_or (moment_of (map_item context_in e)) moment = ap (λ m. option_or m moment) (moment-map_item context_in e) in
+    let step : step_in rules.limits (outcome (subject rules) e past)
+    ≡ step_with (subject rules) (is_some kept) moment e =
+    ap (step_in rules.limits) (outcome_at (subject rules) past moment kept e at) in
+    let same : kept_with_any same_material kept (step_with (subject rules) (is_some kept) moment e)
+    ≡ kept' = sym (is ∙ ap (kept_with_any same_material kept) step) in
+    let when : option_or (moment_of e) moment
+    ≡ option_or (moment_of (map_item context_in e)) moment =
+    ap (λ m. option_or m moment) (moment-map_item context_in e) in
     subst (λ m. IsAt (subject rules) (e ∷ past) m kept') when
-    (subst (λ k. IsAt (subject rules) (e ∷ past) (option_or (moment_of e) moment) k) same (at_more (subject rules) o past e moment kept at))
+    (subst (λ k. IsAt (subject rules) (e ∷ past) (option_or (moment_of e) moment) k) same
+    (at_more (subject rules) o past e moment kept at))
 
 -- ---- the line after the event
 
-unchanged : (k0 k : Kept Material Denial) (step : PlainStep) (b : Bool) → b ≡ false → Some k ≡ Some (cond b (record { revision = raised k0.revision; view = shown_by step }) k0) → k0 ≡ k
+unchanged : (k0 k : Kept Material Denial) (step : PlainStep) (b : Bool) → b ≡ false
+    → Some k ≡ Some (cond b (record { revision = raised k0.revision; view = shown_by step }) k0)
+    → k0 ≡ k
 unchanged k0 k step true e h = absurd cc
 unchanged k0 k step false e h = cc
 
@@ -142,64 +212,102 @@ stays : (b : Bool) → is_changed (cond b change.Changed change.Unchanged) ≡ f
 stays true e = cc
 stays false e = refl
 
-line_after : (kept kept' : Option (Kept Material Denial)) (step : Option PlainStep) (line line' : LineView) (moment now : Option ℤ) (changed : Bool) → IsLineOf line kept moment → kept' ≡ kept_with_any same_material kept step
-    → changed ≡ changes_any kept step → IsShownAfter line line' kept' changed now → IsLineOf line' kept' now
-line_after None None None line line' moment now changed is k c shown = ap (λ (l : LineView). l.text) shown ∙ is
+line_after : (kept kept' : Option (Kept Material Denial)) (step : Option PlainStep)
+    (line line' : LineView) (moment now : Option ℤ) (changed : Bool) → IsLineOf line kept moment
+    → kept' ≡ kept_with_any same_material kept step
+    → changed ≡ changes_any kept step → IsShownAfter line line' kept' changed now
+    → IsLineOf line' kept' now
+line_after None None None line line' moment now changed is k c shown =
+    ap (λ (l : LineView). l.text) shown ∙ is
 line_after None None (Some step) line line' moment now changed is k c shown = absurd cc
 line_after (Some k0) None None line line' moment now changed is k c shown = absurd cc
 line_after (Some k0) None (Some step) line line' moment now changed is k c shown = absurd cc
 line_after None (Some x) None line line' moment now changed is k c shown = absurd cc
-line_after None (Some x) (Some step) line line' moment now changed is k c shown = shown moment (λ e. absurd cc)
+line_after None (Some x) (Some step) line line' moment now changed is k c shown =
+    shown moment (λ e. absurd cc)
 line_after (Some k0) (Some x) None line line' moment now changed is k c shown =
     let same : k0 ≡ x = cc in
     shown moment (λ e. subst (λ y. ShowsKept y moment line) same is)
 line_after (Some k0) (Some x) (Some step) line line' moment now changed is k c shown =
-    shown moment (λ e. subst (λ y. ShowsKept y moment line) (unchanged k0 x step (is_change same_material k0.view step) (stays (is_change same_material k0.view step) (sym c ∙ e)) k) is)
+    shown moment
+    (λ e. subst (λ y. ShowsKept y moment line)
+    (unchanged k0 x step (is_change same_material k0.view step)
+    (stays (is_change same_material k0.view step) (sym c ∙ e)) k) is)
 
 -- the line is that of the view that the events make visible
-line_seen : (o : IsEquivalence same_material) (rules : Rules) (past : List Event) (now : Option ℤ) (kept : Option (Kept Material Denial)) (line : LineView) → IsAt (subject rules) past now kept → IsLineOf line kept now
-    → line.text ≡ shown_text (view_of (outcomes (subject rules) past)) (revision_of same_material (outcomes (subject rules) past)) (last_moment (subject rules) past)
+line_seen : (o : IsEquivalence same_material) (rules : Rules) (past : List Event) (now : Option ℤ)
+    (kept : Option (Kept Material Denial)) (line : LineView) → IsAt (subject rules) past now kept
+    → IsLineOf line kept now
+    → line.text
+    ≡ shown_text (view_of (outcomes (subject rules) past))
+    (revision_of same_material (outcomes (subject rules) past)) (last_moment (subject rules) past)
 line_seen o rules past now None line at is =
-    is ∙ sym (waiting_text (revision_of same_material (outcomes (subject rules) past)) (last_moment (subject rules) past)) ∙ ap (λ v. shown_text v (revision_of same_material (outcomes (subject rules) past)) (last_moment (subject rules) past)) (sym (waiting_at (subject rules) past now at))
+    is ∙ sym (waiting_text (revision_of same_material (outcomes (subject rules) past))
+    (last_moment (subject rules) past))
+    ∙ ap (λ v. shown_text v (revision_of same_material (outcomes (subject rules) past))
+    (last_moment (subject rules) past)) (sym (waiting_at (subject rules) past now at))
 line_seen o rules past now (Some k) line at is =
     is.text
-    ∙ shown_seen k.view (view_of (outcomes (subject rules) past)) k.revision now (view_at (subject rules) o past now k at)
-    ∙ ap (λ r. shown_text (view_of (outcomes (subject rules) past)) r now) (revision_at (subject rules) past now k at)
-    ∙ ap (λ n. shown_text (view_of (outcomes (subject rules) past)) (revision_of same_material (outcomes (subject rules) past)) n) (sym (moment_at (subject rules) past now (Some k) at))
+    ∙ shown_seen k.view (view_of (outcomes (subject rules) past)) k.revision now
+    (view_at (subject rules) o past now k at)
+    ∙ ap (λ r. shown_text (view_of (outcomes (subject rules) past)) r now)
+    (revision_at (subject rules) past now k at)
+    ∙ ap (λ n. shown_text (view_of (outcomes (subject rules) past))
+    (revision_of same_material (outcomes (subject rules) past)) n)
+    (sym (moment_at (subject rules) past now (Some k) at))
 
 -- A turn that went through, and the line after it.
-pub record IsLined (rules : Rules) (past : List Event) (e : Event) (count : ℕ) (now : Option ℤ) (kept : Option (Kept Material Denial)) (line : LineView) : Type 0 where
+pub record IsLined (rules : Rules) (past : List Event) (e : Event) (count : ℕ) (now : Option ℤ)
+    (kept : Option (Kept Material Denial)) (line : LineView) : Type 0 where
   pub at : IsAt (subject rules) (e ∷ past) now kept
   pub line_is : IsLineOf line kept now
   pub text : decimal (count + 1) ++ line.text ≡ (outputs rules).line past e
 
-lined : (o : IsEquivalence same_material) (rules : Rules) (max_frames : ℕ) (old cur : Ports PlainStep MetricsRecord) (count : ℕ) (kept : Option (Kept Material Denial)) (moment : Option ℤ) (phase : Phase) (line line' : LineView)
-    (e : Event) (new : TurnState) (changed : Bool) (at : LoopAt rules max_frames old cur count kept moment phase line)
-    → IsThrough rules at.past e (state_of kept cur) new changed → IsShownAfter line line' new.kept changed (option_or (moment_of (map_item context_in e)) moment)
-    → IsLined rules at.past e count (option_or (moment_of (map_item context_in e)) moment) new.kept line'
+lined : (o : IsEquivalence same_material) (rules : Rules) (max_frames : ℕ)
+    (old cur : Ports PlainStep MetricsRecord) (count : ℕ) (kept : Option (Kept Material Denial))
+    (moment : Option ℤ) (phase : Phase) (line line' : LineView)
+    (e : Event) (new : TurnState) (changed : Bool)
+    (at : LoopAt rules max_frames old cur count kept moment phase line)
+    → IsThrough rules at.past e (state_of kept cur) new changed
+    → IsShownAfter line line' new.kept changed
+    (option_or (moment_of (map_item context_in e)) moment)
+    → IsLined rules at.past e count (option_or (moment_of (map_item context_in e)) moment) new.kept
+    line'
 lined o rules max_frames old cur count kept moment phase line line' e new changed at through shown =
     let now = option_or (moment_of (map_item context_in e)) moment in
     let after = kept_after o rules at.past moment kept new.kept e at.at through.went.kept_is in
-    let is = line_after kept new.kept (step_after rules at.past e) line line' moment now changed at.line_is through.went.kept_is through.went.changed_is shown in
-    let number : count + 1 ≡ length at.past + 1 = omega (arith, length-onto [] at.so_far.es, ap length at.so_far.history, at.so_far.count_is) in
+    let is = line_after kept new.kept (step_after rules at.past e) line line' moment now changed
+    at.line_is through.went.kept_is through.went.changed_is shown in
+    let number : count + 1 ≡ length at.past + 1 =
+    omega (arith, length-onto [] at.so_far.es, ap length at.so_far.history, at.so_far.count_is) in
     record {
       at = after;
       line_is = is;
-      text = ap (λ n. decimal n ++ line'.text) number ∙ ap (λ t. decimal (length at.past + 1) ++ t) (line_seen o rules (e ∷ at.past) now new.kept line' after is);
+      text = ap (λ n. decimal n ++ line'.text) number
+          ∙ ap (λ t. decimal (length at.past + 1) ++ t)
+          (line_seen o rules (e ∷ at.past) now new.kept line' after is);
     }
 
 -- ---- the exits after a turn
 
 -- memory ran out over the line
-pub exit_no_line : (rules : Rules) (max_frames : ℕ) (old cur new : Ports PlainStep MetricsRecord) (count : ℕ) (kept kept' : Option (Kept Material Denial)) (moment : Option ℤ) (phase : Phase) (line : LineView) (e : Event) (b : Bool)
-    (at : LoopAt rules max_frames old cur count kept moment phase line) → IsNext (stream rules) max_frames cur.left new.left at.past count e → new.held ≡ cur.held → IsThrough rules at.past e (state_of kept cur) (state_of kept' new) b
+pub exit_no_line : (rules : Rules) (max_frames : ℕ) (old cur new : Ports PlainStep MetricsRecord)
+    (count : ℕ) (kept kept' : Option (Kept Material Denial)) (moment : Option ℤ) (phase : Phase)
+    (line : LineView) (e : Event) (b : Bool)
+    (at : LoopAt rules max_frames old cur count kept moment phase line)
+    → IsNext (stream rules) max_frames cur.left new.left at.past count e → new.held ≡ cur.held
+    → IsThrough rules at.past e (state_of kept cur) (state_of kept' new) b
     → Followed (stream rules) (outputs rules) max_frames old new OutOfMemory
 unfolding none_since all_grown
-exit_no_line rules max_frames old cur new count kept kept' moment phase line e b at next held through =
-    followed_stopped (stream rules) (outputs rules) max_frames old cur new at.past count e at.so_far next through.none (record {
+exit_no_line rules max_frames old cur new count kept kept' moment phase line e b at next held
+    through =
+    followed_stopped (stream rules) (outputs rules) max_frames old cur new at.past count e at.so_far
+    next through.none (record {
       line = none_since cur.held new.held ((outputs rules).line at.past e) held;
-      steps = all_grown cur.steps new.steps ((outputs rules).steps at.past e) true through.went.steps_are;
-      records = all_grown cur.records new.records ((outputs rules).records at.past e) true through.went.records_are;
+      steps = all_grown cur.steps new.steps ((outputs rules).steps at.past e) true
+          through.went.steps_are;
+      records = all_grown cur.records new.records ((outputs rules).records at.past e) true
+          through.went.records_are;
       steps_first = λ lt. refl;
       line_last = λ lt. (refl, refl);
     })
@@ -210,42 +318,75 @@ grows_of (Some old) None more h = absurd h
 grows_of (Some old) (Some new) more h = h
 
 -- a fault of the sink
-pub exit_unput : (rules : Rules) (max_frames : ℕ) (old cur new : Ports PlainStep MetricsRecord) (count : ℕ) (kept kept' : Option (Kept Material Denial)) (moment moment' : Option ℤ) (phase : Phase) (line line' : LineView) (e : Event) (b : Bool) (n : ℕ)
-    (at : LoopAt rules max_frames old cur count kept moment phase line) → IsNext (stream rules) max_frames cur.left new.left at.past count e → IsThrough rules at.past e (state_of kept cur) (state_of kept' new) b
-    → IsLined rules at.past e count moment' kept' line' → Appends cur.held new.held (take n (decimal (count + 1) ++ line'.text)) → Followed (stream rules) (outputs rules) max_frames old new WriteFault
+pub exit_unput : (rules : Rules) (max_frames : ℕ) (old cur new : Ports PlainStep MetricsRecord)
+    (count : ℕ) (kept kept' : Option (Kept Material Denial)) (moment moment' : Option ℤ)
+    (phase : Phase) (line line' : LineView) (e : Event) (b : Bool) (n : ℕ)
+    (at : LoopAt rules max_frames old cur count kept moment phase line)
+    → IsNext (stream rules) max_frames cur.left new.left at.past count e
+    → IsThrough rules at.past e (state_of kept cur) (state_of kept' new) b
+    → IsLined rules at.past e count moment' kept' line'
+    → Appends cur.held new.held (take n (decimal (count + 1) ++ line'.text))
+    → Followed (stream rules) (outputs rules) max_frames old new WriteFault
 unfolding all_grown
-exit_unput rules max_frames old cur new count kept kept' moment moment' phase line line' e b n at next through lined put =
-    followed_unput (stream rules) (outputs rules) max_frames old cur new at.past count e at.so_far next through.none (record {
-      line = record { count = n; grows = grows_of cur.held new.held (take n ((outputs rules).line at.past e)) (subst (λ t. Appends cur.held new.held (take n t)) lined.text put); all = λ is. absurd cc };
-      steps = all_grown cur.steps new.steps ((outputs rules).steps at.past e) false through.went.steps_are;
-      records = all_grown cur.records new.records ((outputs rules).records at.past e) false through.went.records_are;
+exit_unput rules max_frames old cur new count kept kept' moment moment' phase line line' e b n at
+    next through lined put =
+    followed_unput (stream rules) (outputs rules) max_frames old cur new at.past count e at.so_far
+    next through.none (record {
+      line = record {
+        count = n;
+        grows = grows_of cur.held new.held (take n ((outputs rules).line at.past e))
+            (subst (λ t. Appends cur.held new.held (take n t)) lined.text put);
+        all = λ is. absurd cc;
+      };
+      steps = all_grown cur.steps new.steps ((outputs rules).steps at.past e) false
+          through.went.steps_are;
+      records = all_grown cur.records new.records ((outputs rules).records at.past e) false
+          through.went.records_are;
       steps_first = λ lt. refl;
       line_last = λ lt. (refl, refl);
     })
 
-added : (rules : Rules) (past : List Event) (e : Event) (cur new : Ports PlainStep MetricsRecord) (count : ℕ) (kept kept' : Option (Kept Material Denial)) (moment : Option ℤ) (line : LineView) (b : Bool) → IsThrough rules past e (state_of kept cur) (state_of kept' new) b
-    → IsLined rules past e count moment kept' line → Appends cur.held new.held (decimal (count + 1) ++ line.text) → AddsAll (outputs rules) past e cur new
+added : (rules : Rules) (past : List Event) (e : Event) (cur new : Ports PlainStep MetricsRecord)
+    (count : ℕ) (kept kept' : Option (Kept Material Denial)) (moment : Option ℤ) (line : LineView)
+    (b : Bool) → IsThrough rules past e (state_of kept cur) (state_of kept' new) b
+    → IsLined rules past e count moment kept' line
+    → Appends cur.held new.held (decimal (count + 1) ++ line.text)
+    → AddsAll (outputs rules) past e cur new
 added rules past e cur new count kept kept' moment line b through lined put = record {
-  line = grows_of cur.held new.held ((outputs rules).line past e) (subst (Appends cur.held new.held) lined.text put);
+  line = grows_of cur.held new.held ((outputs rules).line past e)
+      (subst (Appends cur.held new.held) lined.text put);
   steps = through.went.steps_are;
   records = through.went.records_are;
 }
 
 -- a close
-exit_closed : (rules : Rules) (max_frames : ℕ) (old cur new : Ports PlainStep MetricsRecord) (count : ℕ) (kept kept' : Option (Kept Material Denial)) (moment moment' : Option ℤ) (phase : Phase) (line line' : LineView) (e : Event) (b : Bool)
-    (at : LoopAt rules max_frames old cur count kept moment phase line) → IsNext (stream rules) max_frames cur.left new.left at.past count e → IsThrough rules at.past e (state_of kept cur) (state_of kept' new) b
-    → IsLined rules at.past e count moment' kept' line' → Appends cur.held new.held (decimal (count + 1) ++ line'.text) → closes (map_item context_in e) ≡ true → Followed (stream rules) (outputs rules) max_frames old new (Whole (count + 1))
-exit_closed rules max_frames old cur new count kept kept' moment moment' phase line line' e b at next through lined put closed =
-    followed_closed (stream rules) (outputs rules) max_frames old cur new at.past count e (Whole (count + 1)) at.so_far next through.none (closes-map_item context_in e ∙ closed)
+exit_closed : (rules : Rules) (max_frames : ℕ) (old cur new : Ports PlainStep MetricsRecord)
+    (count : ℕ) (kept kept' : Option (Kept Material Denial)) (moment moment' : Option ℤ)
+    (phase : Phase) (line line' : LineView) (e : Event) (b : Bool)
+    (at : LoopAt rules max_frames old cur count kept moment phase line)
+    → IsNext (stream rules) max_frames cur.left new.left at.past count e
+    → IsThrough rules at.past e (state_of kept cur) (state_of kept' new) b
+    → IsLined rules at.past e count moment' kept' line'
+    → Appends cur.held new.held (decimal (count + 1) ++ line'.text)
+    → closes (map_item context_in e) ≡ true
+    → Followed (stream rules) (outputs rules) max_frames old new (Whole (count + 1))
+exit_closed rules max_frames old cur new count kept kept' moment moment' phase line line' e b at
+    next through lined put closed =
+    followed_closed (stream rules) (outputs rules) max_frames old cur new at.past count e
+    (Whole (count + 1)) at.so_far next through.none (closes-map_item context_in e ∙ closed)
     (added rules at.past e cur new count kept kept' moment' line' b through lined put)
-    (sym (ap (λ x. cond x (Whole (count + 1)) NeverSynced) (synced_close rules at.past e (closes-map_item context_in e ∙ closed) through.none)))
+    (sym (ap (λ x. cond x (Whole (count + 1)) NeverSynced)
+    (synced_close rules at.past e (closes-map_item context_in e ∙ closed) through.none)))
   where
-    synced_past : (rules : Rules) (past : List Event) (b : Bool) → has_synced (subject rules) past ≡ b → cond b None (Some terminal.Closed) ≡ None → b ≡ true
+    synced_past : (rules : Rules) (past : List Event) (b : Bool)
+        → has_synced (subject rules) past ≡ b → cond b None (Some terminal.Closed) ≡ None → b ≡ true
     synced_past rules past true is none = refl
     synced_past rules past false is none = absurd cc
 
-    synced_close : (rules : Rules) (past : List Event) (e : Event) → closes e ≡ true → (stream rules).refusal past e ≡ None → has_synced (subject rules) (e ∷ past) ≡ true
-    synced_close rules past events.Close is none = synced_past rules past (has_synced (subject rules) past) refl none
+    synced_close : (rules : Rules) (past : List Event) (e : Event) → closes e ≡ true
+        → (stream rules).refusal past e ≡ None → has_synced (subject rules) (e ∷ past) ≡ true
+    synced_close rules past events.Close is none =
+        synced_past rules past (has_synced (subject rules) past) refl none
     synced_close rules past events.ClientMade is none = absurd cc
     synced_close rules past (events.ClientFailed x) is none = absurd cc
     synced_close rules past events.Connected is none = absurd cc
@@ -256,74 +397,162 @@ exit_closed rules max_frames old cur new count kept kept' moment moment' phase l
     synced_close rules past (events.Moment x) is none = absurd cc
 
 -- on to the next event
-loop_goes : (rules : Rules) (max_frames : ℕ) (old cur new : Ports PlainStep MetricsRecord) (count : ℕ) (kept kept' : Option (Kept Material Denial)) (moment moment' : Option ℤ) (phase phase' : Phase) (line line' : LineView) (e : Event) (b : Bool)
-    (at : LoopAt rules max_frames old cur count kept moment phase line) → IsNext (stream rules) max_frames cur.left new.left at.past count e → IsThrough rules at.past e (state_of kept cur) (state_of kept' new) b
-    → IsLined rules at.past e count moment' kept' line' → Appends cur.held new.held (decimal (count + 1) ++ line'.text) → closes (map_item context_in e) ≡ false → phase' ≡ asked_by (λ o. o) phase (is_some kept) (map_item context_in e)
+loop_goes : (rules : Rules) (max_frames : ℕ) (old cur new : Ports PlainStep MetricsRecord)
+    (count : ℕ) (kept kept' : Option (Kept Material Denial)) (moment moment' : Option ℤ)
+    (phase phase' : Phase) (line line' : LineView) (e : Event) (b : Bool)
+    (at : LoopAt rules max_frames old cur count kept moment phase line)
+    → IsNext (stream rules) max_frames cur.left new.left at.past count e
+    → IsThrough rules at.past e (state_of kept cur) (state_of kept' new) b
+    → IsLined rules at.past e count moment' kept' line'
+    → Appends cur.held new.held (decimal (count + 1) ++ line'.text)
+    → closes (map_item context_in e) ≡ false
+    → phase' ≡ asked_by (λ o. o) phase (is_some kept) (map_item context_in e)
     → LoopAt rules max_frames old new (count + 1) kept' moment' phase' line'
-loop_goes rules max_frames old cur new count kept kept' moment moment' phase phase' line line' e b at next through lined put going asks = record {
-  past = e ∷ at.past;
-  so_far = goes_on (stream rules) (outputs rules) max_frames old cur new at.past count e at.so_far next through.none (closes-map_item context_in e ∙ going) (added rules at.past e cur new count kept kept' moment' line' b through lined put);
-  at = lined.at;
-  asks = (λ i. asked_by context_in (at.asks i) (synced_at (subject rules) at.past moment kept at.at i) e) ∙ asked-map_item context_in phase (is_some kept) e ∙ sym asks;
-  line_is = lined.line_is;
-}
+loop_goes rules max_frames old cur new count kept kept' moment moment' phase phase' line line' e b
+    at next through lined put going asks = record {
+      past = e ∷ at.past;
+      so_far = goes_on (stream rules) (outputs rules) max_frames old cur new at.past count e
+          at.so_far
+          next through.none (closes-map_item context_in e ∙ going)
+          (added rules at.past e cur new count kept kept' moment' line' b through lined put);
+      at = lined.at;
+      asks = (λ i.
+          asked_by context_in (at.asks i) (synced_at (subject rules) at.past moment kept at.at i) e)
+          ∙ asked-map_item context_in phase (is_some kept) e ∙ sym asks;
+      line_is = lined.line_is;
+    }
 
 -- ---- a turn, as the loop has it
 
-received_turn : (rules : Rules) (kept : Option (Kept Material Denial)) (moment : Option ℤ) (synced : Bool) (received b : Received) (turn : Turn) → synced ≡ is_some kept → received ≡ b
-    → IsTurn (received_refusal rules.deadline synced received) (received_outcome rules synced moment received) (received_records synced rules.limits received) turn
-    → IsTurn (refusal_by rules.deadline (is_some kept) b) (outcome_with (subject_by (λ o. o) rules) (is_some kept) moment b) (records_by (λ o. o) (is_some kept) rules.limits b) turn
+received_turn : (rules : Rules) (kept : Option (Kept Material Denial)) (moment : Option ℤ)
+    (synced : Bool) (received b : Received) (turn : Turn) → synced ≡ is_some kept → received ≡ b
+    → IsTurn (received_refusal rules.deadline synced received)
+    (received_outcome rules synced moment received) (received_records synced rules.limits received)
+    turn
+    → IsTurn (refusal_by rules.deadline (is_some kept) b)
+    (outcome_with (subject_by (λ o. o) rules) (is_some kept) moment b)
+    (records_by (λ o. o) (is_some kept) rules.limits b) turn
 received_turn rules kept moment synced received b turn began same h =
-    subst (λ r. IsTurn (refusal_by rules.deadline (is_some kept) r) (outcome_with (subject_by (λ o. o) rules) (is_some kept) moment r) (records_by (λ o. o) (is_some kept) rules.limits r) turn) same
-    (subst (λ x. IsTurn (received_refusal rules.deadline x received) (received_outcome rules x moment received) (received_records x rules.limits received) turn) began h)
+    subst (λ r.
+    IsTurn (refusal_by rules.deadline (is_some kept) r)
+    (outcome_with (subject_by (λ o. o) rules) (is_some kept) moment r)
+    (records_by (λ o. o) (is_some kept) rules.limits r) turn) same
+    (subst (λ x.
+    IsTurn (received_refusal rules.deadline x received) (received_outcome rules x moment received)
+    (received_records x rules.limits received) turn) began h)
 
 -- the turn that was taken went through
-pub went_through : (rules : Rules) (max_frames : ℕ) (old cur : Ports PlainStep MetricsRecord) (count : ℕ) (kept : Option (Kept Material Denial)) (moment : Option ℤ) (phase : Phase) (line : LineView) (after : Option (List ℕ)) (allowed : Bool) (received : Received)
-    (new : TurnState) (b synced : Bool) (turn : Turn) (at : LoopAt rules max_frames old cur count kept moment phase line) (read : IsEventRead rules at.past allowed cur.left after received)
-    → synced ≡ is_some kept → IsTurn (received_refusal rules.deadline synced received) (received_outcome rules synced moment received) (received_records synced rules.limits received) turn
-    → TurnTaken rules.limits turn (state_of kept cur) new (Ok b) → IsThrough rules at.past read.event (state_of kept cur) new b
-went_through rules max_frames old cur count kept moment phase line after allowed received new b synced turn at read began is taken =
+pub went_through : (rules : Rules) (max_frames : ℕ) (old cur : Ports PlainStep MetricsRecord)
+    (count : ℕ) (kept : Option (Kept Material Denial)) (moment : Option ℤ) (phase : Phase)
+    (line : LineView) (after : Option (List ℕ)) (allowed : Bool) (received : Received)
+    (new : TurnState) (b synced : Bool) (turn : Turn)
+    (at : LoopAt rules max_frames old cur count kept moment phase line)
+    (read : IsEventRead rules at.past allowed cur.left after received)
+    → synced ≡ is_some kept
+    → IsTurn (received_refusal rules.deadline synced received)
+    (received_outcome rules synced moment received) (received_records synced rules.limits received)
+    turn
+    → TurnTaken rules.limits turn (state_of kept cur) new (Ok b)
+    → IsThrough rules at.past read.event (state_of kept cur) new b
+went_through rules max_frames old cur count kept moment phase line after allowed received new b
+    synced turn at read began is taken =
     went material_equiv rules at.past moment read.event (state_of kept cur) new b turn at.at
-    (turn_at rules at.past moment kept read.event turn at.at (received_turn rules kept moment synced received (map_item context_in read.event) turn began read.is is)) taken
+    (turn_at rules at.past moment kept read.event turn at.at
+    (received_turn rules kept moment synced received (map_item context_in read.event) turn began
+    read.is is)) taken
 
 -- the turn that was taken ends the session
-pub exit_turn : (rules : Rules) (max_frames : ℕ) (old cur new : Ports PlainStep MetricsRecord) (count : ℕ) (kept kept' : Option (Kept Material Denial)) (moment : Option ℤ) (phase : Phase) (line : LineView) (allowed : Bool) (received : Received)
-    (x : FollowError) (synced : Bool) (turn : Turn) (at : LoopAt rules max_frames old cur count kept moment phase line) (read : IsEventRead rules at.past allowed cur.left new.left received) → IsNext (stream rules) max_frames cur.left new.left at.past count read.event
-    → synced ≡ is_some kept → IsTurn (received_refusal rules.deadline synced received) (received_outcome rules synced moment received) (received_records synced rules.limits received) turn
-    → new.held ≡ cur.held → TurnTaken rules.limits turn (state_of kept cur) (state_of kept' new) (Err x) → Followed (stream rules) (outputs rules) max_frames old new (end_for (Err x))
-exit_turn rules max_frames old cur new count kept kept' moment phase line allowed received x synced turn at read next began is held taken =
-    by_cases (ended_by material_equiv rules at.past moment read.event (state_of kept cur) (state_of kept' new) x turn at.at
-    (turn_at rules at.past moment kept read.event turn at.at (received_turn rules kept moment synced received (map_item context_in read.event) turn began read.is is)) taken)
+pub exit_turn : (rules : Rules) (max_frames : ℕ) (old cur new : Ports PlainStep MetricsRecord)
+    (count : ℕ) (kept kept' : Option (Kept Material Denial)) (moment : Option ℤ) (phase : Phase)
+    (line : LineView) (allowed : Bool) (received : Received)
+    (x : FollowError) (synced : Bool) (turn : Turn)
+    (at : LoopAt rules max_frames old cur count kept moment phase line)
+    (read : IsEventRead rules at.past allowed cur.left new.left received)
+    → IsNext (stream rules) max_frames cur.left new.left at.past count read.event
+    → synced ≡ is_some kept
+    → IsTurn (received_refusal rules.deadline synced received)
+    (received_outcome rules synced moment received) (received_records synced rules.limits received)
+    turn
+    → new.held ≡ cur.held
+    → TurnTaken rules.limits turn (state_of kept cur) (state_of kept' new) (Err x)
+    → Followed (stream rules) (outputs rules) max_frames old new (end_for (Err x))
+exit_turn rules max_frames old cur new count kept kept' moment phase line allowed received x synced
+    turn at read next began is held taken =
+    by_cases (ended_by material_equiv rules at.past moment read.event (state_of kept cur)
+    (state_of kept' new) x turn at.at
+    (turn_at rules at.past moment kept read.event turn at.at
+    (received_turn rules kept moment synced received (map_item context_in read.event) turn began
+    read.is is)) taken)
   where
-    by_cases : IsRefused rules at.past read.event (state_of kept cur) (state_of kept' new) x ⊎ IsStopped rules at.past read.event (state_of kept cur) (state_of kept' new) x → Followed (stream rules) (outputs rules) max_frames old new (end_for (Err x))
-    by_cases (inl refused) = exit_refused rules max_frames old cur new count kept kept' moment phase line read.event x at next held refused
-    by_cases (inr stopped) = exit_stopped rules max_frames old cur new count kept kept' moment phase line read.event x at next held stopped
+    by_cases : IsRefused rules at.past read.event (state_of kept cur) (state_of kept' new) x
+        ⊎ IsStopped rules at.past read.event (state_of kept cur) (state_of kept' new) x
+        → Followed (stream rules) (outputs rules) max_frames old new (end_for (Err x))
+    by_cases (inl refused) =
+        exit_refused rules max_frames old cur new count kept kept' moment phase line read.event x at
+        next held refused
+    by_cases (inr stopped) =
+        exit_stopped rules max_frames old cur new count kept kept' moment phase line read.event x at
+        next held stopped
 
 -- the line after a turn that went through
-pub lined_on : (rules : Rules) (max_frames : ℕ) (old cur : Ports PlainStep MetricsRecord) (count : ℕ) (kept : Option (Kept Material Denial)) (moment moment' : Option ℤ) (phase : Phase) (line line' : LineView) (after : Option (List ℕ)) (allowed : Bool) (received : Received)
-    (new : TurnState) (b : Bool) (at : LoopAt rules max_frames old cur count kept moment phase line) (read : IsEventRead rules at.past allowed cur.left after received)
-    → IsThrough rules at.past read.event (state_of kept cur) new b → moment' ≡ option_or (received_moment received) moment → IsShownAfter line line' new.kept b moment' → IsLined rules at.past read.event count moment' new.kept line'
-lined_on rules max_frames old cur count kept moment moment' phase line line' after allowed received new b at read through is shown =
-    let same : moment' ≡ option_or (moment_of (map_item context_in read.event)) moment = is ∙ ap (λ r. option_or (moment_of r) moment) read.is in
+pub lined_on : (rules : Rules) (max_frames : ℕ) (old cur : Ports PlainStep MetricsRecord)
+    (count : ℕ) (kept : Option (Kept Material Denial)) (moment moment' : Option ℤ) (phase : Phase)
+    (line line' : LineView) (after : Option (List ℕ)) (allowed : Bool) (received : Received)
+    (new : TurnState) (b : Bool) (at : LoopAt rules max_frames old cur count kept moment phase line)
+    (read : IsEventRead rules at.past allowed cur.left after received)
+    → IsThrough rules at.past read.event (state_of kept cur) new b
+    → moment' ≡ option_or (received_moment received) moment
+    → IsShownAfter line line' new.kept b moment'
+    → IsLined rules at.past read.event count moment' new.kept line'
+lined_on rules max_frames old cur count kept moment moment' phase line line' after allowed received
+    new b at read through is shown =
+    let same : moment' ≡ option_or (moment_of (map_item context_in read.event)) moment =
+    is ∙ ap (λ r. option_or (moment_of r) moment) read.is in
     subst (λ m. IsLined rules at.past read.event count m new.kept line') (sym same)
-    (lined material_equiv rules max_frames old cur count kept moment phase line line' read.event new b at through (subst (IsShownAfter line line' new.kept b) same shown))
+    (lined material_equiv rules max_frames old cur count kept moment phase line line' read.event new
+    b at through (subst (IsShownAfter line line' new.kept b) same shown))
 
 -- the same line
 line_same : (a b : LineView) → b.text ≡ a.text → b.shows_choice ≡ a.shows_choice → a ≡ b
 line_same a b text choice = λ i. record { text = sym text i; shows_choice = sym choice i }
 
 -- on to the next event, with the line that was put
-pub loop_on : (rules : Rules) (max_frames : ℕ) (old cur new : Ports PlainStep MetricsRecord) (count : ℕ) (kept kept' : Option (Kept Material Denial)) (moment moment' : Option ℤ) (phase phase' : Phase) (line line' put_line : LineView) (b synced : Bool) (received : Received)
-    (at : LoopAt rules max_frames old cur count kept moment phase line) (read : IsEventRead rules at.past (ltb count max_frames) cur.left new.left received) → IsThrough rules at.past read.event (state_of kept cur) (state_of kept' new) b
-    → IsLined rules at.past read.event count moment' kept' line' → Appends cur.held new.held (decimal (count + 1) ++ line'.text) → received_close received ≡ false → synced ≡ is_some kept → phase' ≡ received_ask phase synced received
-    → put_line.text ≡ line'.text → put_line.shows_choice ≡ line'.shows_choice → LoopAt rules max_frames old new (count + 1) kept' moment' phase' put_line
-loop_on rules max_frames old cur new count kept kept' moment moment' phase phase' line line' put_line b synced received at read through lined put going began asks text choice =
-    subst (λ l. LoopAt rules max_frames old new (count + 1) kept' moment' phase' l) (line_same line' put_line text choice)
-    (loop_goes rules max_frames old cur new count kept kept' moment moment' phase phase' line line' read.event b at (next_of rules max_frames old cur count kept moment phase line new.left received at read) through lined put
-    (ap closes (sym read.is) ∙ going) (asks ∙ ap (λ x. received_ask phase x received) began ∙ ap (received_ask phase (is_some kept)) read.is))
+pub loop_on : (rules : Rules) (max_frames : ℕ) (old cur new : Ports PlainStep MetricsRecord)
+    (count : ℕ) (kept kept' : Option (Kept Material Denial)) (moment moment' : Option ℤ)
+    (phase phase' : Phase) (line line' put_line : LineView) (b synced : Bool) (received : Received)
+    (at : LoopAt rules max_frames old cur count kept moment phase line)
+    (read : IsEventRead rules at.past (ltb count max_frames) cur.left new.left received)
+    → IsThrough rules at.past read.event (state_of kept cur) (state_of kept' new) b
+    → IsLined rules at.past read.event count moment' kept' line'
+    → Appends cur.held new.held (decimal (count + 1) ++ line'.text)
+    → received_close received ≡ false → synced ≡ is_some kept
+    → phase' ≡ received_ask phase synced received
+    → put_line.text ≡ line'.text → put_line.shows_choice ≡ line'.shows_choice
+    → LoopAt rules max_frames old new (count + 1) kept' moment' phase' put_line
+loop_on rules max_frames old cur new count kept kept' moment moment' phase phase' line line'
+    put_line b synced received at read through lined put going began asks text choice =
+    subst (λ l. LoopAt rules max_frames old new (count + 1) kept' moment' phase' l)
+    (line_same line' put_line text choice)
+    (loop_goes rules max_frames old cur new count kept kept' moment moment' phase phase' line line'
+    read.event b at
+    (next_of rules max_frames old cur count kept moment phase line new.left received at read)
+    through lined put
+    (ap closes (sym read.is) ∙ going)
+    (asks ∙ ap (λ x. received_ask phase x received) began
+    ∙ ap (received_ask phase (is_some kept)) read.is))
 
-pub exit_close : (rules : Rules) (max_frames : ℕ) (old cur new : Ports PlainStep MetricsRecord) (count : ℕ) (kept kept' : Option (Kept Material Denial)) (moment moment' : Option ℤ) (phase : Phase) (line line' : LineView) (b : Bool) (received : Received)
-    (at : LoopAt rules max_frames old cur count kept moment phase line) (read : IsEventRead rules at.past (ltb count max_frames) cur.left new.left received) → IsThrough rules at.past read.event (state_of kept cur) (state_of kept' new) b
-    → IsLined rules at.past read.event count moment' kept' line' → Appends cur.held new.held (decimal (count + 1) ++ line'.text) → received_close received ≡ true → Followed (stream rules) (outputs rules) max_frames old new (Whole (count + 1))
-exit_close rules max_frames old cur new count kept kept' moment moment' phase line line' b received at read through lined put closed =
-    exit_closed rules max_frames old cur new count kept kept' moment moment' phase line line' read.event b at (next_of rules max_frames old cur count kept moment phase line new.left received at read) through lined put (ap closes (sym read.is) ∙ closed)
+pub exit_close : (rules : Rules) (max_frames : ℕ) (old cur new : Ports PlainStep MetricsRecord)
+    (count : ℕ) (kept kept' : Option (Kept Material Denial)) (moment moment' : Option ℤ)
+    (phase : Phase) (line line' : LineView) (b : Bool) (received : Received)
+    (at : LoopAt rules max_frames old cur count kept moment phase line)
+    (read : IsEventRead rules at.past (ltb count max_frames) cur.left new.left received)
+    → IsThrough rules at.past read.event (state_of kept cur) (state_of kept' new) b
+    → IsLined rules at.past read.event count moment' kept' line'
+    → Appends cur.held new.held (decimal (count + 1) ++ line'.text) → received_close received ≡ true
+    → Followed (stream rules) (outputs rules) max_frames old new (Whole (count + 1))
+exit_close rules max_frames old cur new count kept kept' moment moment' phase line line' b received
+    at read through lined put closed =
+    exit_closed rules max_frames old cur new count kept kept' moment moment' phase line line'
+    read.event b at
+    (next_of rules max_frames old cur count kept moment phase line new.left received at read)
+    through lined put (ap closes (sym read.is) ∙ closed)

@@ -10,8 +10,10 @@ use Rattle.spf_x509.specs.Svid.{Svid}
 use Rattle.spf_x509.specs.Context.{Context}
 use Rattle.spf_api.specs.Refused.{Refused}
 use Rattle.spf_api.specs.declared.status.GrpcStatusCode.TheVariants as code
-use Rattle.spf_view.specs.Views.{View, Waiting, Withdrawn, Permitted, outcomes, view_of, revision_of, last_moment}
-use Rattle.spf_view.specs.Sessions.{TooLong, BadFrame, Refused as SessionRefused, NeverSynced, end_of, refusal_of, closed_of, onto}
+use Rattle.spf_view.specs.Views.{View, Waiting, Withdrawn, Permitted, outcomes, view_of}
+use Rattle.spf_view.specs.Views.{revision_of, last_moment}
+use Rattle.spf_view.specs.Sessions.{TooLong, BadFrame, Refused as SessionRefused, NeverSynced}
+use Rattle.spf_view.specs.Sessions.{end_of, refusal_of, closed_of, onto}
 use Rattle.spf_feed.specs.declared.event.SessionEvent.TheVariants as events
 use Rattle.spf_feed.specs.declared.phase.Phase.TheVariants as phases
 use Rattle.spf_feed.specs.declared.limits.LimitKind.TheVariants.{MaxSvids}
@@ -35,30 +37,59 @@ use Rattle.spf_feed.specs.Shown.{view_line, shown_text}
 
 -- an SVID with a chain of one octet, which expires at 1000
 abbrev svid_of : List ℕ → ℕ → Svid
-svid_of path octet = record { id = record { domain = codes "example.org"; path = path }; hint = None; chain = (octet ∷ []) ∷ []; key = []; expiry = pos 1000 }
+svid_of path octet = record {
+  id = record { domain = codes "example.org"; path = path };
+  hint = None;
+  chain = (octet ∷ []) ∷ [];
+  key = [];
+  expiry = pos 1000;
+}
 
 -- the SVIDs, and the authorities of example.org
 abbrev context_of : List Svid → List (List ℕ) → Context
-context_of svids authorities = record { svids = svids; bundles = (codes "example.org", record { domain = codes "example.org"; authorities = authorities }) ∷ []; crls = [] }
+context_of svids authorities = record {
+  svids = svids;
+  bundles = (
+    codes "example.org",
+    record { domain = codes "example.org"; authorities = authorities },
+  ) ∷ [];
+  crls = [];
+}
 
 abbrev one : Context
 one = context_of (svid_of (codes "/w") 1 ∷ []) ((2 ∷ []) ∷ [])
 
 abbrev shuffled : Context
-shuffled = context_of (svid_of (codes "/v") 1 ∷ svid_of (codes "/w") 3 ∷ []) ((4 ∷ []) ∷ (2 ∷ []) ∷ [])
+shuffled = context_of (svid_of (codes "/v") 1 ∷ svid_of (codes "/w") 3 ∷ [])
+    ((4 ∷ []) ∷ (2 ∷ []) ∷ [])
 
 abbrev reshuffled : Context
-reshuffled = context_of (svid_of (codes "/v") 1 ∷ svid_of (codes "/w") 3 ∷ []) ((2 ∷ []) ∷ (4 ∷ []) ∷ [])
+reshuffled =
+    context_of (svid_of (codes "/v") 1 ∷ svid_of (codes "/w") 3 ∷ []) ((2 ∷ []) ∷ (4 ∷ []) ∷ [])
 
 abbrev unlimited : ResourceLimits
-unlimited = record { max_svids = None; max_bundles = None; max_bundle_der_bytes = None; max_crl_bytes = None }
+unlimited = record {
+  max_svids = None;
+  max_bundles = None;
+  max_bundle_der_bytes = None;
+  max_crl_bytes = None;
+}
 
 abbrev rules : Rules
-rules = record { limits = unlimited; deadline = None; ready = readiness.Usable; pick = pick_of None }
+rules = record {
+  limits = unlimited;
+  deadline = None;
+  ready = readiness.Usable;
+  pick = pick_of None;
+}
 
 -- what is visible behind a history, its revision, and the last moment
 abbrev behind : List Received → View Material Denial × ℕ × Option ℤ
-behind past = (view_of (outcomes (subject_by (λ o. o) rules) past), revision_of same_material (outcomes (subject_by (λ o. o) rules) past), last_moment (subject_by (λ o. o) rules) past)
+behind past = (
+  view_of (outcomes (subject_by (λ o. o) rules) past),
+  revision_of same_material (outcomes (subject_by (λ o. o) rules) past),
+  last_moment (subject_by (λ o. o) rules) past,
+)
 
 -- a context with its first SVID chosen
 abbrev first_of : Context → Material
@@ -94,43 +125,58 @@ no_moment_yet : behind (events.Item (Some one) ∷ connected []) ≡ (Waiting, 0
 unfolding within
 no_moment_yet = refl
 
-denial : behind (events.ItemStatus denied ∷ connected (events.Item (Some one) ∷ synced)) ≡ (Withdrawn (denials.PermissionDenied (codes "no")), 1, Some (pos 999))
+denial : behind (events.ItemStatus denied ∷ connected (events.Item (Some one) ∷ synced))
+    ≡ (Withdrawn (denials.PermissionDenied (codes "no")), 1, Some (pos 999))
 unfolding within same_material
 denial = refl
 
-rejected_restores_nothing : behind (events.Item None ∷ connected (events.ItemStatus denied ∷ connected (events.Item (Some one) ∷ synced))) ≡ (Withdrawn (denials.PermissionDenied (codes "no")), 1, Some (pos 999))
+rejected_restores_nothing : behind
+    (events.Item None
+    ∷ connected (events.ItemStatus denied ∷ connected (events.Item (Some one) ∷ synced)))
+    ≡ (Withdrawn (denials.PermissionDenied (codes "no")), 1, Some (pos 999))
 unfolding within same_material
 rejected_restores_nothing = refl
 
-recovery : behind (events.Item (Some one) ∷ connected (events.ItemStatus denied ∷ connected (events.Item (Some one) ∷ synced))) ≡ (Permitted (first_of one), 2, Some (pos 999))
+recovery : behind
+    (events.Item (Some one)
+    ∷ connected (events.ItemStatus denied ∷ connected (events.Item (Some one) ∷ synced)))
+    ≡ (Permitted (first_of one), 2, Some (pos 999))
 unfolding within same_material
 recovery = refl
 
-unavailable_keeps : behind (events.ItemStatus unavailable ∷ connected (events.Item (Some one) ∷ synced)) ≡ (Permitted (first_of one), 0, Some (pos 999))
+unavailable_keeps : behind
+    (events.ItemStatus unavailable ∷ connected (events.Item (Some one) ∷ synced))
+    ≡ (Permitted (first_of one), 0, Some (pos 999))
 unfolding within same_material
 unavailable_keeps = refl
 
-client_failure_keeps : behind (events.ClientFailed (fault.Status denied) ∷ events.Item (Some one) ∷ synced) ≡ (Permitted (first_of one), 0, Some (pos 999))
+client_failure_keeps : behind
+    (events.ClientFailed (fault.Status denied) ∷ events.Item (Some one) ∷ synced)
+    ≡ (Permitted (first_of one), 0, Some (pos 999))
 unfolding within same_material
 client_failure_keeps = refl
 
-reshuffled_material : behind (events.Item (Some reshuffled) ∷ events.Item (Some shuffled) ∷ synced) ≡ (Permitted (first_of reshuffled), 0, Some (pos 999))
+reshuffled_material : behind (events.Item (Some reshuffled) ∷ events.Item (Some shuffled) ∷ synced)
+    ≡ (Permitted (first_of reshuffled), 0, Some (pos 999))
 unfolding within same_material id_text
 reshuffled_material = refl
 
-other_material : behind (events.Item (Some shuffled) ∷ events.Item (Some one) ∷ synced) ≡ (Permitted (first_of shuffled), 1, Some (pos 999))
+other_material : behind (events.Item (Some shuffled) ∷ events.Item (Some one) ∷ synced)
+    ≡ (Permitted (first_of shuffled), 1, Some (pos 999))
 unfolding within same_material id_text
 other_material = refl
 
 -- ---- lines
 
-authorities_in_order : in_order (slice_cmp nat_cmp) ((4 ∷ []) ∷ (2 ∷ 9 ∷ []) ∷ (2 ∷ []) ∷ []) ≡ (2 ∷ []) ∷ (2 ∷ 9 ∷ []) ∷ (4 ∷ []) ∷ []
+authorities_in_order : in_order (slice_cmp nat_cmp) ((4 ∷ []) ∷ (2 ∷ 9 ∷ []) ∷ (2 ∷ []) ∷ [])
+    ≡ (2 ∷ []) ∷ (2 ∷ 9 ∷ []) ∷ (4 ∷ []) ∷ []
 authorities_in_order = refl
 
 expires_at_its_moment : usable (chosen_of (first_of one)) (Some (pos 1000)) ≡ None
 expires_at_its_moment = refl
 
-usable_before_it : usable (chosen_of (first_of one)) (Some (pos 999)) ≡ Some (svid_of (codes "/w") 1)
+usable_before_it : usable (chosen_of (first_of one)) (Some (pos 999))
+    ≡ Some (svid_of (codes "/w") 1)
 usable_before_it = refl
 
 waiting_line : shown_text Waiting 7 None ≡ codes " waiting\n"
@@ -155,7 +201,8 @@ first_item_asks_client : asked_after (events.Item (Some one) ∷ synced) ≡ pha
 unfolding within
 first_item_asks_client = refl
 
-later_item_asks_next : asked_after (events.Item (Some one) ∷ connected (events.Item (Some one) ∷ synced)) ≡ phases.Next
+later_item_asks_next : asked_after
+    (events.Item (Some one) ∷ connected (events.Item (Some one) ∷ synced)) ≡ phases.Next
 unfolding within
 later_item_asks_next = refl
 
@@ -164,19 +211,24 @@ item_needs_a_connection = refl
 
 -- ---- ends
 
-short_frame : end_of (stream_by (λ (o : Option Context). o) (λ b. None) rules) 1000000 (events.Moment (pos 999) ∷ events.ClientMade ∷ events.Connected ∷ []) (5 ∷ 0 ∷ 0 ∷ []) ≡ BadFrame 4
+short_frame : end_of (stream_by (λ (o : Option Context). o) (λ b. None) rules) 1000000
+    (events.Moment (pos 999) ∷ events.ClientMade ∷ events.Connected ∷ []) (5 ∷ 0 ∷ 0 ∷ [])
+    ≡ BadFrame 4
 unfolding refusal_of closed_of onto
 short_frame = refl
 
-frame_bound : end_of (stream_by (λ (o : Option Context). o) (λ b. None) rules) 3 (events.Moment (pos 0) ∷ events.ClientMade ∷ events.Connected ∷ []) (5 ∷ []) ≡ TooLong
+frame_bound : end_of (stream_by (λ (o : Option Context). o) (λ b. None) rules) 3
+    (events.Moment (pos 0) ∷ events.ClientMade ∷ events.Connected ∷ []) (5 ∷ []) ≡ TooLong
 unfolding refusal_of closed_of onto
 frame_bound = refl
 
-closed_at_the_bound : end_of (stream_by (λ (o : Option Context). o) (λ b. None) rules) 3 (events.ClientMade ∷ events.Connected ∷ events.Close ∷ []) [] ≡ SessionRefused terminal.Closed
+closed_at_the_bound : end_of (stream_by (λ (o : Option Context). o) (λ b. None) rules) 3
+    (events.ClientMade ∷ events.Connected ∷ events.Close ∷ []) [] ≡ SessionRefused terminal.Closed
 unfolding refusal_of closed_of onto
 closed_at_the_bound = refl
 
-never_synced : end_of (stream_by (λ (o : Option Context). o) (λ b. None) rules) 9 (events.ClientMade ∷ []) [] ≡ NeverSynced
+never_synced : end_of (stream_by (λ (o : Option Context). o) (λ b. None) rules) 9
+    (events.ClientMade ∷ []) [] ≡ NeverSynced
 unfolding refusal_of closed_of onto
 never_synced = refl
 
@@ -194,7 +246,8 @@ before_the_deadline = refl
 
 -- ---- payloads, limits, records
 
-moment_payload : event_at (λ b. Some b) 8 (0 ∷ 0 ∷ 0 ∷ 0 ∷ 0 ∷ 0 ∷ 3 ∷ 231 ∷ []) ≡ Some (events.Moment (pos 999))
+moment_payload : event_at (λ b. Some b) 8 (0 ∷ 0 ∷ 0 ∷ 0 ∷ 0 ∷ 0 ∷ 3 ∷ 231 ∷ [])
+    ≡ Some (events.Moment (pos 999))
 unfolding event_at moment_at
 moment_payload = refl
 
@@ -210,13 +263,26 @@ close_holds_nothing : event_at (λ b. Some b) 9 (0 ∷ []) ≡ None
 unfolding event_at
 close_holds_nothing = refl
 
-limit_itself : within (record { max_svids = Some 1; max_bundles = None; max_bundle_der_bytes = None; max_crl_bytes = None }) one ≡ Ok tt
+limit_itself : within
+    (record {
+      max_svids = Some 1;
+      max_bundles = None;
+      max_bundle_der_bytes = None;
+      max_crl_bytes = None;
+    }) one ≡ Ok tt
 unfolding within
 limit_itself = refl
 
-above_the_limit : within (record { max_svids = Some 0; max_bundles = None; max_bundle_der_bytes = None; max_crl_bytes = None }) one ≡ Err (record { kind = MaxSvids; limit = 0; actual = 1 })
+above_the_limit : within
+    (record {
+      max_svids = Some 0;
+      max_bundles = None;
+      max_bundle_der_bytes = None;
+      max_crl_bytes = None;
+    }) one ≡ Err (record { kind = MaxSvids; limit = 0; actual = 1 })
 unfolding within
 above_the_limit = refl
 
-rejected_item_is_recorded : records_by (λ (o : Option Context). o) true unlimited (events.Item None) ≡ records.Error kinds.StreamError ∷ records.Reconnect ∷ []
+rejected_item_is_recorded : records_by (λ (o : Option Context). o) true unlimited (events.Item None)
+    ≡ records.Error kinds.StreamError ∷ records.Reconnect ∷ []
 rejected_item_is_recorded = refl

@@ -1,8 +1,11 @@
 -- A turn that was taken does what its event gives.
-use Rattle.std.proofs.Common.{◌≡◌, Bool, true, false, not, cond, List, [], ◌∷◌, Option, None, Some, Ok, Err, inl, inr, refl, sym, ap, ◌∙◌, subst}
+use Rattle.std.proofs.Common.{◌≡◌, Bool, true, false, not, cond, List, [], ◌∷◌, Option, None, Some}
+use Rattle.std.proofs.Common.{Ok, Err, inl, inr, refl, sym, ap, ◌∙◌, subst}
 use Rattle.std.specs.Prelude.{ℤ, is_some, ◌⊎◌}
 use Rattle.std.specs.Cmp.{IsEquivalence}
-use Rattle.spf_view.specs.Views.{View, Waiting, Withdrawn, Permitted, Outcome, Accepted, Denied, Passed, has_synced, outcome, outcomes, outcome_with, view_of, same_view}
+use Rattle.spf_view.specs.Views.{View, Waiting, Withdrawn, Permitted, Outcome, Accepted, Denied}
+use Rattle.spf_view.specs.Views.{Passed, has_synced, outcome, outcomes, outcome_with, view_of}
+use Rattle.spf_view.specs.Views.{same_view}
 use Rattle.spf_view.specs.Steps.{Accept, Deny, step_in}
 use Rattle.spf_view.specs.Standing.{Kept, is_change}
 use Rattle.spf_view.specs.Keeping.{IsAt, SeenAs}
@@ -21,29 +24,53 @@ use Rattle.spf_feed.specs.Items.{Event, Rules, subject, subject_by, context_in}
 use Rattle.spf_feed.specs.Run.{stream, outputs, refusal_by, records_by, records_in, update_records}
 use Rattle.spf_feed.specs.Steps.{Material, PlainStep, same_material}
 use Rattle.spf_feed.specs.Turns.{IsTurn}
-use Rattle.spf_feed.specs.Following.{answer_to, change_of, update_of, TurnState, WentThrough, StoppedShort, TurnTaken}
+use Rattle.spf_feed.specs.Following.{answer_to, change_of, update_of, TurnState, WentThrough}
+use Rattle.spf_feed.specs.Following.{StoppedShort, TurnTaken}
 use Rattle.spf_feed.proofs.TurnLemmas.{outcome-map_item, refusal-map_item, records-map_item}
 
 -- the turn is that of the event after the history
-pub turn_at : (rules : Rules) (past : List Event) (now : Option ℤ) (kept : Option (Kept Material Denial)) (e : Event) (turn : Turn) → IsAt (subject rules) past now kept
-    → IsTurn (refusal_by rules.deadline (is_some kept) (map_item context_in e)) (outcome_with (subject_by (λ o. o) rules) (is_some kept) now (map_item context_in e)) (records_by (λ o. o) (is_some kept) rules.limits (map_item context_in e)) turn
-    → IsTurn ((stream rules).refusal past e) (outcome (subject rules) e past) (records_by context_in (has_synced (subject rules) past) rules.limits e) turn
+pub turn_at : (rules : Rules) (past : List Event) (now : Option ℤ)
+    (kept : Option (Kept Material Denial)) (e : Event) (turn : Turn)
+    → IsAt (subject rules) past now kept
+    → IsTurn (refusal_by rules.deadline (is_some kept) (map_item context_in e))
+    (outcome_with (subject_by (λ o. o) rules) (is_some kept) now (map_item context_in e))
+    (records_by (λ o. o) (is_some kept) rules.limits (map_item context_in e)) turn
+    → IsTurn ((stream rules).refusal past e) (outcome (subject rules) e past)
+    (records_by context_in (has_synced (subject rules) past) rules.limits e) turn
 turn_at rules past now kept e turn at h =
     let synced = synced_at (subject rules) past now kept at in
-    let refusal : (stream rules).refusal past e ≡ refusal_by rules.deadline (is_some kept) (map_item context_in e) = ap (λ b. refusal_by rules.deadline b e) synced ∙ refusal-map_item context_in rules.deadline (is_some kept) e in
-    let becomes : outcome (subject rules) e past ≡ outcome_with (subject_by (λ o. o) rules) (is_some kept) now (map_item context_in e) = outcome_at (subject rules) past now kept e at ∙ outcome-map_item context_in rules (is_some kept) now e in
-    let recorded : records_by context_in (has_synced (subject rules) past) rules.limits e ≡ records_by (λ o. o) (is_some kept) rules.limits (map_item context_in e) = ap (λ b. records_by context_in b rules.limits e) synced ∙ records-map_item context_in (is_some kept) rules.limits e in
-    subst (λ r. IsTurn r (outcome (subject rules) e past) (records_by context_in (has_synced (subject rules) past) rules.limits e) turn) (sym refusal)
-    (subst (λ o. IsTurn (refusal_by rules.deadline (is_some kept) (map_item context_in e)) o (records_by context_in (has_synced (subject rules) past) rules.limits e) turn) (sym becomes)
-    (subst (λ t. IsTurn (refusal_by rules.deadline (is_some kept) (map_item context_in e)) (outcome_with (subject_by (λ o. o) rules) (is_some kept) now (map_item context_in e)) t turn) (sym recorded) h))
+    let refusal : (stream rules).refusal past e
+    ≡ refusal_by rules.deadline (is_some kept) (map_item context_in e) =
+    ap (λ b. refusal_by rules.deadline b e) synced
+    ∙ refusal-map_item context_in rules.deadline (is_some kept) e in
+    let becomes : outcome (subject rules) e past
+    ≡ outcome_with (subject_by (λ o. o) rules) (is_some kept) now (map_item context_in e) =
+    outcome_at (subject rules) past now kept e at
+    ∙ outcome-map_item context_in rules (is_some kept) now e in
+    let recorded : records_by context_in (has_synced (subject rules) past) rules.limits e
+    ≡ records_by (λ o. o) (is_some kept) rules.limits (map_item context_in e) =
+    ap (λ b. records_by context_in b rules.limits e) synced
+    ∙ records-map_item context_in (is_some kept) rules.limits e in
+    subst (λ r.
+    IsTurn r (outcome (subject rules) e past)
+    (records_by context_in (has_synced (subject rules) past) rules.limits e) turn) (sym refusal)
+    (subst (λ o.
+    IsTurn (refusal_by rules.deadline (is_some kept) (map_item context_in e)) o
+    (records_by context_in (has_synced (subject rules) past) rules.limits e) turn) (sym becomes)
+    (subst (λ t.
+    IsTurn (refusal_by rules.deadline (is_some kept) (map_item context_in e))
+    (outcome_with (subject_by (λ o. o) rules) (is_some kept) now (map_item context_in e)) t turn)
+    (sym recorded) h))
 
 -- ---- the records of an accepted item
 
-update_is : (b : Bool) → cond (not b) [] (records.Update ∷ []) ≡ update_of (cond b change.Changed change.Unchanged)
+update_is : (b : Bool)
+    → cond (not b) [] (records.Update ∷ []) ≡ update_of (cond b change.Changed change.Unchanged)
 update_is true = refl
 update_is false = refl
 
-update_shown : (k w : View Material Denial) (m : Material) → SeenAs same_material k w → update_records w m ≡ cond (same_view same_material w (Permitted m)) [] (records.Update ∷ [])
+update_shown : (k w : View Material Denial) (m : Material) → SeenAs same_material k w
+    → update_records w m ≡ cond (same_view same_material w (Permitted m)) [] (records.Update ∷ [])
 update_shown k Waiting m h = absurd (waits k h)
   where
     waits : (v : View Material Denial) → SeenAs same_material v Waiting → ⊥
@@ -53,13 +80,18 @@ update_shown k Waiting m h = absurd (waits k h)
 update_shown k (Withdrawn d) m h = refl
 update_shown k (Permitted x) m h = refl
 
-update_at : (o : IsEquivalence same_material) (rules : Rules) (past : List Event) (now : Option ℤ) (kept : Option (Kept Material Denial)) (m : Material) → IsAt (subject rules) past now kept
-    → update_of (change_of kept (Accept m rules.limits)) ≡ update_records (view_of (outcomes (subject rules) past)) m
-update_at o rules past now None m at = ap (λ v. update_records v m) (sym (waiting_at (subject rules) past now at))
+update_at : (o : IsEquivalence same_material) (rules : Rules) (past : List Event) (now : Option ℤ)
+    (kept : Option (Kept Material Denial)) (m : Material) → IsAt (subject rules) past now kept
+    → update_of (change_of kept (Accept m rules.limits))
+    ≡ update_records (view_of (outcomes (subject rules) past)) m
+update_at o rules past now None m at =
+    ap (λ v. update_records v m) (sym (waiting_at (subject rules) past now at))
 update_at o rules past now (Some k) m at =
     let seen = view_at (subject rules) o past now k at in
     sym (update_is (is_change same_material k.view (Accept m rules.limits)))
-    ∙ ap (λ b. cond b [] (records.Update ∷ [])) (sym (update_seen same_material o k.view (view_of (outcomes (subject rules) past)) m rules.limits seen))
+    ∙ ap (λ b. cond b [] (records.Update ∷ []))
+    (sym (update_seen same_material o k.view (view_of (outcomes (subject rules) past)) m
+    rules.limits seen))
     ∙ sym (update_shown k.view (view_of (outcomes (subject rules) past)) m seen)
 
 -- ---- what was handed on
@@ -70,55 +102,104 @@ step_after rules past e = step_in rules.limits (outcome (subject rules) e past)
 
 -- the records, where this is what becomes of the event
 records_by_outcome : Rules → List Event → Event → Outcome Material Denial → List MetricsRecord
-records_by_outcome rules past e becomes = records_in context_in (has_synced (subject rules) past) rules.limits (view_of (outcomes (subject rules) past)) e becomes
+records_by_outcome rules past e becomes =
+    records_in context_in (has_synced (subject rules) past) rules.limits
+    (view_of (outcomes (subject rules) past)) e becomes
 
 -- a turn that went through
-pub record IsThrough (rules : Rules) (past : List Event) (e : Event) (old new : TurnState) (b : Bool) : Type 0 where
+pub record IsThrough (rules : Rules) (past : List Event) (e : Event) (old new : TurnState)
+    (b : Bool) : Type 0 where
   pub none : (stream rules).refusal past e ≡ None
   pub went : WentThrough (step_after rules past e) ((outputs rules).records past e) old new b
 
 -- what is handed on is what the outcome gives
-through : (rules : Rules) (past : List Event) (e : Event) (old new : TurnState) (b : Bool) (becomes : Outcome Material Denial) → outcome (subject rules) e past ≡ becomes → (stream rules).refusal past e ≡ None
-    → WentThrough (step_in rules.limits becomes) (records_by_outcome rules past e becomes) old new b → IsThrough rules past e old new b
+through : (rules : Rules) (past : List Event) (e : Event) (old new : TurnState) (b : Bool)
+    (becomes : Outcome Material Denial) → outcome (subject rules) e past ≡ becomes
+    → (stream rules).refusal past e ≡ None
+    → WentThrough (step_in rules.limits becomes) (records_by_outcome rules past e becomes) old new b
+    → IsThrough rules past e old new b
 unfolding records_by_outcome
-through rules past e old new b becomes same none h = record { none = none; went = subst (λ x. WentThrough (step_in rules.limits x) (records_by_outcome rules past e x) old new b) (sym same) h }
+through rules past e old new b becomes same none h = record {
+  none = none;
+  went = subst
+      (λ x. WentThrough (step_in rules.limits x) (records_by_outcome rules past e x) old new b)
+      (sym same) h;
+}
 
-pub went : (o : IsEquivalence same_material) (rules : Rules) (past : List Event) (now : Option ℤ) (e : Event) (old new : TurnState) (b : Bool) (turn : Turn) → IsAt (subject rules) past now old.kept
-    → IsTurn ((stream rules).refusal past e) (outcome (subject rules) e past) (records_by context_in (has_synced (subject rules) past) rules.limits e) turn → TurnTaken rules.limits turn old new (Ok b)
+pub went : (o : IsEquivalence same_material) (rules : Rules) (past : List Event) (now : Option ℤ)
+    (e : Event) (old new : TurnState) (b : Bool) (turn : Turn)
+    → IsAt (subject rules) past now old.kept
+    → IsTurn ((stream rules).refusal past e) (outcome (subject rules) e past)
+    (records_by context_in (has_synced (subject rules) past) rules.limits e) turn
+    → TurnTaken rules.limits turn old new (Ok b)
     → IsThrough rules past e old new b
 unfolding records_by_outcome
 went o rules past now e old new b (turns.Terminal end) at h taken = absurd cc
 went o rules past now e old new b (turns.Accepted context choice) at h taken =
     let m : Material = record { context = context; choice = choice } in
-    through rules past e old new b (Accepted m) h.1 h.0 (subst (λ l. WentThrough (Some (Accept m rules.limits)) l old new b) (update_at o rules past now old.kept m at) taken.1)
-went o rules past now e old new b (turns.Denied reason told) at h taken = through rules past e old new b (Denied reason) h.1 h.0 (subst (λ l. WentThrough (Some (Deny reason)) l old new b) h.2 taken.1)
-went o rules past now e old new b (turns.Passed told) at h taken = through rules past e old new b Passed h.1 h.0 (subst (λ l. WentThrough None l old new b) h.2 taken.1)
+    through rules past e old new b (Accepted m) h.1 h.0
+    (subst (λ l. WentThrough (Some (Accept m rules.limits)) l old new b)
+    (update_at o rules past now old.kept m at) taken.1)
+went o rules past now e old new b (turns.Denied reason told) at h taken =
+    through rules past e old new b (Denied reason) h.1 h.0
+    (subst (λ l. WentThrough (Some (Deny reason)) l old new b) h.2 taken.1)
+went o rules past now e old new b (turns.Passed told) at h taken =
+    through rules past e old new b Passed h.1 h.0
+    (subst (λ l. WentThrough None l old new b) h.2 taken.1)
 
 -- a turn that ended all: a refusal, with nothing handed on, or memory ran out
-pub record IsRefused (rules : Rules) (past : List Event) (e : Event) (old new : TurnState) (x : FollowError) : Type 0 where
+pub record IsRefused (rules : Rules) (past : List Event) (e : Event) (old new : TurnState)
+    (x : FollowError) : Type 0 where
   pub end : Terminal
   pub refused : (stream rules).refusal past e ≡ Some end
   pub answer : x ≡ answer_to end
   pub steps_same : new.steps ≡ old.steps
   pub records_same : new.records ≡ old.records
 
-pub record IsStopped (rules : Rules) (past : List Event) (e : Event) (old new : TurnState) (x : FollowError) : Type 0 where
+pub record IsStopped (rules : Rules) (past : List Event) (e : Event) (old new : TurnState)
+    (x : FollowError) : Type 0 where
   pub none : (stream rules).refusal past e ≡ None
   pub answer : x ≡ answers.OutOfMemory
   pub short : StoppedShort (step_after rules past e) ((outputs rules).records past e) old new
 
-stopped : (rules : Rules) (past : List Event) (e : Event) (old new : TurnState) (x : FollowError) (becomes : Outcome Material Denial) → outcome (subject rules) e past ≡ becomes → (stream rules).refusal past e ≡ None → x ≡ answers.OutOfMemory
-    → StoppedShort (step_in rules.limits becomes) (records_by_outcome rules past e becomes) old new → IsStopped rules past e old new x
+stopped : (rules : Rules) (past : List Event) (e : Event) (old new : TurnState) (x : FollowError)
+    (becomes : Outcome Material Denial) → outcome (subject rules) e past ≡ becomes
+    → (stream rules).refusal past e ≡ None → x ≡ answers.OutOfMemory
+    → StoppedShort (step_in rules.limits becomes) (records_by_outcome rules past e becomes) old new
+    → IsStopped rules past e old new x
 unfolding records_by_outcome
-stopped rules past e old new x becomes same none is h = record { none = none; answer = is; short = subst (λ y. StoppedShort (step_in rules.limits y) (records_by_outcome rules past e y) old new) (sym same) h }
+stopped rules past e old new x becomes same none is h = record {
+  none = none;
+  answer = is;
+  short = subst
+      (λ y. StoppedShort (step_in rules.limits y) (records_by_outcome rules past e y) old new)
+      (sym same) h;
+}
 
-pub ended_by : (o : IsEquivalence same_material) (rules : Rules) (past : List Event) (now : Option ℤ) (e : Event) (old new : TurnState) (x : FollowError) (turn : Turn) → IsAt (subject rules) past now old.kept
-    → IsTurn ((stream rules).refusal past e) (outcome (subject rules) e past) (records_by context_in (has_synced (subject rules) past) rules.limits e) turn → TurnTaken rules.limits turn old new (Err x)
+pub ended_by : (o : IsEquivalence same_material) (rules : Rules) (past : List Event)
+    (now : Option ℤ) (e : Event) (old new : TurnState) (x : FollowError) (turn : Turn)
+    → IsAt (subject rules) past now old.kept
+    → IsTurn ((stream rules).refusal past e) (outcome (subject rules) e past)
+    (records_by context_in (has_synced (subject rules) past) rules.limits e) turn
+    → TurnTaken rules.limits turn old new (Err x)
     → IsRefused rules past e old new x ⊎ IsStopped rules past e old new x
 unfolding records_by_outcome
-ended_by o rules past now e old new x (turns.Terminal end) at h taken = inl (record { end = end; refused = h; answer = cc; steps_same = taken.1; records_same = taken.2 })
+ended_by o rules past now e old new x (turns.Terminal end) at h taken =
+    inl (record {
+      end = end;
+      refused = h;
+      answer = cc;
+      steps_same = taken.1;
+      records_same = taken.2;
+    })
 ended_by o rules past now e old new x (turns.Accepted context choice) at h taken =
     let m : Material = record { context = context; choice = choice } in
-    inr (stopped rules past e old new x (Accepted m) h.1 h.0 taken.0 (subst (λ l. StoppedShort (Some (Accept m rules.limits)) l old new) (update_at o rules past now old.kept m at) taken.1))
-ended_by o rules past now e old new x (turns.Denied reason told) at h taken = inr (stopped rules past e old new x (Denied reason) h.1 h.0 taken.0 (subst (λ l. StoppedShort (Some (Deny reason)) l old new) h.2 taken.1))
-ended_by o rules past now e old new x (turns.Passed told) at h taken = inr (stopped rules past e old new x Passed h.1 h.0 taken.0 (subst (λ l. StoppedShort None l old new) h.2 taken.1))
+    inr (stopped rules past e old new x (Accepted m) h.1 h.0 taken.0
+    (subst (λ l. StoppedShort (Some (Accept m rules.limits)) l old new)
+    (update_at o rules past now old.kept m at) taken.1))
+ended_by o rules past now e old new x (turns.Denied reason told) at h taken =
+    inr (stopped rules past e old new x (Denied reason) h.1 h.0 taken.0
+    (subst (λ l. StoppedShort (Some (Deny reason)) l old new) h.2 taken.1))
+ended_by o rules past now e old new x (turns.Passed told) at h taken =
+    inr (stopped rules past e old new x Passed h.1 h.0 taken.0
+    (subst (λ l. StoppedShort None l old new) h.2 taken.1))

@@ -1,22 +1,30 @@
 -- Events, and the payloads that lay them out (see "Frames" in the README).
-use Rattle.std.specs.Prelude.{ℕ, ℤ, pos, ◌^◌, Bool, List, [], ◌∷◌, length, Option, None, Some, ◌==◌, nat_lt, true, false, if◌then◌else◌}
+use Rattle.std.specs.Prelude.{ℕ, ℤ, pos, ◌^◌, Bool, List, [], ◌∷◌, length, Option, None, Some, ◌==◌}
+use Rattle.std.specs.Prelude.{nat_lt, true, false, if◌then◌else◌}
 use Rattle.std.specs.Int.{w64, from_be_bytes}
 use Rattle.std.specs.Option.{option_map, option_and_then}
 unfoldable pub use Rattle.spf_frame.specs.Status.{text_at, status_at}
 use Rattle.spf_api.specs.declared.link.ClientFault.{ClientFault}
 use Rattle.spf_api.specs.declared.link.ClientFault.TheVariants as fault
-use Rattle.spf_frame.specs.declared.frame_kind.TheConstants.{CLIENT_MADE, CLIENT_FAILED, CONNECTED, CONNECT_STATUS, ITEM, ITEM_STATUS, STREAM_END, MOMENT, CLOSE}
+use Rattle.spf_frame.specs.declared.frame_kind.TheConstants.{CLIENT_MADE, CLIENT_FAILED, CONNECTED}
+use Rattle.spf_frame.specs.declared.frame_kind.TheConstants.{CONNECT_STATUS, ITEM, ITEM_STATUS}
+use Rattle.spf_frame.specs.declared.frame_kind.TheConstants.{STREAM_END, MOMENT, CLOSE}
 use Rattle.spf_feed.specs.declared.event.SessionEvent.{SessionEvent}
 use Rattle.spf_feed.specs.declared.event.SessionEvent.TheVariants as events
 
 -- a status, or the code octet 255 and a text
 unfoldable pub failure_at : List ℕ → Option ClientFault
 failure_at [] = None
-failure_at (n ∷ rest) = if n == 255 then option_map fault.Unreachable (text_at rest) else option_map fault.Status (status_at (n ∷ rest))
+failure_at (n ∷ rest) =
+    if n == 255 then option_map fault.Unreachable (text_at rest)
+    else option_map fault.Status (status_at (n ∷ rest))
 
 -- eight octets of Unix seconds, from 0 to 2^63 - 1
 unfoldable pub moment_at : List ℕ → Option ℤ
-moment_at payload = if length payload == 8 then (if nat_lt (from_be_bytes w64 payload) (2 ^ 63) then Some (pos (from_be_bytes w64 payload)) else None) else None
+moment_at payload =
+    if length payload == 8
+    then (if nat_lt (from_be_bytes w64 payload) (2 ^ 63) then Some (pos (from_be_bytes w64 payload))
+    else None) else None
 
 -- an event without a payload
 abbrev pub when_empty : {E : Type 0} → List ℕ → E → Option E

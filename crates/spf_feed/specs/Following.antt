@@ -1,5 +1,6 @@
 -- How a session ends.
-use Rattle.std.specs.Prelude.{◌≡◌, ℕ, ◌+◌, ℤ, ◌≤◌, ◌<◌, Bool, true, false, IsTrue, List, [], ◌∷◌, length, Option, None, Some, Result, Ok, Err, IfErr, if◌then◌else◌}
+use Rattle.std.specs.Prelude.{◌≡◌, ℕ, ◌+◌, ℤ, ◌≤◌, ◌<◌, Bool, true, false, IsTrue, List, [], ◌∷◌}
+use Rattle.std.specs.Prelude.{length, Option, None, Some, Result, Ok, Err, IfErr, if◌then◌else◌}
 use Rattle.std.specs.Option.{option_to_list}
 use Rattle.std.specs.Io.KnownBytes.{Consumes, IsAtEnd}
 use Rattle.spf_io.specs.Outside.{Rose}
@@ -58,7 +59,8 @@ pub record FailuresHaveCauses (old new : FailureCounts) (r : Result ℕ FollowEr
 -- ---- reading an event
 
 -- the event that was read, after a history, as it is received
-pub record IsEventRead (rules : Rules) (past : List Event) (allowed : Bool) (old new : Option (List ℕ)) (received : Received) : Type 0 where
+pub record IsEventRead (rules : Rules) (past : List Event) (allowed : Bool)
+    (old new : Option (List ℕ)) (received : Received) : Type 0 where
   pub leave : IsTrue allowed
   pub event : Event
   pub front : List ℕ
@@ -67,7 +69,8 @@ pub record IsEventRead (rules : Rules) (past : List Event) (allowed : Bool) (old
   pub is : received ≡ map_item context_in event
 
 -- why no event was read, and what was taken
-abbrev pub IsEventUnread : Rules → List Event → Bool → Option (List ℕ) → Option (List ℕ) → FrameError → Type 0
+abbrev pub IsEventUnread : Rules → List Event → Bool → Option (List ℕ) → Option (List ℕ)
+    → FrameError → Type 0
 IsEventUnread rules past = Unread ((stream rules).allows past) (NoFrameAt (stream rules) past)
 
 -- the error that a session ends with, where no event was read after `count` of them
@@ -77,9 +80,11 @@ error_at count errors.BadFrame = answers.BadFrame (count + 1)
 error_at count errors.ReadFault = answers.ReadFault
 error_at count errors.OutOfMemory = answers.OutOfMemory
 
-abbrev pub EventRead : Rules → List Event → Bool → Option (List ℕ) → Option (List ℕ) → Result (Option Received) FrameError → Type 0
+abbrev pub EventRead : Rules → List Event → Bool → Option (List ℕ) → Option (List ℕ)
+    → Result (Option Received) FrameError → Type 0
 EventRead rules past allowed old new (Ok None) = Consumes old new [] × IsAtEnd old
-EventRead rules past allowed old new (Ok (Some received)) = IsEventRead rules past allowed old new received
+EventRead rules past allowed old new (Ok (Some received)) =
+    IsEventRead rules past allowed old new received
 EventRead rules past allowed old new (Err e) = IsEventUnread rules past allowed old new e
 
 -- an event is read, or a bad frame is reported, only where a frame is allowed
@@ -94,14 +99,16 @@ OnlyAllowed allowed (Err errors.OutOfMemory) = Unit {0}
 -- ---- handing on
 
 -- the list is handed on, or a beginning of it where memory runs out
-abbrev pub HandsOn : {X T E : Type 0} → Option (List X) → Option (List X) → Result T E → List X → Type 0
+abbrev pub HandsOn : {X T E : Type 0} → Option (List X) → Option (List X) → Result T E → List X
+    → Type 0
 HandsOn old new (Ok done) more = Grows old new more
 HandsOn old new (Err e) more = GrowsUpTo old new more true
 
 -- what a step does to what is kept, where anything is
 abbrev pub change_of : Option (Kept Material Denial) → PlainStep → Change
 change_of None step = change.Opened
-change_of (Some kept) step = if is_change same_material kept.view step then change.Changed else change.Unchanged
+change_of (Some kept) step =
+    if is_change same_material kept.view step then change.Changed else change.Unchanged
 
 abbrev pub is_changed : Change → Bool
 is_changed change.Opened = true
@@ -119,14 +126,16 @@ abbrev pub changes_any : Option (Kept Material Denial) → Option PlainStep → 
 changes_any kept None = false
 changes_any kept (Some step) = is_changed (change_of kept step)
 
--- what a turn may change: what is kept, and what the publisher and the recorder hold, where they say so
+-- what a turn may change: what is kept, and what the
+-- publisher and the recorder hold, where they say so
 pub record TurnState : Type 0 where
   pub kept : Option (Kept Material Denial)
   pub steps : Option (List PlainStep)
   pub records : Option (List MetricsRecord)
 
 -- A turn with this step, where it has one, and these records went through.
-pub record WentThrough (step : Option PlainStep) (records : List MetricsRecord) (old new : TurnState) (changed : Bool) : Type 0 where
+pub record WentThrough (step : Option PlainStep) (records : List MetricsRecord)
+    (old new : TurnState) (changed : Bool) : Type 0 where
   pub steps_are : Grows old.steps new.steps (option_to_list step)
   pub records_are : Grows old.records new.records records
   pub kept_is : new.kept ≡ kept_with_any same_material old.kept step
@@ -134,12 +143,14 @@ pub record WentThrough (step : Option PlainStep) (records : List MetricsRecord) 
   pub changed_is : changed ≡ changes_any old.kept step
 
 -- Memory ran out over it: a record is handed on only after the step.
-pub record StoppedShort (step : Option PlainStep) (records : List MetricsRecord) (old new : TurnState) : Type 0 where
+pub record StoppedShort (step : Option PlainStep) (records : List MetricsRecord)
+    (old new : TurnState) : Type 0 where
   pub steps_are : GrowsUpTo old.steps new.steps (option_to_list step) true
   pub records_are : GrowsUpTo old.records new.records records true
   pub steps_first : 0 < records_are.count → steps_are.count ≡ length (option_to_list step)
 
-abbrev pub IsTaken : {E : Type 0} → Option PlainStep → List MetricsRecord → TurnState → TurnState → Result Bool E → Type 0
+abbrev pub IsTaken : {E : Type 0} → Option PlainStep → List MetricsRecord → TurnState → TurnState
+    → Result Bool E → Type 0
 IsTaken step records old new (Ok changed) = WentThrough step records old new changed
 IsTaken step records old new (Err e) = StoppedShort step records old new
 
@@ -147,15 +158,21 @@ IsTaken step records old new (Err e) = StoppedShort step records old new
 abbrev pub IsMemory : {T : Type 0} → Result T FollowError → Type 0
 IsMemory r = IfErr r (λ e. e ≡ answers.OutOfMemory)
 
--- an accepted context with its choice and limits is taken, and an update is recorded where something else is visible
+-- an accepted context with its choice and limits is taken,
+-- and an update is recorded where something else is visible
 abbrev pub IsAccepted : PlainStep → TurnState → TurnState → Result Bool FollowError → Type 0
-IsAccepted step old new r = IsMemory r × IsTaken (Some step) (update_of (change_of old.kept step)) old new r
+IsAccepted step old new r =
+    IsMemory r × IsTaken (Some step) (update_of (change_of old.kept step)) old new r
 
 -- What a turn does: a terminal one ends the session, and hands on nothing.
-abbrev pub TurnTaken : ResourceLimits → Turn → TurnState → TurnState → Result Bool FollowError → Type 0
-TurnTaken limits (turns.Terminal end) old new r = (r ≡ Err (answer_to end)) × (new.steps ≡ old.steps) × (new.records ≡ old.records)
-TurnTaken limits (turns.Accepted context choice) old new r = IsAccepted (Accept (record { context = context; choice = choice }) limits) old new r
-TurnTaken limits (turns.Denied reason list) old new r = IsMemory r × IsTaken (Some (Deny reason)) (listed list) old new r
+abbrev pub TurnTaken : ResourceLimits → Turn → TurnState → TurnState → Result Bool FollowError
+    → Type 0
+TurnTaken limits (turns.Terminal end) old new r =
+    (r ≡ Err (answer_to end)) × (new.steps ≡ old.steps) × (new.records ≡ old.records)
+TurnTaken limits (turns.Accepted context choice) old new r =
+    IsAccepted (Accept (record { context = context; choice = choice }) limits) old new r
+TurnTaken limits (turns.Denied reason list) old new r =
+    IsMemory r × IsTaken (Some (Deny reason)) (listed list) old new r
 TurnTaken limits (turns.Passed list) old new r = IsMemory r × IsTaken None (listed list) old new r
 
 -- ---- the line
@@ -166,6 +183,8 @@ IsLineOf line None now = line.text ≡ shown_text Waiting 0 None
 IsLineOf line (Some kept) now = ShowsKept kept now line
 
 -- a line is written anew where what is kept changed, or where the choice appears or expires
-abbrev pub IsShownAfter : LineView → LineView → Option (Kept Material Denial) → Bool → Option ℤ → Type 0
+abbrev pub IsShownAfter : LineView → LineView → Option (Kept Material Denial) → Bool → Option ℤ
+    → Type 0
 IsShownAfter old new None changed now = new ≡ old
-IsShownAfter old new (Some kept) changed now = (before : Option ℤ) → (changed ≡ false → ShowsKept kept before old) → ShowsKept kept now new
+IsShownAfter old new (Some kept) changed now = (before : Option ℤ)
+    → (changed ≡ false → ShowsKept kept before old) → ShowsKept kept now new

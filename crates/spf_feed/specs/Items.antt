@@ -1,5 +1,6 @@
 -- What an item of an X.509 session brings, and the rules of a session.
-use Rattle.std.specs.Prelude.{◌≡◌, IsErr, ℕ, ℤ, Bool, true, List, Option, None, Some, is_some, Result, Ok, Err}
+use Rattle.std.specs.Prelude.{◌≡◌, IsErr, ℕ, ℤ, Bool, true, List, Option, None, Some, is_some}
+use Rattle.std.specs.Prelude.{Result, Ok, Err}
 use Rattle.std.specs.Option.{option_map}
 use Rattle.spf_x509.specs.Svid.{Svid}
 use Rattle.spf_x509.specs.Context.{Context}
@@ -39,7 +40,8 @@ unfoldable pub context_in : ContextResponse → Option Context
 context_in r = value_of (parsed_of r)
 
 -- the context that was read, where memory did not run out
-abbrev pub IsReceived : {E : Type 0} → Result Context WorkloadApiError → Result (Option Context) E → Type 0
+abbrev pub IsReceived : {E : Type 0} → Result Context WorkloadApiError → Result (Option Context) E
+    → Type 0
 IsReceived (Ok context) r = r ≡ Ok (Some context)
 IsReceived (Err api.OutOfMemory) r = IsErr r
 IsReceived (Err e) r = r ≡ Ok None
@@ -58,7 +60,12 @@ pub record Rules : Type 0 where
 
 -- the rules of a session with a picker, where one is set
 abbrev pub rules_with : ResourceLimits → Option ℤ → Ready → Option (List Svid → Option ℕ) → Rules
-rules_with limits deadline ready picker = record { limits = limits; deadline = deadline; ready = ready; pick = pick_of picker }
+rules_with limits deadline ready picker = record {
+  limits = limits;
+  deadline = deadline;
+  ready = ready;
+  pick = pick_of picker;
+}
 
 -- a context with its choice
 abbrev pub picked : Rules → Context → Material
@@ -76,7 +83,8 @@ denial_in (api.PermissionDenied message) = Some (denial.PermissionDenied message
 denial_in _ = None
 
 -- the material of an item, where `read` gives its context
-abbrev pub item_material : {I : Type 0} → (I → Option Context) → Rules → SessionEvent I → Option Material
+abbrev pub item_material : {I : Type 0} → (I → Option Context) → Rules → SessionEvent I
+    → Option Material
 item_material read rules (events.Item i) = option_map (picked rules) (read i)
 item_material read rules _ = None
 
@@ -91,7 +99,8 @@ moment_of (events.Moment m) = Some m
 moment_of _ = None
 
 -- what the events of a session say, where `read` gives the context of an item
-abbrev pub subject_by : {I : Type 0} → (I → Option Context) → Rules → Subject (SessionEvent I) Material ResourceLimits Denial
+abbrev pub subject_by : {I : Type 0} → (I → Option Context) → Rules
+    → Subject (SessionEvent I) Material ResourceLimits Denial
 subject_by read rules = record {
   parsed = item_material read rules;
   limits = rules.limits;

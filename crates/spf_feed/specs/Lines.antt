@@ -24,8 +24,10 @@ shown_at shown xs index = option_map_or shown (slice_get xs index) []
 -- the ID, the expiry and the chain of a choice that is shown
 abbrev pub choice_text : Option Svid → List ℕ
 choice_text None = codes " - - -"
-choice_text (Some svid) = 32 ∷ id_text svid.id ++ 32 ∷ signed_decimal svid.expiry ++ 32 ∷ hex_list (λ c. c) svid.chain
+choice_text (Some svid) =
+    32 ∷ id_text svid.id ++ 32 ∷ signed_decimal svid.expiry ++ 32 ∷ hex_list (λ c. c) svid.chain
 
 abbrev pub withdrawn_text : Denial → List ℕ
 withdrawn_text denial.NoIdentityIssued = codes " withdrawn no_identity_issued"
-withdrawn_text (denial.PermissionDenied message) = codes " withdrawn permission_denied:" ++ encode_lower message
+withdrawn_text (denial.PermissionDenied message) =
+    codes " withdrawn permission_denied:" ++ encode_lower message

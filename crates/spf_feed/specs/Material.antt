@@ -27,7 +27,8 @@ same_id a b = pointwise nat_eq a.domain b.domain && pointwise nat_eq a.path b.pa
 abbrev pub same_svid : Svid → Svid → Bool
 same_svid a b =
     same_id a.id b.id
-    && (option_eq (pointwise nat_eq) a.hint b.hint && (pointwise (pointwise nat_eq) a.chain b.chain && pointwise nat_eq a.key b.key))
+    && (option_eq (pointwise nat_eq) a.hint b.hint
+    && (pointwise (pointwise nat_eq) a.chain b.chain && pointwise nat_eq a.key b.key))
 
 -- equal choices: equal SVIDs with the same expiry
 abbrev pub same_choice : Svid → Svid → Bool
@@ -35,14 +36,18 @@ same_choice a b = same_svid a b && int_eq a.expiry b.expiry
 
 -- the same trust domain, and equal bags of authorities
 abbrev pub entry_same : List ℕ × Bundle → List ℕ × Bundle → Bool
-entry_same p q = pointwise nat_eq p.0 q.0 && same_bag (pointwise nat_eq) p.1.authorities q.1.authorities
+entry_same p q =
+    pointwise nat_eq p.0 q.0 && same_bag (pointwise nat_eq) p.1.authorities q.1.authorities
 
 -- the same trust domains, and equal bags of authorities in each
 abbrev pub same_set : List (List ℕ × Bundle) → List (List ℕ × Bundle) → Bool
 same_set = pointwise entry_same
 
--- Same: equal choices, equal bags of SVIDs, the same trust domains with equal bags of authorities, equal bags of CRLs
+-- Same: equal choices, equal bags of SVIDs, the same trust
+-- domains with equal bags of authorities, equal bags of CRLs
 unfoldable pub same_material : Material → Material → Bool
 same_material a b =
     option_eq same_choice (chosen_of a) (chosen_of b)
-    && (same_bag same_svid a.context.svids b.context.svids && (same_set a.context.bundles b.context.bundles && same_bag (pointwise nat_eq) a.context.crls b.context.crls))
+    && (same_bag same_svid a.context.svids b.context.svids
+    && (same_set a.context.bundles b.context.bundles
+    && same_bag (pointwise nat_eq) a.context.crls b.context.crls))

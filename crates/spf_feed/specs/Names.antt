@@ -1,9 +1,20 @@
 -- The names of kinds.
 use Rattle.std.specs.Prelude.{ℕ, List, codes}
 use Rattle.spf_feed.specs.declared.limits.LimitKind.{LimitKind}
-use Rattle.spf_feed.specs.declared.limits.LimitKind.TheVariants.{MaxSvids, MaxBundles, MaxBundleDerBytes, MaxCrlBytes}
+use Rattle.spf_feed.specs.declared.limits.LimitKind.TheVariants.{MaxSvids, MaxBundles}
+use Rattle.spf_feed.specs.declared.limits.LimitKind.TheVariants.{MaxBundleDerBytes, MaxCrlBytes}
 use Rattle.spf_feed.specs.declared.record.MetricsErrorKind.{MetricsErrorKind}
-use Rattle.spf_feed.specs.declared.record.MetricsErrorKind.TheVariants.{ClientCreation, StreamConnect, StreamError, StreamEnded, InitialSyncFailed, NoSuitableSvid, LimitMaxSvids, LimitMaxBundles, LimitMaxBundleDerBytes, LimitMaxCrlBytes, UpdateRejected, SupervisorJoinFailed}
+use Rattle.spf_feed.specs.declared.record.MetricsErrorKind.TheVariants.{ClientCreation}
+use Rattle.spf_feed.specs.declared.record.MetricsErrorKind.TheVariants.{StreamConnect, StreamError}
+use Rattle.spf_feed.specs.declared.record.MetricsErrorKind.TheVariants.{StreamEnded}
+use Rattle.spf_feed.specs.declared.record.MetricsErrorKind.TheVariants.{InitialSyncFailed}
+use Rattle.spf_feed.specs.declared.record.MetricsErrorKind.TheVariants.{NoSuitableSvid}
+use Rattle.spf_feed.specs.declared.record.MetricsErrorKind.TheVariants.{LimitMaxSvids}
+use Rattle.spf_feed.specs.declared.record.MetricsErrorKind.TheVariants.{LimitMaxBundles}
+use Rattle.spf_feed.specs.declared.record.MetricsErrorKind.TheVariants.{LimitMaxBundleDerBytes}
+use Rattle.spf_feed.specs.declared.record.MetricsErrorKind.TheVariants.{LimitMaxCrlBytes}
+use Rattle.spf_feed.specs.declared.record.MetricsErrorKind.TheVariants.{UpdateRejected}
+use Rattle.spf_feed.specs.declared.record.MetricsErrorKind.TheVariants.{SupervisorJoinFailed}
 
 abbrev pub limit_kind_name : LimitKind → List ℕ
 limit_kind_name MaxSvids = codes "max_svids"

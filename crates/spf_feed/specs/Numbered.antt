@@ -15,4 +15,5 @@ pub record LineView : Type 0 where
 -- it shows what is kept, at this moment
 pub record ShowsKept (kept : Kept Material Denial) (now : Option ℤ) (line : LineView) : Type 0 where
   pub text : line.text ≡ shown_text kept.view kept.revision now
-  pub choice : line.shows_choice ≡ is_some (usable (option_and_then chosen_of (held_in kept.view)) now)
+  pub choice : line.shows_choice
+      ≡ is_some (usable (option_and_then chosen_of (held_in kept.view)) now)

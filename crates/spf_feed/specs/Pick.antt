@@ -1,5 +1,6 @@
 -- The choice of an SVID.
-use Rattle.std.specs.Prelude.{◌≡◌, ℕ, ℤ, int_lt, Bool, false, List, [], ◌∷◌, length, Option, Some, None, position, map, nat_lt, if◌then◌else◌}
+use Rattle.std.specs.Prelude.{◌≡◌, ℕ, ℤ, int_lt, Bool, false, List, [], ◌∷◌, length, Option, Some}
+use Rattle.std.specs.Prelude.{None, position, map, nat_lt, if◌then◌else◌}
 use Rattle.std.specs.Str.{bytes_eq}
 use Rattle.std.specs.Option.{option_map_or, option_and_then}
 use Rattle.std.specs.Prelude.{slice_get}
@@ -42,5 +43,7 @@ abbrev pub first_with_hint : List ℕ → List Svid → Option ℕ
 first_with_hint hint svids = position (has_hint hint) svids
 
 -- the closure returns what the function gives
-abbrev pub AnswersBy : {F : Type 0} → Shared F (Bor (List (Arc Svid Global)) × Unit {0}) (Option ℕ) → F → (List Svid → Option ℕ) → Type 0
-AnswersBy g f function = (svids : List (Arc Svid Global)) (answer : Option ℕ) → FnReturnsAt g f svids answer → answer ≡ function (map arc_value svids)
+abbrev pub AnswersBy : {F : Type 0} → Shared F (Bor (List (Arc Svid Global)) × Unit {0}) (Option ℕ)
+    → F → (List Svid → Option ℕ) → Type 0
+AnswersBy g f function = (svids : List (Arc Svid Global)) (answer : Option ℕ)
+    → FnReturnsAt g f svids answer → answer ≡ function (map arc_value svids)

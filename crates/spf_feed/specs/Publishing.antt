@@ -2,7 +2,8 @@
 use Rattle.std.specs.Prelude.{ℕ, ◌+◌, ◌-◌, ◌^◌, ◌==◌, min, Bool, false, List, Option, None, Some}
 use Rattle.spf_feed.specs.Steps.{PlainStep}
 
--- the steps so far, how often `publish` was called, and the number of the call that is refused, from 1
+-- the steps so far, how often `publish` was called,
+-- and the number of the call that is refused, from 1
 pub record Published : Type 0 where
   pub steps : List PlainStep
   pub calls : ℕ

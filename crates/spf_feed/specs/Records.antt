@@ -2,7 +2,8 @@
 use Rattle.std.specs.Prelude.{◌≡◌, List, [], ◌∷◌, ◌++◌, Option, None, Some, Result, Ok, Err}
 
 -- one more, where the list is known; a refused call adds nothing
-abbrev pub RecordAppends : {R E : Type 0} → Option (List R) → Option (List R) → Result (Unit {0}) E → R → Type 0
+abbrev pub RecordAppends : {R E : Type 0} → Option (List R) → Option (List R) → Result (Unit {0}) E
+    → R → Type 0
 RecordAppends None None r x = Unit {0}
 RecordAppends None (Some after) r x = ⊥
 RecordAppends (Some before) None r x = ⊥

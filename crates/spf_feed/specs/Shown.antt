@@ -28,15 +28,19 @@ revocations_text (crl ∷ others) = codes " #" ++ sorted_text (crl ∷ others)
 
 -- a context, and the choice that is shown
 abbrev pub context_text : Context → Option Svid → List ℕ
-context_text context choice = codes " permitted" ++ choice_text choice ++ flat_map entry_text context.bundles ++ revocations_text context.crls
+context_text context choice =
+    codes " permitted" ++ choice_text choice ++ flat_map entry_text context.bundles
+    ++ revocations_text context.crls
 
 -- what is visible after the revision: the choice while its expiry is above the moment
 abbrev pub visible_text : View Material Denial → Option ℤ → List ℕ
 visible_text Waiting now = []
 visible_text (Withdrawn reason) now = withdrawn_text reason
-visible_text (Permitted material) now = context_text material.context (usable (chosen_of material) now)
+visible_text (Permitted material) now =
+    context_text material.context (usable (chosen_of material) now)
 
--- the revision, what is visible, and a line feed; before the first accepted item there is no revision
+-- the revision, what is visible, and a line feed;
+-- before the first accepted item there is no revision
 unfoldable pub view_line : View Material Denial → ℕ → Option ℤ → List ℕ
 view_line Waiting revision now = codes "waiting" ++ 10 ∷ []
 view_line view revision now = decimal revision ++ visible_text view now ++ 10 ∷ []

@@ -1,5 +1,6 @@
 -- Steps without their sharing, and what they make visible.
-use Rattle.std.specs.Prelude.{◌≢◌, ℕ, Bool, true, false, ◌&&◌, nat_lt, IsTrue, List, [], length, Option, None, Some, is_ok}
+use Rattle.std.specs.Prelude.{◌≢◌, ℕ, Bool, true, false, ◌&&◌, nat_lt, IsTrue, List, [], length}
+use Rattle.std.specs.Prelude.{Option, None, Some, is_ok}
 use Rattle.std.specs.Option.{option_map_or}
 use Rattle.std.specs.Arc.{arc_value}
 use Rattle.spf_feed.specs.declared.limits.ResourceLimits.{ResourceLimits}
@@ -17,7 +18,8 @@ abbrev pub PlainStep : Type 0
 PlainStep = PlainStepOf Material ResourceLimits Denial
 
 abbrev pub plain : Step → PlainStep
-plain (step.Accept context limits choice) = Accept (record { context = arc_value context; choice = choice }) limits
+plain (step.Accept context limits choice) =
+    Accept (record { context = arc_value context; choice = choice }) limits
 plain (step.Deny reason) = Deny (arc_value reason)
 
 abbrev pub is_accept : PlainStep → Bool
@@ -34,7 +36,9 @@ reason_in (Deny reason) = Some reason
 
 -- the context keeps the limits, and its choice is none or in range
 abbrev pub fits : ResourceLimits → Material → Bool
-fits limits material = is_ok (within limits material.context) && option_map_or (λ index. nat_lt index (length material.context.svids)) material.choice true
+fits limits material =
+    is_ok (within limits material.context)
+    && option_map_or (λ index. nat_lt index (length material.context.svids)) material.choice true
 
 -- the list is not empty, where it is known
 abbrev pub HasStep : Option (List PlainStep) → Type 0

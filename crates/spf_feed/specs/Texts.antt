@@ -12,7 +12,9 @@ use Rattle.spf_api.specs.declared.response.ContextResponse.{ContextResponse}
 use Rattle.spf_api.specs.declared.response.Response.TheVariants as response
 use Rattle.spf_api.specs.declared.response.ResponseKind.TheVariants as kinds
 use Rattle.spf_view.specs.Frames.{FitsFrame, raw_text}
-use Rattle.spf_frame.specs.declared.frame_kind.TheConstants.{CLIENT_MADE, CLIENT_FAILED, CONNECTED, CONNECT_STATUS, ITEM, ITEM_STATUS, STREAM_END, MOMENT, CLOSE}
+use Rattle.spf_frame.specs.declared.frame_kind.TheConstants.{CLIENT_MADE, CLIENT_FAILED, CONNECTED}
+use Rattle.spf_frame.specs.declared.frame_kind.TheConstants.{CONNECT_STATUS, ITEM, ITEM_STATUS}
+use Rattle.spf_frame.specs.declared.frame_kind.TheConstants.{STREAM_END, MOMENT, CLOSE}
 use Rattle.spf_feed.specs.declared.event.SessionEvent.{SessionEvent}
 use Rattle.spf_feed.specs.declared.event.SessionEvent.TheVariants as events
 
@@ -44,12 +46,15 @@ pub record MomentText (bytes : List ℕ) (moment : ℤ) : Type 0 where
   pub is : moment ≡ pos seconds
   pub octets : bytes ≡ to_be_bytes w64 seconds
 
--- an event: the kind of its frame and its payload, where `ItemText` says which octets are the text of an item
+-- an event: the kind of its frame and its payload, where
+-- `ItemText` says which octets are the text of an item
 abbrev pub EventText : {I : Type 0} → (List ℕ → I → Type 0) → ℕ → List ℕ → SessionEvent I → Type 0
 EventText ItemText kind payload events.ClientMade = (kind ≡ CLIENT_MADE) × (payload ≡ [])
-EventText ItemText kind payload (events.ClientFailed e) = (kind ≡ CLIENT_FAILED) × FailureText payload e
+EventText ItemText kind payload (events.ClientFailed e) =
+    (kind ≡ CLIENT_FAILED) × FailureText payload e
 EventText ItemText kind payload events.Connected = (kind ≡ CONNECTED) × (payload ≡ [])
-EventText ItemText kind payload (events.ConnectStatus s) = (kind ≡ CONNECT_STATUS) × StatusText payload s
+EventText ItemText kind payload (events.ConnectStatus s) =
+    (kind ≡ CONNECT_STATUS) × StatusText payload s
 EventText ItemText kind payload (events.Item i) = (kind ≡ ITEM) × ItemText payload i
 EventText ItemText kind payload (events.ItemStatus s) = (kind ≡ ITEM_STATUS) × StatusText payload s
 EventText ItemText kind payload events.StreamEnd = (kind ≡ STREAM_END) × (payload ≡ [])
@@ -61,7 +66,8 @@ abbrev pub ItemText : List ℕ → ContextResponse → Type 0
 ItemText bytes r = Payload kinds.Context bytes (response.Context r)
 
 -- A frame of an event: its kind, four octets of length, and its payload of at most 2^24 octets.
-pub record FrameText {I : Type 0} (ItemText : List ℕ → I → Type 0) (bytes : List ℕ) (e : SessionEvent I) : Type 0 where
+pub record FrameText {I : Type 0} (ItemText : List ℕ → I → Type 0) (bytes : List ℕ)
+    (e : SessionEvent I) : Type 0 where
   pub kind : ℕ
   pub payload : List ℕ
   pub fits : FitsFrame payload

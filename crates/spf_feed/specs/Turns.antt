@@ -20,7 +20,8 @@ use Rattle.spf_feed.specs.Steps.{Material, fits}
 -- an accepted context fits, and a denial comes only where an item was accepted before it
 abbrev pub MayTake : ResourceLimits → Bool → Turn → Type 0
 MayTake limits synced (turns.Terminal end) = Unit {0}
-MayTake limits synced (turns.Accepted context choice) = IsTrue (fits limits (record { context = context; choice = choice }))
+MayTake limits synced (turns.Accepted context choice) =
+    IsTrue (fits limits (record { context = context; choice = choice }))
 MayTake limits synced (turns.Denied reason records) = IsTrue synced
 MayTake limits synced (turns.Passed records) = Unit {0}
 
@@ -28,12 +29,16 @@ MayTake limits synced (turns.Passed records) = Unit {0}
 abbrev pub listed : Records → List MetricsRecord
 listed r = option_to_list (option_map records.Error r.error) ++ option_to_list r.end
 
--- The turn of an event, by how it ends the session, by what becomes of it, and by its records where it is not accepted.
+-- The turn of an event, by how it ends the session, by what
+-- becomes of it, and by its records where it is not accepted.
 abbrev pub IsTurn : Option Terminal → Outcome Material Denial → List MetricsRecord → Turn → Type 0
 IsTurn refusal outcome list (turns.Terminal end) = refusal ≡ Some end
-IsTurn refusal outcome list (turns.Accepted context choice) = (refusal ≡ None) × (outcome ≡ Accepted (record { context = context; choice = choice }))
-IsTurn refusal outcome list (turns.Denied reason records) = (refusal ≡ None) × (outcome ≡ Denied reason) × (listed records ≡ list)
-IsTurn refusal outcome list (turns.Passed records) = (refusal ≡ None) × (outcome ≡ Passed) × (listed records ≡ list)
+IsTurn refusal outcome list (turns.Accepted context choice) =
+    (refusal ≡ None) × (outcome ≡ Accepted (record { context = context; choice = choice }))
+IsTurn refusal outcome list (turns.Denied reason records) =
+    (refusal ≡ None) × (outcome ≡ Denied reason) × (listed records ≡ list)
+IsTurn refusal outcome list (turns.Passed records) =
+    (refusal ≡ None) × (outcome ≡ Passed) × (listed records ≡ list)
 
 -- how an answer of the Workload API ends a session in which nothing is accepted
 abbrev pub refusal_by_code : Option GrpcStatusCode → WorkloadApiError → Option Terminal

@@ -25,7 +25,8 @@ pub enum FollowError {
     #[error("x509 source error: {0}")]
     Source(WorkloadApiError),
     /// The Workload API has no such call.
-    #[error("required Workload API RPC FetchX509SVID is unsupported during initial synchronization: {0}")]
+    #[error("required Workload API RPC FetchX509SVID is unsupported during initial \
+     synchronization: {0}")]
     UnsupportedRpc(WorkloadApiError),
     /// A moment at or after the deadline came before an item was accepted.
     #[error("initial synchronization timed out")]

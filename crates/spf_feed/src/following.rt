@@ -1,6 +1,7 @@
 //! Following an update stream: its steps, its records and its lines.
 
-ghost use Rattle.std.specs.Prelude.{◌≡◌, ◌<◌, ◌-◌, ◌^◌, ◌∷◌, [], false, None, Some, Ok, Err, IsTrue, IfOk, IfErr, OnOk, List, is_some, if◌then◌else◌};
+ghost use Rattle.std.specs.Prelude.{◌≡◌, ◌<◌, ◌-◌, ◌^◌, ◌∷◌, [], false, None, Some, Ok, Err};
+ghost use Rattle.std.specs.Prelude.{IsTrue, IfOk, IfErr, OnOk, List, is_some, if◌then◌else◌};
 ghost use Rattle.std.specs.Option.{ForSome, option_map, option_or};
 ghost use Rattle.spf_view.specs.Sessions.{Followed};
 ghost use Rattle.spf_view.specs.Keeping.{kept_with};
@@ -13,7 +14,10 @@ ghost use Rattle.spf_feed.specs.declared.follow_error.FollowError.TheVariants as
 ghost use Rattle.spf_frame.specs.declared.error.FrameError.TheVariants as errors;
 ghost use Rattle.spf_feed.specs.Received.{received_moment, received_close};
 ghost use Rattle.spf_feed.specs.Run.{ask_of, stream, outputs, end_for};
-ghost use Rattle.spf_feed.specs.Following.{is_failure, FailuresHaveCauses, error_at as unread_error, OnlyAllowed, EventRead, HandsOn, IsShownAfter, IsTaken, change_of, is_changed, update_of, TurnTaken};
+ghost use Rattle.spf_feed.specs.Following.{is_failure, FailuresHaveCauses};
+ghost use Rattle.spf_feed.specs.Following.{error_at as unread_error, OnlyAllowed, EventRead};
+ghost use Rattle.spf_feed.specs.Following.{HandsOn, IsShownAfter, IsTaken, change_of, is_changed};
+ghost use Rattle.spf_feed.specs.Following.{update_of, TurnTaken};
 
 use crate::follow_error::FollowError;
 use crate::frame::next_frame;
@@ -42,7 +46,8 @@ fn held_context(snapshot: &Option<Snapshot>) -> Option<&X509Context> {
     }
 }
 
-/// The next event. Its payload is read into the buffer, and what it has of the bytes of the held context is shared.
+/// The next event. Its payload is read into the buffer, and
+/// what it has of the bytes of the held context is shared.
 fn next_event<S: Source>(
     alloc: Global,
     source: &mut S,
@@ -53,7 +58,8 @@ fn next_event<S: Source>(
 ) -> Result<Option<Received>, FrameError>
     ensures cause { FailureHasCause (S.failures source.old) (S.failures source.new) result }
     ensures allowed { OnlyAllowed allowed result }
-    ensures bytes { (rules : Rules) (past : List SessionOf) → ask_of context_in rules past ≡ phase → EventRead rules past allowed (S.left source.old) (S.left source.new) result }
+    ensures bytes { (rules : Rules) (past : List SessionOf) → ask_of context_in rules past ≡ phase
+        → EventRead rules past allowed (S.left source.old) (S.left source.new) result }
 {
     let kind = match next_frame(source, payload, phase, allowed)? {
         Some(kind) => kind,
@@ -149,7 +155,8 @@ fn take_step(snapshot: &mut Option<Snapshot>, step: Prepared) -> Change
 /// Whether the snapshot holds what the step accepts, member by member and in order.
 fn is_held(snapshot: &Option<Snapshot>, step: &Step) -> bool
     ensures change { IsTrue result → change_of snapshot.now (plain step.now) ≡ Change.Unchanged }
-    ensures kept { IsTrue result → kept_with same_material snapshot.now (plain step.now) ≡ snapshot.now }
+    ensures kept { IsTrue result
+        → kept_with same_material snapshot.now (plain step.now) ≡ snapshot.now }
 {
     match snapshot {
         Some(snapshot) => snapshot.holds(step),
@@ -157,8 +164,8 @@ fn is_held(snapshot: &Option<Snapshot>, step: &Step) -> bool
     }
 }
 
-/// Publishes a step that is prepared before, and then takes it into the snapshot. A step that accepts what is held needs no
-/// preparation.
+/// Publishes a step that is prepared before, and then takes it into the snapshot. A step that
+/// accepts what is held needs no preparation.
 fn publish<P: Publisher>(
     alloc: Global,
     publisher: &mut P,
@@ -168,7 +175,8 @@ fn publish<P: Publisher>(
     requires next { MayFollow (P.steps publisher.old) (plain step) }
     requires first { snapshot.old ≡ None → IsTrue (is_accept (plain step)) }
     ensures synced { OnOk result (HasStep (P.steps publisher.new)) }
-    ensures steps { HandsOn (P.steps publisher.old) (P.steps publisher.new) result (plain step ∷ []) }
+    ensures steps { HandsOn (P.steps publisher.old) (P.steps publisher.new) result
+        (plain step ∷ []) }
     ensures change { IfOk result (λ c. c ≡ change_of snapshot.old (plain step)) }
     ensures kept { OnOk result (snapshot.new ≡ kept_with same_material snapshot.old (plain step)) }
 {
@@ -214,8 +222,16 @@ fn accept<P: Publisher, M: MetricsRecorder>(
     requires first { snapshot.old ≡ None → IsTrue (is_accept (plain step)) }
     ensures synced { OnOk result (HasStep (P.steps publisher.new)) }
     ensures taken { IsTaken (Some (plain step)) (update_of (change_of snapshot.old (plain step)))
-        (record { kept = snapshot.old; steps = P.steps publisher.old; records = M.records recorder.old })
-        (record { kept = snapshot.new; steps = P.steps publisher.new; records = M.records recorder.new }) result }
+        (record {
+          kept = snapshot.old;
+          steps = P.steps publisher.old;
+          records = M.records recorder.old;
+        })
+        (record {
+          kept = snapshot.new;
+          steps = P.steps publisher.new;
+          records = M.records recorder.new;
+        }) result }
 {
     let change = publish(alloc, publisher, snapshot, step)?;
     record_change(recorder, change)?;
@@ -235,8 +251,16 @@ fn deny<P: Publisher, M: MetricsRecorder>(
     requires first { snapshot.old ≡ None → IsTrue (is_accept (plain step)) }
     ensures synced { OnOk result (HasStep (P.steps publisher.new)) }
     ensures taken { IsTaken (Some (plain step)) (listed records)
-        (record { kept = snapshot.old; steps = P.steps publisher.old; records = M.records recorder.old })
-        (record { kept = snapshot.new; steps = P.steps publisher.new; records = M.records recorder.new }) result }
+        (record {
+          kept = snapshot.old;
+          steps = P.steps publisher.old;
+          records = M.records recorder.old;
+        })
+        (record {
+          kept = snapshot.new;
+          steps = P.steps publisher.new;
+          records = M.records recorder.new;
+        }) result }
 {
     let change = publish(alloc, publisher, snapshot, step)?;
     record_all(recorder, records)?;
@@ -257,8 +281,16 @@ fn take<P: Publisher, M: MetricsRecorder>(
     ensures synced { OnOk result (IsTrue (is_some snapshot.new) → HasStep (P.steps publisher.new)) }
     ensures calm { IfErr result (λ e. is_failure e ≡ false) }
     ensures turn { TurnTaken limits turn
-        (record { kept = snapshot.old; steps = P.steps publisher.old; records = M.records recorder.old })
-        (record { kept = snapshot.new; steps = P.steps publisher.new; records = M.records recorder.new }) result }
+        (record {
+          kept = snapshot.old;
+          steps = P.steps publisher.old;
+          records = M.records recorder.old;
+        })
+        (record {
+          kept = snapshot.new;
+          steps = P.steps publisher.new;
+          records = M.records recorder.new;
+        }) result }
 {
     match turn {
         Turn::Terminal(terminal) => Err(FollowError::from(terminal)),
@@ -309,8 +341,8 @@ fn show(
     }
 }
 
-/// Follows an update stream of at most `max_frames` frames to its end or its close. Each event is read, published, recorded
-/// and shown by a line, in that order. It returns the number of events.
+/// Follows an update stream of at most `max_frames` frames to its end or its close. Each event is
+/// read, published, recorded and shown by a line, in that order. It returns the number of events.
 pub fn follow_x509<S: Source, K: Sink, P: Publisher, M: MetricsRecorder, C: SvidPicker>(
     alloc: Global,
     source: &mut S,
@@ -328,7 +360,8 @@ pub fn follow_x509<S: Source, K: Sink, P: Publisher, M: MetricsRecorder, C: Svid
     // What is read, put, published, recorded and returned belongs to one list of events.
     ensures followed { Followed
         (stream (rules_with limits deadline ready (option_map (λ p. C.picks p.now) picker.entry)))
-        (outputs (rules_with limits deadline ready (option_map (λ p. C.picks p.now) picker.entry))) max_frames
+        (outputs (rules_with limits deadline ready (option_map (λ p. C.picks p.now) picker.entry)))
+        max_frames
         (record {
           left = S.left source.old;
           held = K.held sink.old;

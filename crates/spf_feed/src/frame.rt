@@ -26,7 +26,8 @@ pub(crate) fn next_frame<S: Source>(
     phase: Phase,
     allowed: bool,
 ) -> Result<Option<u8>, FrameError>
-    ensures bytes { FrameRead phase allowed (S.left source.old) (S.left source.new) (with_payload result payload.new.items) }
+    ensures bytes { FrameRead phase allowed (S.left source.old) (S.left source.new)
+        (with_payload result payload.new.items) }
     ensures cause { FailureHasCause (S.failures source.old) (S.failures source.new) result }
 {
     spf_frame::next_frame(source, payload, &phase, allowed)

@@ -1,4 +1,5 @@
-//! Update streams: frames, limits, the choice of an SVID, the snapshot that steps change, and the lines that show it.
+//! Update streams: frames, limits, the choice of an SVID, the
+//! snapshot that steps change, and the lines that show it.
 #![tactic(auto)]
 
 mod event;
@@ -34,6 +35,6 @@ pub use prepared::Prepared;
 pub use ready::Ready;
 pub use record::{MemRecorder, MetricsErrorKind, MetricsRecord, MetricsRecorder, NoRecorder};
 pub use snapshot::Snapshot;
-pub use state::{X509SourceError, X509SourceState};
 pub use spf_frame::{FrameError, RawFrame, frame_kind};
+pub use state::{X509SourceError, X509SourceState};
 pub use step::{Denial, MemPublisher, Publisher, Step};

@@ -2,7 +2,8 @@
 
 ghost use Rattle.std.specs.Prelude.{◌≡◌, None};
 ghost use Rattle.spf_feed.specs.Names.{limit_kind_name};
-ghost use Rattle.spf_feed.specs.Limits.{within_limit, octets_in, within_bundles as bundles_rule, within as limits_rule, default_limits};
+ghost use Rattle.spf_feed.specs.Limits.{within_limit, octets_in, within_bundles as bundles_rule};
+ghost use Rattle.spf_feed.specs.Limits.{within as limits_rule, default_limits};
 
 use spf_io::Bytes;
 use spf_x509::{Certificate, X509BundleSet, X509Context};
@@ -157,8 +158,8 @@ fn within_bundles(set: &X509BundleSet, limit: Option<usize>) -> Result<(), Limit
     Ok(())
 }
 
-/// The first limit that is passed: SVIDs, bundles, octets per bundle in the order of the trust domains, then the octets
-/// of the revocation lists.
+/// The first limit that is passed: SVIDs, bundles, octets per bundle in the order of the trust
+/// domains, then the octets of the revocation lists.
 #[tactic(auto, unfolding(crate::specs::Limits::within))]
 pub fn validate_limits(ctx: &X509Context, limits: ResourceLimits) -> Result<(), LimitBroken>
     ensures { result ≡ limits_rule limits ctx.now }

@@ -1,6 +1,7 @@
 //! The lines that show a session.
 
-ghost use Rattle.std.specs.Prelude.{◌≡◌, ◌≤◌, ◌++◌, ◌∷◌, ℕ, ℤ, false, Bool, List, Option, None, IsTrue, IfOk, OnOk, decimal, vec_len};
+ghost use Rattle.std.specs.Prelude.{◌≡◌, ◌≤◌, ◌++◌, ◌∷◌, ℕ, ℤ, false, Bool, List, Option, None};
+ghost use Rattle.std.specs.Prelude.{IsTrue, IfOk, OnOk, decimal, vec_len};
 ghost use Rattle.std.specs.List.{flat_map};
 ghost use Rattle.std.specs.Option.{option_map};
 ghost use Rattle.std.specs.Arc.{arc_value};
@@ -11,8 +12,10 @@ ghost use Rattle.hex.specs.Hex.{encode_lower};
 ghost use Rattle.spf_view.specs.Views.{Waiting};
 ghost use Rattle.spf_view.specs.Standing.{shown_by};
 ghost use Rattle.spf_x509.specs.Indices.{IsSortedIndices};
-ghost use Rattle.spf_feed.specs.Lines.{after_comma, hex_list, shown_at, choice_text, withdrawn_text};
-ghost use Rattle.spf_feed.specs.Shown.{entry_text, revocations_text, context_text, visible_text, view_line, shown_text};
+ghost use Rattle.spf_feed.specs.Lines.{after_comma, hex_list, shown_at, choice_text};
+ghost use Rattle.spf_feed.specs.Lines.{withdrawn_text};
+ghost use Rattle.spf_feed.specs.Shown.{entry_text, revocations_text, context_text, visible_text};
+ghost use Rattle.spf_feed.specs.Shown.{view_line, shown_text};
 ghost use Rattle.spf_feed.specs.Sorted.{AreIndexed, AreSorted};
 ghost use Rattle.spf_feed.specs.Standing.{view_in, IsKept};
 ghost use Rattle.spf_feed.specs.Steps.{is_accept};
@@ -63,7 +66,8 @@ impl Octets for Bytes {
 
 /// Each with a comma before it.
 fn push_others<T: Octets>(line: &mut Vec<u8>, items: &[T]) -> Result<(), OutOfMemory>
-    ensures text { OnOk result (line.new.items ≡ line.old.items ++ flat_map (λ x. after_comma (T.shown x)) items.now) }
+    ensures text { OnOk result
+        (line.new.items ≡ line.old.items ++ flat_map (λ x. after_comma (T.shown x)) items.now) }
     ensures grows { vec_len line.old ≤ vec_len line.new }
 {
     for item in items {
@@ -87,7 +91,8 @@ fn push_list<T: Octets>(line: &mut Vec<u8>, items: &[T]) -> Result<(), OutOfMemo
 }
 
 fn push_at<T: Octets>(line: &mut Vec<u8>, items: &[T], index: usize) -> Result<(), OutOfMemory>
-    ensures text { OnOk result (line.new.items ≡ line.old.items ++ encode_lower (shown_at T.shown items.now index)) }
+    ensures text { OnOk result
+        (line.new.items ≡ line.old.items ++ encode_lower (shown_at T.shown items.now index)) }
     ensures grows { vec_len line.old ≤ vec_len line.new }
 {
     match items.get(index) {
@@ -102,7 +107,10 @@ fn push_other_indices<T: Octets>(
     items: &[T],
     indices: &[usize],
 ) -> Result<(), OutOfMemory>
-    ensures text { OnOk result (line.new.items ≡ line.old.items ++ flat_map (λ p. after_comma (shown_at T.shown items.now p)) indices.now) }
+    ensures text { OnOk result
+        (line.new.items
+        ≡ line.old.items
+        ++ flat_map (λ p. after_comma (shown_at T.shown items.now p)) indices.now) }
     ensures grows { vec_len line.old ≤ vec_len line.new }
 {
     for index in indices {
@@ -118,7 +126,8 @@ fn push_indices<T: Octets>(
     items: &[T],
     indices: &[usize],
 ) -> Result<(), OutOfMemory>
-    ensures text { OnOk result (line.new.items ≡ line.old.items ++ hex_list (shown_at T.shown items.now) indices.now) }
+    ensures text { OnOk result
+        (line.new.items ≡ line.old.items ++ hex_list (shown_at T.shown items.now) indices.now) }
     ensures grows { vec_len line.old ≤ vec_len line.new }
 {
     let Some((first, others)) = indices.split_first() else {
@@ -136,7 +145,10 @@ fn push_bundle(
     authorities: &[Certificate],
     order: &[usize],
 ) -> Result<(), OutOfMemory>
-    ensures text { OnOk result (line.new.items ≡ line.old.items ++ 32 ∷ domain.now ++ 61 ∷ hex_list (shown_at (λ c. c) authorities.now) order.now) }
+    ensures text { OnOk result
+        (line.new.items
+        ≡ line.old.items ++ 32 ∷ domain.now
+        ++ 61 ∷ hex_list (shown_at (λ c. c) authorities.now) order.now) }
     ensures grows { vec_len line.old ≤ vec_len line.new }
 {
     line.push(b' ')?;
@@ -183,7 +195,9 @@ fn push_crls(line: &mut Vec<u8>, crls: &[Bytes], order: &[usize]) -> Result<(), 
 
 /// The ID, the expiry and the chain of an SVID, or three dashes.
 fn push_choice(line: &mut Vec<u8>, svid: Option<&Arc<X509Svid>>) -> Result<(), OutOfMemory>
-    ensures text { OnOk result (line.new.items ≡ line.old.items ++ choice_text (option_map (λ a. arc_value a.now) svid.entry)) }
+    ensures text { OnOk result
+        (line.new.items
+        ≡ line.old.items ++ choice_text (option_map (λ a. arc_value a.now) svid.entry)) }
     ensures grows { vec_len line.old ≤ vec_len line.new }
 {
     let Some(svid) = svid else {
@@ -207,7 +221,10 @@ fn push_context(
     choice: Option<&Arc<X509Svid>>,
 ) -> Result<(), OutOfMemory>
     requires { AreSorted context.now indices.now }
-    ensures text { OnOk result (line.new.items ≡ line.old.items ++ context_text context.now (option_map (λ a. arc_value a.now) choice.entry)) }
+    ensures text { OnOk result
+        (line.new.items
+        ≡ line.old.items
+        ++ context_text context.now (option_map (λ a. arc_value a.now) choice.entry)) }
     ensures grows { vec_len line.old ≤ vec_len line.new }
 {
     line.extend_from_slice(b" permitted")?;
@@ -219,7 +236,8 @@ fn push_context(
 
 fn push_permitted(line: &mut Vec<u8>, held: &Prepared, now: Option<i64>) -> Result<(), OutOfMemory>
     requires { IsTrue (is_accept held.now) }
-    ensures text { OnOk result (line.new.items ≡ line.old.items ++ visible_text (shown_by held.now) now) }
+    ensures text { OnOk result
+        (line.new.items ≡ line.old.items ++ visible_text (shown_by held.now) now) }
     ensures grows { vec_len line.old ≤ vec_len line.new }
 {
     let choice = usable(held.chosen(), now);
@@ -250,7 +268,8 @@ fn push_visible(
     now: Option<i64>,
 ) -> Result<(), OutOfMemory>
     requires { IsKept standing.now }
-    ensures text { OnOk result (line.new.items ≡ line.old.items ++ visible_text (view_in standing.now) now) }
+    ensures text { OnOk result
+        (line.new.items ≡ line.old.items ++ visible_text (view_in standing.now) now) }
     ensures grows { vec_len line.old ≤ vec_len line.new }
 {
     match standing {
@@ -268,7 +287,8 @@ fn push_view(
     now: Option<i64>,
 ) -> Result<(), OutOfMemory>
     requires { IsKept standing.now }
-    ensures text { OnOk result (line.new.items ≡ line.old.items ++ view_line (view_in standing.now) revision now) }
+    ensures text { OnOk result
+        (line.new.items ≡ line.old.items ++ view_line (view_in standing.now) revision now) }
     ensures grows { vec_len line.old ≤ vec_len line.new }
 {
     line.extend_from_slice(Buffer::new().format(revision).as_bytes())?;
@@ -277,7 +297,8 @@ fn push_view(
     Ok(())
 }
 
-/// The line of a state at a moment, without a number before it. Without a moment the choice is not shown.
+/// The line of a state at a moment, without a number
+/// before it. Without a moment the choice is not shown.
 pub fn state_line(
     alloc: Global,
     state: &X509SourceState,
@@ -293,8 +314,8 @@ pub fn state_line(
     }
 }
 
-/// The line of a session in one buffer, with room for its number before it. What it shows is written anew only where
-/// that changes.
+/// The line of a session in one buffer, with room for its number before it. What it shows is
+/// written anew only where that changes.
 #[derive(Debug, Drop)]
 pub(crate) struct NumberedLine {
     octets: Vec<u8>,
@@ -329,7 +350,8 @@ impl NumberedLine {
     /// Writes the line of the snapshot anew.
     #[tactic(auto, unfolding(crate::specs::Shown::shown_text))]
     fn write(&mut self, snapshot: &Snapshot, now: Option<i64>) -> Result<(), OutOfMemory>
-        ensures text { OnOk result (self.new.text ≡ shown_text snapshot.now.view snapshot.now.revision now) }
+        ensures text { OnOk result
+            (self.new.text ≡ shown_text snapshot.now.view snapshot.now.revision now) }
         ensures choice { self.new.shows_choice ≡ self.old.shows_choice }
     {
         self.octets.truncate(NUMBER_ROOM);
@@ -343,15 +365,17 @@ impl NumberedLine {
         Ok(())
     }
 
-    /// Shows the snapshot at a moment. A snapshot that did not change is written anew only where the choice appears or
-    /// expires.
+    /// Shows the snapshot at a moment. A snapshot that did not change
+    /// is written anew only where the choice appears or expires.
     pub(crate) fn show(
         &mut self,
         snapshot: &Snapshot,
         is_changed: bool,
         now: Option<i64>,
     ) -> Result<(), OutOfMemory>
-        ensures shows { OnOk result ((before : Option ℤ) → (is_changed ≡ false → ShowsKept snapshot.now before self.old) → ShowsKept snapshot.now now self.new) }
+        ensures shows { OnOk result
+            ((before : Option ℤ) → (is_changed ≡ false → ShowsKept snapshot.now before self.old)
+            → ShowsKept snapshot.now now self.new) }
     {
         let shows_choice = snapshot.shows_choice(now);
         if is_changed || shows_choice != self.shows_choice {
@@ -363,7 +387,8 @@ impl NumberedLine {
 
     /// Puts the line with this number, in one piece.
     pub(crate) fn put<K: Sink>(&mut self, sink: &mut K, number: u64) -> Result<(), Failed>
-        ensures bytes { PutAppends (K.held sink.old) (K.held sink.new) result (decimal number ++ self.old.text) }
+        ensures bytes { PutAppends (K.held sink.old) (K.held sink.new) result
+            (decimal number ++ self.old.text) }
         ensures text { self.new.text ≡ self.old.text }
         ensures choice { self.new.shows_choice ≡ self.old.shows_choice }
         ensures cause { HasCause (K.failures sink.old) (K.failures sink.new) result }

@@ -2,13 +2,12 @@
 
 ghost use Rattle.std.specs.Prelude.{◌≡◌, IfOk};
 ghost use Rattle.std.specs.Option.{option_map};
-ghost use Rattle.spf_feed.specs.Events.{failure_at, moment_at, event_at, when_empty as event_when_empty};
+ghost use Rattle.spf_feed.specs.Events.{failure_at, moment_at, event_at};
+ghost use Rattle.spf_feed.specs.Events.{when_empty as event_when_empty};
 ghost use Rattle.spf_feed.specs.Items.{item_at, IsReceived};
 
 use crate::event::SessionEvent;
-use spf_api::{
-    ClientFault, WorkloadApiError, context_from_view_sharing, read_context_view,
-};
+use spf_api::{ClientFault, WorkloadApiError, context_from_view_sharing, read_context_view};
 use spf_frame::frame_kind::{
     CLIENT_FAILED, CLIENT_MADE, CLOSE, CONNECT_STATUS, CONNECTED, ITEM, ITEM_STATUS, MOMENT,
     STREAM_END,
@@ -66,7 +65,8 @@ fn received(
     }
 }
 
-/// The context that an item brings, None where it breaks a rule. What it has of the bytes of the held one is shared.
+/// The context that an item brings, None where it breaks a
+/// rule. What it has of the bytes of the held one is shared.
 fn item_in(
     alloc: Global,
     bytes: &[u8],

@@ -6,7 +6,9 @@ ghost use Rattle.std.specs.Option.{option_map, ForSome};
 ghost use Rattle.std.specs.declared.sync.Arc.{Arc};
 ghost use Rattle.std.specs.declared.alloc.Global.{Global};
 ghost use Rattle.spf_x509.specs.Svid.{Svid};
-ghost use Rattle.spf_feed.specs.Pick.{pick_of, first_index, choice_of, usable as usable_of, has_hint as is_hinted, first_with_hint as first_hinted, AnswersBy};
+ghost use Rattle.spf_feed.specs.Pick.{pick_of, first_index, choice_of, usable as usable_of};
+ghost use Rattle.spf_feed.specs.Pick.{has_hint as is_hinted, first_with_hint as first_hinted};
+ghost use Rattle.spf_feed.specs.Pick.{AnswersBy};
 
 use spf_io::Text;
 use spf_x509::{X509Context, X509Svid};
@@ -14,7 +16,8 @@ use std::fmt;
 use std::marker::PhantomData;
 use std::sync::Arc;
 
-/// Picks one of several SVIDs, by a function of itself and of them. An index out of range chooses nothing.
+/// Picks one of several SVIDs, by a function of itself
+/// and of them. An index out of range chooses nothing.
 pub trait SvidPicker {
     // The function.
     ghost picks: { Self → List Svid → Option ℕ };
@@ -91,7 +94,8 @@ fn has_hint(svid: &X509Svid, hint: &Text) -> bool
 }
 
 fn first_with_hint(svids: &[Arc<X509Svid>], hint: &Text) -> Option<usize>
-    ensures { result ≡ position (λ (a : Arc Svid Global). is_hinted hint.now (arc_value a)) svids.now }
+    ensures { result
+        ≡ position (λ (a : Arc Svid Global). is_hinted hint.now (arc_value a)) svids.now }
 {
     svids.iter().position(|svid| has_hint(svid, hint))
 }
@@ -129,7 +133,8 @@ fn first(svids: &[Arc<X509Svid>]) -> Option<usize>
 /// The picker's index, where it is in range.
 fn picked<P: SvidPicker>(svids: &[Arc<X509Svid>], picker: Option<&P>) -> Option<usize>
     requires { ForSome picker (λ p. P.can_pick p.now) }
-    ensures { result ≡ pick_of (option_map (λ p. P.picks p.now) picker.entry) (map arc_value svids.now) }
+    ensures { result
+        ≡ pick_of (option_map (λ p. P.picks p.now) picker.entry) (map arc_value svids.now) }
 {
     match picker {
         None => first(svids),
@@ -160,7 +165,8 @@ pub(crate) fn chosen(context: &X509Context, choice: Option<usize>) -> Option<&Ar
 
 /// The chosen SVID, where there is a moment and its expiry is above it.
 pub(crate) fn usable(chosen: Option<&Arc<X509Svid>>, now: Option<i64>) -> Option<&Arc<X509Svid>>
-    ensures { option_map (λ a. arc_value a.now) result ≡ usable_of (option_map (λ a. arc_value a.now) chosen.entry) now }
+    ensures { option_map (λ a. arc_value a.now) result
+        ≡ usable_of (option_map (λ a. arc_value a.now) chosen.entry) now }
 {
     match (chosen, now) {
         (Some(svid), Some(now)) if now < svid.expiry_unix() => Some(svid),

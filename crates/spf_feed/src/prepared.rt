@@ -67,7 +67,8 @@ impl Prepared {
 
     /// The indices of the SVIDs, sorted. None for a Deny.
     pub fn svid_positions(&self) -> &[usize]
-        ensures { IndicesOf svid_cmp (option_map (λ m. m.context.svids) (material_in self.now)) result.now }
+        ensures { IndicesOf svid_cmp (option_map (λ m. m.context.svids) (material_in self.now))
+            result.now }
     {
         match &self.indices {
             Some(indices) => indices.svids.as_slice(),
@@ -77,7 +78,9 @@ impl Prepared {
 
     /// The indices of the authorities of a trust domain, sorted.
     pub fn authority_positions(&self, td: &TrustDomain) -> Option<&[usize]>
-        ensures { AuthorityIndices (option_and_then (λ m. find_entry td.now m.context.bundles) (material_in self.now)) (option_map (λ p. p.now) result) }
+        ensures { AuthorityIndices
+            (option_and_then (λ m. find_entry td.now m.context.bundles) (material_in self.now))
+            (option_map (λ p. p.now) result) }
     {
         match (&self.step, &self.indices) {
             (Step::Accept { context, .. }, Some(indices)) => {
@@ -89,7 +92,8 @@ impl Prepared {
 
     /// The indices of the revocation lists, sorted. None for a Deny.
     pub fn crl_positions(&self) -> &[usize]
-        ensures { IndicesOf (slice_cmp nat_cmp) (option_map (λ m. m.context.crls) (material_in self.now)) result.now }
+        ensures { IndicesOf (slice_cmp nat_cmp)
+            (option_map (λ m. m.context.crls) (material_in self.now)) result.now }
     {
         match &self.indices {
             Some(indices) => indices.crls.as_slice(),
@@ -171,7 +175,8 @@ impl Prepared {
     }
 
     pub(crate) fn context(&self) -> Option<&Arc<X509Context>>
-        ensures { option_map (λ a. arc_value a.now) result ≡ option_map (λ m. m.context) (material_in self.now) }
+        ensures { option_map (λ a. arc_value a.now) result
+            ≡ option_map (λ m. m.context) (material_in self.now) }
     {
         match &self.step {
             Step::Accept { context, .. } => Some(context),
@@ -181,7 +186,8 @@ impl Prepared {
 
     /// The chosen SVID.
     pub(crate) fn chosen(&self) -> Option<&Arc<X509Svid>>
-        ensures { option_map (λ a. arc_value a.now) result ≡ option_and_then chosen_of (material_in self.now) }
+        ensures { option_map (λ a. arc_value a.now) result
+            ≡ option_and_then chosen_of (material_in self.now) }
     {
         match &self.step {
             Step::Accept {

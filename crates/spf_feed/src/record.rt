@@ -80,7 +80,8 @@ pub trait MetricsRecorder {
         ensures { RecordAppends (records self.old) (records self.new) result MetricsRecord.Reconnect };
 
     fn record_error(&mut self, kind: MetricsErrorKind) -> Result<(), OutOfMemory>
-        ensures { RecordAppends (records self.old) (records self.new) result (MetricsRecord.Error kind) };
+        ensures { RecordAppends (records self.old) (records self.new) result
+            (MetricsRecord.Error kind) };
 }
 
 /// A recorder that keeps the records.

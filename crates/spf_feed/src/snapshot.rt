@@ -3,7 +3,8 @@
 ghost use Rattle.std.specs.Prelude.{◌≡◌, false, IsTrue, IfOk, is_some, List, [], ◌∷◌, ◌++◌};
 ghost use Rattle.std.specs.Option.{option_and_then};
 ghost use Rattle.spf_view.specs.Standing.{Stands, IsShowing, is_change, kept_next};
-ghost use Rattle.spf_feed.specs.Steps.{PlainStep, plain, is_accept, chosen_of, shown_by, held_in, raised, same_material};
+ghost use Rattle.spf_feed.specs.Steps.{PlainStep, plain, is_accept, chosen_of, shown_by, held_in};
+ghost use Rattle.spf_feed.specs.Steps.{raised, same_material};
 ghost use Rattle.spf_feed.specs.Pick.{usable as usable_of};
 ghost use Rattle.spf_feed.specs.Standing.{view_in, IsKept};
 
@@ -48,7 +49,8 @@ impl Snapshot {
         }
     }
 
-    /// Whether the step accepts what is held, member by member and in order. Then it changes nothing.
+    /// Whether the step accepts what is held, member by
+    /// member and in order. Then it changes nothing.
     pub(crate) fn holds(&self, step: &Step) -> bool
         ensures { IsTrue result → is_change same_material self.now.view (plain step.now) ≡ false }
     {
@@ -79,7 +81,8 @@ impl Snapshot {
     /// One more step. Unchanged material keeps the older context.
     pub fn apply(&mut self, step: Prepared)
         ensures value { self.new ≡ kept_next same_material self.old step }
-        ensures stands { (steps : List PlainStep) → Stands same_material steps self.old → Stands same_material (steps ++ step ∷ []) self.new }
+        ensures stands { (steps : List PlainStep) → Stands same_material steps self.old
+            → Stands same_material (steps ++ step ∷ []) self.new }
     {
         if self.is_changed_by(&step) {
             self.show(step);
@@ -87,7 +90,12 @@ impl Snapshot {
     }
 
     pub fn state(&self, closed: bool) -> Result<X509SourceState, OutOfMemory>
-        ensures { IfOk result (λ s. s ≡ record { revision = self.now.revision; closed = closed; view = self.now.view }) }
+        ensures { IfOk result
+            (λ s. s ≡ record {
+              revision = self.now.revision;
+              closed = closed;
+              view = self.now.view;
+            }) }
     {
         Ok(X509SourceState::new(self.revision, closed, self.standing.try_clone()?))
     }
@@ -118,7 +126,8 @@ impl Snapshot {
 
     /// Whether a line shows the choice at the moment.
     pub(crate) fn shows_choice(&self, now: Option<i64>) -> bool
-        ensures { result ≡ is_some (usable_of (option_and_then chosen_of (held_in self.now.view)) now) }
+        ensures { result
+            ≡ is_some (usable_of (option_and_then chosen_of (held_in self.now.view)) now) }
     {
         self.standing.is_usable(now)
     }

@@ -45,7 +45,8 @@ impl Standing {
 
     /// Whether the choice is usable at the moment.
     pub(crate) fn is_usable(&self, now: Option<i64>) -> bool
-        ensures { result ≡ is_some (usable_of (option_and_then chosen_of (held_in (view_in self.now))) now) }
+        ensures { result
+            ≡ is_some (usable_of (option_and_then chosen_of (held_in (view_in self.now))) now) }
     {
         match self {
             Standing::Permitted(held) => usable(held.chosen(), now).is_some(),

@@ -28,7 +28,8 @@ pub enum X509SourceError {
     #[error("x509 source error: {0}")]
     Source(WorkloadApiError),
     /// The Workload API has no such call.
-    #[error("required Workload API RPC FetchX509SVID is unsupported during initial synchronization: {0}")]
+    #[error("required Workload API RPC FetchX509SVID is unsupported during initial \
+     synchronization: {0}")]
     UnsupportedRpc(WorkloadApiError),
     /// No SVID is chosen, or the chosen one has expired.
     #[error("no suitable svid found")]
@@ -131,7 +132,11 @@ impl Model for X509SourceState {
 
     ghost use Rattle.spf_feed.specs.Standing.{view_in, IsKept};
 
-    ghost view = { λ s. record { revision = s.revision; closed = s.closed; view = view_in s.standing } };
+    ghost view = { λ s. record {
+      revision = s.revision;
+      closed = s.closed;
+      view = view_in s.standing;
+    } };
 
     ghost invariant = { λ s. IsKept s.standing };
 }
@@ -145,7 +150,11 @@ impl fmt::Debug for X509SourceState {
 impl X509SourceState {
     pub(crate) fn new(revision: u64, closed: bool, standing: Standing) -> X509SourceState
         requires { IsKept standing }
-        ensures { result ≡ record { revision = revision; closed = closed; view = view_in standing } }
+        ensures { result ≡ record {
+          revision = revision;
+          closed = closed;
+          view = view_in standing;
+        } }
     {
         X509SourceState {
             revision,
@@ -185,7 +194,8 @@ impl X509SourceState {
 
     /// The held context. None while withdrawn.
     pub fn context_ref(&self) -> Option<&Arc<X509Context>>
-        ensures { option_map (λ a. arc_value a.now) result ≡ option_map (λ m. m.context) (held_in self.now.view) }
+        ensures { option_map (λ a. arc_value a.now) result
+            ≡ option_map (λ m. m.context) (held_in self.now.view) }
     {
         match &self.standing {
             Standing::Permitted(held) => held.context(),
@@ -225,7 +235,8 @@ impl X509SourceState {
 
     /// Whether `svid` returns one, where memory does not run out.
     pub fn is_usable(&self, now: Option<i64>) -> bool
-        ensures { result ≡ is_some (usable_of (option_and_then chosen_of (held_in self.now.view)) now) }
+        ensures { result
+            ≡ is_some (usable_of (option_and_then chosen_of (held_in self.now.view)) now) }
     {
         self.standing.is_usable(now)
     }

@@ -82,7 +82,11 @@ impl Model for MemPublisher {
     ghost use Rattle.std.specs.Prelude.{map};
     ghost use Rattle.spf_feed.specs.Steps.{plain};
 
-    ghost view = { λ p. record { steps = map plain p.steps.items; calls = p.calls; refused = p.refused } };
+    ghost view = { λ p. record {
+      steps = map plain p.steps.items;
+      calls = p.calls;
+      refused = p.refused;
+    } };
 }
 
 impl MemPublisher {
@@ -96,7 +100,8 @@ impl MemPublisher {
         }
     }
 
-    /// A publisher that is out of memory at its call of number `at`, from 1, and keeps nothing of that step.
+    /// A publisher that is out of memory at its call of
+    /// number `at`, from 1, and keeps nothing of that step.
     pub fn refusing(alloc: Global, at: u64) -> MemPublisher
         ensures { result ≡ record { steps = []; calls = 0; refused = Some at } }
     {
@@ -121,9 +126,11 @@ impl Publisher for MemPublisher {
     ghost steps = { λ p. Some p.steps };
 
     fn publish(&mut self, step: Step) -> Result<(), OutOfMemory>
-        ensures appends { RecordAppends (Some self.old.steps) (Some self.new.steps) result (plain step) }
+        ensures appends { RecordAppends (Some self.old.steps) (Some self.new.steps) result
+            (plain step) }
         ensures refused { IsTrue (is_refused self.old) → IsErr result }
-        ensures counted { (self.new.calls ≡ called self.old) × (self.new.refused ≡ self.old.refused) }
+        ensures counted { (self.new.calls ≡ called self.old)
+            × (self.new.refused ≡ self.old.refused) }
     {
         self.calls = self.calls.saturating_add(1);
         if self.refused == Some(self.calls) {

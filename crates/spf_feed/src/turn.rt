@@ -1,4 +1,5 @@
-//! What an event does: the step and the records that it makes, or the error that it ends the session with.
+//! What an event does: the step and the records that it
+//! makes, or the error that it ends the session with.
 
 ghost use Rattle.std.specs.Prelude.{◌≡◌, true, false, None, Some, [], if◌then◌else◌};
 ghost use Rattle.std.specs.Option.{ForSome, option_map};
@@ -10,7 +11,9 @@ ghost use Rattle.spf_feed.specs.declared.record.MetricsErrorKind.TheVariants as 
 ghost use Rattle.spf_feed.specs.declared.turn.Terminal.TheVariants as terminal;
 ghost use Rattle.spf_feed.specs.Items.{rules_with, denial_in, may_sync as may_sync_by};
 ghost use Rattle.spf_feed.specs.Limits.{within};
-ghost use Rattle.spf_feed.specs.Run.{ended, over_limit, kept_out, limit_error as limit_error_of, connect_error as connect_error_of, rejected_or_unsupported, client_rejected, timed_out};
+ghost use Rattle.spf_feed.specs.Run.{ended, over_limit, kept_out, limit_error as limit_error_of};
+ghost use Rattle.spf_feed.specs.Run.{connect_error as connect_error_of, rejected_or_unsupported};
+ghost use Rattle.spf_feed.specs.Run.{client_rejected, timed_out};
 ghost use Rattle.spf_feed.specs.Received.{received_refusal, received_outcome, received_records};
 ghost use Rattle.spf_feed.specs.Turns.{MayTake, IsTurn, listed, refusal_in, client_refusal_in};
 
@@ -148,7 +151,8 @@ fn initial_turn(answer: WorkloadApiError, error: Option<MetricsErrorKind>) -> Tu
 /// A status once an item was accepted: a denial withdraws, and nothing ends the session.
 fn synced_turn(answer: WorkloadApiError, error: Option<MetricsErrorKind>) -> Turn
     ensures may { (limits : ResourceLimits) → MayTake limits true result }
-    ensures turn { IsTurn None (denied_or_passed true (denial_in answer)) (ended true error) result }
+    ensures turn { IsTurn None (denied_or_passed true (denial_in answer)) (ended true error)
+        result }
 {
     let records = Records::ended(true, error);
     match answer {
@@ -166,7 +170,8 @@ fn synced_turn(answer: WorkloadApiError, error: Option<MetricsErrorKind>) -> Tur
 
 fn status_turn(synced: bool, answer: WorkloadApiError, error: Option<MetricsErrorKind>) -> Turn
     ensures may { (limits : ResourceLimits) → MayTake limits synced result }
-    ensures turn { IsTurn (if synced then None else refusal_in answer) (denied_or_passed synced (denial_in answer)) (ended synced error) result }
+    ensures turn { IsTurn (if synced then None else refusal_in answer)
+        (denied_or_passed synced (denial_in answer)) (ended synced error) result }
 {
     if synced {
         synced_turn(answer, error)
@@ -187,7 +192,9 @@ fn connect_error(answer: &WorkloadApiError) -> Option<MetricsErrorKind>
 
 fn connect_turn(synced: bool, status: GrpcStatusError) -> Turn
     ensures may { (limits : ResourceLimits) → MayTake limits synced result }
-    ensures turn { IsTurn (if synced then None else rejected_or_unsupported status) (denied_or_passed synced (denial_in (status_reading status))) (ended synced (connect_error_of (status_reading status))) result }
+    ensures turn { IsTurn (if synced then None else rejected_or_unsupported status)
+        (denied_or_passed synced (denial_in (status_reading status)))
+        (ended synced (connect_error_of (status_reading status))) result }
 {
     let answer = WorkloadApiError::from_status(status);
     let error = connect_error(&answer);
@@ -196,7 +203,9 @@ fn connect_turn(synced: bool, status: GrpcStatusError) -> Turn
 
 fn item_status_turn(synced: bool, status: GrpcStatusError) -> Turn
     ensures may { (limits : ResourceLimits) → MayTake limits synced result }
-    ensures turn { IsTurn (if synced then None else rejected_or_unsupported status) (denied_or_passed synced (denial_in (status_reading status))) (ended synced (Some kinds.StreamError)) result }
+    ensures turn { IsTurn (if synced then None else rejected_or_unsupported status)
+        (denied_or_passed synced (denial_in (status_reading status)))
+        (ended synced (Some kinds.StreamError)) result }
 {
     let answer = WorkloadApiError::from_status(status);
     status_turn(synced, answer, Some(MetricsErrorKind::StreamError))
@@ -205,7 +214,8 @@ fn item_status_turn(synced: bool, status: GrpcStatusError) -> Turn
 /// A status of the client before any accepted item.
 fn initial_failure_turn(answer: WorkloadApiError) -> Turn
     ensures may { (limits : ResourceLimits) → MayTake limits false result }
-    ensures turn { IsTurn (client_refusal_in answer) OutcomePassed (ended false (Some kinds.ClientCreation)) result }
+    ensures turn { IsTurn (client_refusal_in answer) OutcomePassed
+        (ended false (Some kinds.ClientCreation)) result }
 {
     if answer.is_invalid_argument() {
         return Turn::Terminal(Terminal::Source(answer));
@@ -216,7 +226,8 @@ fn initial_failure_turn(answer: WorkloadApiError) -> Turn
 /// A client failure never is a denial.
 fn failure_turn(synced: bool, fault: ClientFault) -> Turn
     ensures may { (limits : ResourceLimits) → MayTake limits synced result }
-    ensures turn { IsTurn (if synced then None else client_rejected fault) OutcomePassed (ended synced (Some kinds.ClientCreation)) result }
+    ensures turn { IsTurn (if synced then None else client_rejected fault) OutcomePassed
+        (ended synced (Some kinds.ClientCreation)) result }
 {
     if synced {
         return Turn::Passed(Records::ended(true, Some(MetricsErrorKind::ClientCreation)));
@@ -233,7 +244,8 @@ fn failure_turn(synced: bool, fault: ClientFault) -> Turn
 
 fn moment_turn(synced: bool, deadline: Option<i64>, moment: i64) -> Turn
     ensures may { (limits : ResourceLimits) → MayTake limits synced result }
-    ensures turn { IsTurn (if synced then None else timed_out deadline moment) OutcomePassed [] result }
+    ensures turn { IsTurn (if synced then None else timed_out deadline moment) OutcomePassed []
+        result }
 {
     match deadline {
         Some(deadline) if !synced && deadline <= moment => {
@@ -274,7 +286,9 @@ fn item_turn<C: SvidPicker>(
     requires { ForSome picker (λ p. C.can_pick p.now) }
     ensures may { MayTake rules.limits synced result }
     ensures turn { IsTurn None
-        (received_outcome (rules_with rules.limits rules.deadline rules.ready (option_map (λ p. C.picks p.now) picker.entry)) synced now (events.Item (Some context)))
+        (received_outcome
+        (rules_with rules.limits rules.deadline rules.ready
+        (option_map (λ p. C.picks p.now) picker.entry)) synced now (events.Item (Some context)))
         (kept_out synced (within rules.limits context)) result }
 {
     if let Err(broken) = validate_limits(&context, rules.limits) {
@@ -287,7 +301,8 @@ fn item_turn<C: SvidPicker>(
     Turn::Accepted { context, choice }
 }
 
-/// What an event does, where an item was accepted before it or not, and at the last moment before it.
+/// What an event does, where an item was accepted
+/// before it or not, and at the last moment before it.
 pub(crate) fn turn_of<C: SvidPicker>(
     rules: SessionRules,
     picker: Option<&C>,
@@ -298,7 +313,9 @@ pub(crate) fn turn_of<C: SvidPicker>(
     requires { ForSome picker (λ p. C.can_pick p.now) }
     ensures may { MayTake rules.limits synced result }
     ensures turn { IsTurn (received_refusal rules.deadline synced event)
-        (received_outcome (rules_with rules.limits rules.deadline rules.ready (option_map (λ p. C.picks p.now) picker.entry)) synced now event)
+        (received_outcome
+        (rules_with rules.limits rules.deadline rules.ready
+        (option_map (λ p. C.picks p.now) picker.entry)) synced now event)
         (received_records synced rules.limits event) result }
 {
     match event {

@@ -3,7 +3,8 @@
 ghost use Rattle.std.specs.Prelude.{◌≡◌, ◌≤◌, ◌^◌, take, length as list_len};
 ghost use Rattle.std.specs.Int.{w32, to_be_bytes, from_be_bytes};
 ghost use Rattle.spf_frame.specs.Parts.{PartRead, PartPut, FailureHasCause};
-ghost use Rattle.spf_frame.specs.Frames.{sized, sized_front, FitsFrame, KindRead, FrameRead, with_payload};
+ghost use Rattle.spf_frame.specs.Frames.{sized, sized_front, FitsFrame, KindRead, FrameRead};
+ghost use Rattle.spf_frame.specs.Frames.{with_payload};
 
 use crate::error::FrameError;
 use crate::fill::fill;
@@ -44,7 +45,8 @@ fn read_kind<S: Source>(source: &mut S) -> Result<Option<u8>, FrameError>
 
 /// The four octets of a length.
 fn read_length<S: Source>(source: &mut S) -> Result<u32, FrameError>
-    ensures bytes { PartRead (to_be_bytes w32) (λ n. n ≤ 2 ^ 24) sized_front (S.left source.old) (S.left source.new) result }
+    ensures bytes { PartRead (to_be_bytes w32) (λ n. n ≤ 2 ^ 24) sized_front (S.left source.old)
+        (S.left source.new) result }
     ensures cause { FailureHasCause (S.failures source.old) (S.failures source.new) result }
 {
     let mut octets = [0; 4];
@@ -69,7 +71,8 @@ fn read_octets<S: Source>(
     payload: &mut Vec<u8>,
     length: u32,
 ) -> Result<(), FrameError>
-    ensures bytes { PartPut (λ p. p) (λ p. list_len p ≡ length) (take length) (S.left source.old) (S.left source.new) result payload.new.items }
+    ensures bytes { PartPut (λ p. p) (λ p. list_len p ≡ length) (take length) (S.left source.old)
+        (S.left source.new) result payload.new.items }
     ensures cause { FailureHasCause (S.failures source.old) (S.failures source.new) result }
 {
     match payload.resize(length as usize, 0) {
@@ -89,7 +92,8 @@ fn read_octets<S: Source>(
 
 /// Four octets of length, and the payload, in place of what the buffer held.
 fn read_sized<S: Source>(source: &mut S, payload: &mut Vec<u8>) -> Result<(), FrameError>
-    ensures bytes { PartPut sized FitsFrame sized_front (S.left source.old) (S.left source.new) result payload.new.items }
+    ensures bytes { PartPut sized FitsFrame sized_front (S.left source.old) (S.left source.new)
+        result payload.new.items }
     ensures cause { FailureHasCause (S.failures source.old) (S.failures source.new) result }
 {
     let length = read_length(source)?;
@@ -97,15 +101,16 @@ fn read_sized<S: Source>(source: &mut S, payload: &mut Vec<u8>) -> Result<(), Fr
     Ok(())
 }
 
-/// The kind of the next frame, whose payload then stands in the buffer. None at the end of input. A byte where no frame is
-/// allowed, and a kind that may not stand, end the reading there.
+/// The kind of the next frame, whose payload then stands in the buffer. None at the end of input. A
+/// byte where no frame is allowed, and a kind that may not stand, end the reading there.
 pub fn next_frame<S: Source, K: Kinds>(
     source: &mut S,
     payload: &mut Vec<u8>,
     kinds: &K,
     allowed: bool,
 ) -> Result<Option<u8>, FrameError>
-    ensures bytes { FrameRead (K.allows kinds.now) allowed (S.left source.old) (S.left source.new) (with_payload result payload.new.items) }
+    ensures bytes { FrameRead (K.allows kinds.now) allowed (S.left source.old) (S.left source.new)
+        (with_payload result payload.new.items) }
     ensures cause { FailureHasCause (S.failures source.old) (S.failures source.new) result }
 {
     let Some(kind) = read_kind(source)? else {
@@ -128,7 +133,8 @@ pub fn read_frame<S: Source, K: Kinds>(
     kinds: &K,
     allowed: bool,
 ) -> Result<Option<RawFrame>, FrameError>
-    ensures bytes { FrameRead (K.allows kinds.now) allowed (S.left source.old) (S.left source.new) result }
+    ensures bytes { FrameRead (K.allows kinds.now) allowed (S.left source.old) (S.left source.new)
+        result }
     ensures cause { FailureHasCause (S.failures source.old) (S.failures source.new) result }
 {
     let mut payload = Vec::new(alloc);

@@ -1,5 +1,5 @@
-//! Frames: a kind octet, four octets of length and a payload, as sessions and the wire read them from a source, and the
-//! statuses that some of them carry.
+//! Frames: a kind octet, four octets of length and a payload, as sessions and the wire read them
+//! from a source, and the statuses that some of them carry.
 #![tactic(auto)]
 
 mod error;

@@ -21,7 +21,8 @@ pub fn read_text(alloc: Global, bytes: &[u8]) -> Result<Option<Text>, OutOfMemor
     Ok(Some(Text::copy_of(alloc, text)?))
 }
 
-/// The status that the bytes are, a code octet and its message, where nothing follows it. None where they are none.
+/// The status that the bytes are, a code octet and its message,
+/// where nothing follows it. None where they are none.
 #[tactic(auto, unfolding(crate::specs::Status::status_at))]
 pub fn read_status(alloc: Global, bytes: &[u8]) -> Result<Option<GrpcStatusError>, OutOfMemory>
     ensures { IfOk result (λ o. o ≡ status_at bytes.now) }

@@ -1,13 +1,16 @@
 -- Messages whose fields replace one another: the last of each number stands.
-use Rattle.std.proofs.Common.{◌≡◌, ◌∙◌, ℕ, List, [], ◌∷◌, Option, Some, None, Bool, true, false, cond, refl, ap}
+use Rattle.std.proofs.Common.{◌≡◌, ◌∙◌, ℕ, List, [], ◌∷◌, Option, Some, None, Bool, true, false}
+use Rattle.std.proofs.Common.{cond, refl, ap}
 use Rattle.std.specs.Prelude.{◌&&◌}
 use Rattle.std.specs.List.{list_all}
 use Rattle.spf_io.specs.Option.{◌>>=◌}
 use Rattle.spf_api.specs.declared.response.SvidEntry.{SvidEntry}
 use Rattle.spf_api.specs.declared.response.BundleEntry.{BundleEntry}
 use Rattle.spf_proto.specs.Wire.{WireField}
-use Rattle.spf_proto.specs.Message.{fields_of, octets_of, has_number, values_of, last_or, is_svid_field, svid_message, is_bundle_field, bundle_message}
-use Rattle.spf_proto.specs.Folded.{folded, message_from, replaced, svid_and, svid_with, bundle_and, bundle_with}
+use Rattle.spf_proto.specs.Message.{fields_of, octets_of, has_number, values_of, last_or}
+use Rattle.spf_proto.specs.Message.{is_svid_field, svid_message, is_bundle_field, bundle_message}
+use Rattle.spf_proto.specs.Folded.{folded, message_from, replaced, svid_and, svid_with, bundle_and}
+use Rattle.spf_proto.specs.Folded.{bundle_with}
 
 first_of : (b : Bool) (octets first : List ℕ) (others : List (List ℕ))
     → last_or (cond b octets first) others ≡ last_or first (cond b (octets ∷ others) others)
@@ -30,7 +33,8 @@ svid_onto e fs = record {
   hint = last_or e.hint (values_of 5 fs);
 }
 
-svid_more : (e : SvidEntry) (f : WireField) (fs : List WireField) → svid_onto (svid_and e f) fs ≡ svid_onto e (f ∷ fs)
+svid_more : (e : SvidEntry) (f : WireField) (fs : List WireField)
+    → svid_onto (svid_and e f) fs ≡ svid_onto e (f ∷ fs)
 svid_more e f fs = λ i. record {
   spiffe_id = replaced_first 1 f fs e.spiffe_id i;
   x509_svid = replaced_first 2 f fs e.x509_svid i;
@@ -40,12 +44,14 @@ svid_more e f fs = λ i. record {
 }
 
 svid_step : (b : Bool) (e : SvidEntry) (f : WireField) (fs : List WireField)
-    → folded svid_with (svid_and e f) fs ≡ cond (list_all is_svid_field fs) (Some (svid_onto (svid_and e f) fs)) None
+    → folded svid_with (svid_and e f) fs
+    ≡ cond (list_all is_svid_field fs) (Some (svid_onto (svid_and e f) fs)) None
     → (cond b (Some (svid_and e f)) None >>= λ next. folded svid_with next fs)
     ≡ cond (b && list_all is_svid_field fs) (Some (svid_onto e (f ∷ fs))) None
 svid_step false e f fs others = refl
 svid_step true e f fs others =
-    others ∙ ap (λ (x : SvidEntry). cond (list_all is_svid_field fs) (Some x) None) (svid_more e f fs)
+    others ∙ ap (λ (x : SvidEntry). cond (list_all is_svid_field fs) (Some x) None)
+    (svid_more e f fs)
 
 svid_folded : (e : SvidEntry) (fs : List WireField)
     → folded svid_with e fs ≡ cond (list_all is_svid_field fs) (Some (svid_onto e fs)) None
@@ -53,41 +59,56 @@ unfolding svid_with
 svid_folded e [] = refl
 svid_folded e (f ∷ fs) = svid_step (is_svid_field f) e f fs (svid_folded (svid_and e f) fs)
 
-pub after_fields : {M : Type 0} (fs : Option (List WireField)) (one other : List WireField → Option M)
+pub after_fields : {M : Type 0} (fs : Option (List WireField))
+    (one other : List WireField → Option M)
     → ((x : List WireField) → one x ≡ other x) → (fs >>= one) ≡ (fs >>= other)
 after_fields None one other each = refl
 after_fields (Some fs) one other each = each fs
 
 pub svid_is_read : (bytes : List ℕ)
-    → message_from svid_with (record { spiffe_id = []; x509_svid = []; x509_svid_key = []; bundle = []; hint = [] }) bytes ≡ svid_message bytes
+    → message_from svid_with
+    (record { spiffe_id = []; x509_svid = []; x509_svid_key = []; bundle = []; hint = [] }) bytes
+    ≡ svid_message bytes
 unfolding svid_message
-svid_is_read bytes = after_fields (fields_of bytes) _ _ (svid_folded (record { spiffe_id = []; x509_svid = []; x509_svid_key = []; bundle = []; hint = [] }))
+svid_is_read bytes =
+    after_fields (fields_of bytes) _ _
+    (svid_folded
+    (record { spiffe_id = []; x509_svid = []; x509_svid_key = []; bundle = []; hint = [] }))
 
 -- ---- a bundle
 
 abbrev bundle_onto : BundleEntry → List WireField → BundleEntry
-bundle_onto e fs = record { name = last_or e.name (values_of 1 fs); bundle = last_or e.bundle (values_of 2 fs) }
+bundle_onto e fs = record {
+  name = last_or e.name (values_of 1 fs);
+  bundle = last_or e.bundle (values_of 2 fs);
+}
 
-bundle_more : (e : BundleEntry) (f : WireField) (fs : List WireField) → bundle_onto (bundle_and e f) fs ≡ bundle_onto e (f ∷ fs)
+bundle_more : (e : BundleEntry) (f : WireField) (fs : List WireField)
+    → bundle_onto (bundle_and e f) fs ≡ bundle_onto e (f ∷ fs)
 bundle_more e f fs = λ i. record {
   name = replaced_first 1 f fs e.name i;
   bundle = replaced_first 2 f fs e.bundle i;
 }
 
 bundle_step : (b : Bool) (e : BundleEntry) (f : WireField) (fs : List WireField)
-    → folded bundle_with (bundle_and e f) fs ≡ cond (list_all is_bundle_field fs) (Some (bundle_onto (bundle_and e f) fs)) None
+    → folded bundle_with (bundle_and e f) fs
+    ≡ cond (list_all is_bundle_field fs) (Some (bundle_onto (bundle_and e f) fs)) None
     → (cond b (Some (bundle_and e f)) None >>= λ next. folded bundle_with next fs)
     ≡ cond (b && list_all is_bundle_field fs) (Some (bundle_onto e (f ∷ fs))) None
 bundle_step false e f fs others = refl
 bundle_step true e f fs others =
-    others ∙ ap (λ (x : BundleEntry). cond (list_all is_bundle_field fs) (Some x) None) (bundle_more e f fs)
+    others ∙ ap (λ (x : BundleEntry). cond (list_all is_bundle_field fs) (Some x) None)
+    (bundle_more e f fs)
 
 bundle_folded : (e : BundleEntry) (fs : List WireField)
     → folded bundle_with e fs ≡ cond (list_all is_bundle_field fs) (Some (bundle_onto e fs)) None
 unfolding bundle_with
 bundle_folded e [] = refl
-bundle_folded e (f ∷ fs) = bundle_step (is_bundle_field f) e f fs (bundle_folded (bundle_and e f) fs)
+bundle_folded e (f ∷ fs) =
+    bundle_step (is_bundle_field f) e f fs (bundle_folded (bundle_and e f) fs)
 
-pub bundle_is_read : (bytes : List ℕ) → message_from bundle_with (record { name = []; bundle = [] }) bytes ≡ bundle_message bytes
+pub bundle_is_read : (bytes : List ℕ)
+    → message_from bundle_with (record { name = []; bundle = [] }) bytes ≡ bundle_message bytes
 unfolding bundle_message
-bundle_is_read bytes = after_fields (fields_of bytes) _ _ (bundle_folded (record { name = []; bundle = [] }))
+bundle_is_read bytes =
+    after_fields (fields_of bytes) _ _ (bundle_folded (record { name = []; bundle = [] }))

@@ -6,7 +6,8 @@ use Rattle.spf_api.specs.declared.response.SvidEntry.{SvidEntry}
 use Rattle.spf_api.specs.declared.response.BundleEntry.{BundleEntry}
 use Rattle.spf_api.specs.declared.response.ContextResponse.{ContextResponse}
 use Rattle.spf_proto.specs.Wire.{WireField}
-use Rattle.spf_proto.specs.Message.{fields_of, octets_of, has_number, is_delimited, is_svid_field, svid_message, is_bundle_field, bundle_message}
+use Rattle.spf_proto.specs.Message.{fields_of, octets_of, has_number, is_delimited, is_svid_field}
+use Rattle.spf_proto.specs.Message.{svid_message, is_bundle_field, bundle_message}
 
 -- what the fields make of a message, one after another; none where one may not stand
 abbrev pub folded : {M : Type 0} → (M → WireField → Option M) → M → List WireField → Option M
@@ -44,9 +45,20 @@ bundle_with e f = if is_bundle_field f then Some (bundle_and e f) else None
 -- a response with one member more, where the field is of a number that is named
 abbrev pub context_and : ContextResponse → WireField → Option ContextResponse
 context_and r f =
-    if f.number == 1 then option_map (λ svid. record { svids = r.svids ++ svid ∷ []; federated = r.federated; crls = r.crls }) (svid_message (octets_of f))
-    else (if f.number == 2 then Some (record { svids = r.svids; federated = r.federated; crls = r.crls ++ octets_of f ∷ [] })
-    else (if f.number == 3 then option_map (λ bundle. record { svids = r.svids; federated = r.federated ++ bundle ∷ []; crls = r.crls }) (bundle_message (octets_of f))
+    if f.number == 1
+    then option_map
+    (λ svid. record { svids = r.svids ++ svid ∷ []; federated = r.federated; crls = r.crls })
+    (svid_message (octets_of f))
+    else (if f.number == 2
+    then Some (record {
+      svids = r.svids;
+      federated = r.federated;
+      crls = r.crls ++ octets_of f ∷ [];
+    })
+    else (if f.number == 3
+    then option_map
+    (λ bundle. record { svids = r.svids; federated = r.federated ++ bundle ∷ []; crls = r.crls })
+    (bundle_message (octets_of f))
     else Some r))
 
 -- a response with one field more, where that may stand

@@ -22,6 +22,7 @@ abbrev pub text_cmp : Bor (List ℕ) → Bor (List ℕ) → Ordering
 text_cmp x y = slice_cmp nat_cmp x.now y.now
 
 -- the entry is kept unless its name was met, and its name is met now
-pub record KeptWith (e : BundleEntryView) (old new : List BundleEntryView) (names met : BTreeSet (Bor (List ℕ))) : Type 0 where
+pub record KeptWith (e : BundleEntryView) (old new : List BundleEntryView)
+    (names met : BTreeSet (Bor (List ℕ))) : Type 0 where
   pub kept : new ≡ (if contains text_cmp names e.name then old else old ++ e ∷ [])
   pub met_too : Updates text_cmp names met e.name true

@@ -1,4 +1,5 @@
--- The messages X509SVIDResponse and X509SVID of the SPIFFE Workload API, and an entry of a map of bundles.
+-- The messages X509SVIDResponse and X509SVID of the
+-- SPIFFE Workload API, and an entry of a map of bundles.
 use Rattle.std.specs.Prelude.{ℕ, zero, suc, List, [], ◌∷◌, length, Option, Some, None, Bool, not}
 use Rattle.std.specs.Prelude.{is_some, nat_eq, nat_le, ◌==◌, ◌&&◌, ◌||◌, if◌then◌else◌}
 use Rattle.std.specs.List.{list_all, list_any}
@@ -97,7 +98,8 @@ has_name name e = pointwise nat_eq e.name name
 -- of entries with the same name the last, in its place
 abbrev pub last_of_each : List BundleEntry → List BundleEntry
 last_of_each [] = []
-last_of_each (e ∷ es) = if list_any (has_name e.name) es then last_of_each es else e ∷ last_of_each es
+last_of_each (e ∷ es) =
+    if list_any (has_name e.name) es then last_of_each es else e ∷ last_of_each es
 
 -- X509SVIDResponse: svids 1, crl 2, federated_bundles 3
 abbrev pub members_of : List WireField → Option ContextResponse

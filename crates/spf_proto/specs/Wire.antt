@@ -1,5 +1,6 @@
 -- The encoding of Protocol Buffers: a message is a concatenation of fields, each a tag and a value.
-use Rattle.std.specs.Prelude.{ℕ, zero, suc, ◌+◌, ◌*◌, ◌-◌, ◌/◌, ◌%◌, ◌^◌, List, [], ◌∷◌, length, take, drop}
+use Rattle.std.specs.Prelude.{ℕ, zero, suc, ◌+◌, ◌*◌, ◌-◌, ◌/◌, ◌%◌, ◌^◌, List, [], ◌∷◌, length}
+use Rattle.std.specs.Prelude.{take, drop}
 use Rattle.std.specs.Prelude.{Option, Some, None, Bool, nat_le, nat_lt, ◌==◌, ◌&&◌, if◌then◌else◌}
 use Rattle.std.specs.Option.{option_map}
 use Rattle.std.specs.Borrow.{Bor}
@@ -38,7 +39,10 @@ pub record WireField : Type 0 where
   pub octets : Option (List ℕ)
 
 abbrev pub field_of : Field → WireField
-field_of f = record { number = f.number; octets = option_map (λ (b : Bor (List ℕ)). b.now) f.octets }
+field_of f = record {
+  number = f.number;
+  octets = option_map (λ (b : Bor (List ℕ)). b.now) f.octets;
+}
 
 -- the value of that type at the start, and what follows it
 abbrev pub value_at : ℕ → List ℕ → Option (Option (List ℕ) × List ℕ)

@@ -13,7 +13,8 @@ use spf_api::{BundleEntryView, SvidEntryView};
 
 /// The text of octets in UTF-8.
 fn text(octets: &[u8]) -> Option<&str>
-    ensures { option_map (λ t. t.now) result ≡ (if is_utf8 octets.now then Some octets.now else None) }
+    ensures { option_map (λ t. t.now) result
+        ≡ (if is_utf8 octets.now then Some octets.now else None) }
 {
     match str::from_utf8(octets) {
         Ok(text) => Some(text),
@@ -32,12 +33,14 @@ pub(crate) trait Message<'a>: Copy {
 
     /// Returns the message with one field more, and None where that field may not stand.
     fn with(&self, field: &Field<'a>) -> Option<Self>
-        ensures { option_map entry_of result ≡ with_field (entry_of self.now) (field_of field.now) };
+        ensures { option_map entry_of result
+            ≡ with_field (entry_of self.now) (field_of field.now) };
 }
 
 /// Reads the fields of a message, one after another.
 pub(crate) fn read_onto<'a, M: Message<'a>>(start: M, bytes: &'a [u8]) -> Option<M>
-    ensures { option_map M.entry_of result ≡ message_from M.with_field (M.entry_of start) bytes.now }
+    ensures { option_map M.entry_of result
+        ≡ message_from M.with_field (M.entry_of start) bytes.now }
 {
     let mut message = start;
     let mut rest = bytes;

@@ -1,4 +1,5 @@
-//! The body of a gRPC response of the Workload API: messages in Protocol Buffers, and the session that they stand for.
+//! The body of a gRPC response of the Workload API: messages
+//! in Protocol Buffers, and the session that they stand for.
 #![tactic(auto)]
 
 mod entry;

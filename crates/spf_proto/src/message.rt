@@ -27,7 +27,9 @@ impl<'a> Members<'a> {
     /// Adds what a field holds. Returns false where that field may not stand.
     #[tactic(auto, unfolding(crate::specs::Folded::context_with))]
     fn add(&mut self, field: &Field<'a>) -> Result<bool, OutOfMemory>
-        ensures { IfOk result (λ added. (if added then Some (shown self.new) else None) ≡ context_with (shown self.old) (field_of field.now)) }
+        ensures { IfOk result
+            (λ added. (if added then Some (shown self.new) else None)
+            ≡ context_with (shown self.old) (field_of field.now)) }
     {
         let Some(octets) = field.octets else {
             return Ok(field.number > 3);
@@ -93,7 +95,8 @@ fn last_of_each<'a>(
     alloc: Global,
     entries: &[BundleEntryView<'a>],
 ) -> Result<Vec<BundleEntryView<'a>>, OutOfMemory>
-    ensures { IfOk result (λ v. map bundle_entry_of v.items ≡ last_of_each (map bundle_entry_of entries.now)) }
+    ensures { IfOk result
+        (λ v. map bundle_entry_of v.items ≡ last_of_each (map bundle_entry_of entries.now)) }
 {
     let mut kept = Vec::new(alloc);
     let mut names = BTreeSet::new(alloc);

@@ -34,9 +34,11 @@ fn read_delimited(bytes: &[u8]) -> Option<(&[u8], &[u8])>
     Some(rest.split_at(length as usize))
 }
 
-/// Reads the value of a type at the start of the bytes: the octets of a length-delimited one, and what follows it.
+/// Reads the value of a type at the start of the bytes: the
+/// octets of a length-delimited one, and what follows it.
 fn read_value(wire_type: u64, bytes: &[u8]) -> Option<(Option<&[u8]>, &[u8])>
-    ensures exact { option_map (λ x. (option_map (λ b. b.now) x.0, x.1.now)) result ≡ value_at wire_type bytes.now }
+    ensures exact { option_map (λ x. (option_map (λ b. b.now) x.0, x.1.now)) result
+        ≡ value_at wire_type bytes.now }
     ensures shorter { IfSome result (λ x. length x.1.now ≤ length bytes.now) }
 {
     match wire_type {

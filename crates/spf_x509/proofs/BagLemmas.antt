@@ -1,5 +1,6 @@
 -- Lists are equal as bags exactly where each value counts the same in both.
-use Rattle.std.proofs.Common.{◌≡◌, ℕ, ◌+◌, Bool, true, false, cond, List, [], ◌∷◌, Option, None, Some, refl, sym, ap, ◌∙◌, arith}
+use Rattle.std.proofs.Common.{◌≡◌, ℕ, ◌+◌, Bool, true, false, cond, List, [], ◌∷◌, Option, None}
+use Rattle.std.proofs.Common.{Some, refl, sym, ap, ◌∙◌, arith}
 use Rattle.std.specs.Cmp.{IsEquivalence}
 use Rattle.std.specs.Option.{option_map, option_map_or}
 use Rattle.std.specs.List.Sorted.{IsPermutation}
@@ -27,7 +28,8 @@ pub record SameCounts {X : Type 0} (E : X → X → Bool) (xs ys : List X) : Typ
 
 -- ---- taking out
 
-pub alike : {X : Type 0} (E : X → X → Bool) (o : IsEquivalence E) (x y z : X) → E x y ≡ true → E z x ≡ E z y
+pub alike : {X : Type 0} (E : X → X → Bool) (o : IsEquivalence E) (x y z : X) → E x y ≡ true
+    → E z x ≡ E z y
 alike E o x y z h = o.symm z x ∙ o.congr x y z h ∙ o.symm y z
 
 none_some : {A : Type 0} {o : Option A} {a : A} {C : Type 0} → o ≡ None → o ≡ Some a → C
@@ -38,19 +40,25 @@ mapped_none f None e = refl
 mapped_none f (Some a) e = cc
 
 -- what is left, and one more
-pub taken : {X : Type 0} (E : X → X → Bool) (o : IsEquivalence E) (x : X) (ys rest : List X) → take_out E x ys ≡ Some rest → (z : X) → count (E z) ys ≡ cond (E z x) 1 0 + count (E z) rest
+pub taken : {X : Type 0} (E : X → X → Bool) (o : IsEquivalence E) (x : X) (ys rest : List X)
+    → take_out E x ys ≡ Some rest → (z : X) → count (E z) ys ≡ cond (E z x) 1 0 + count (E z) rest
 taken E o x [] rest e z = cc
 taken {X} E o x (y ∷ ys) rest e z =
     elim (known (E x y)) [
-      | Yes h ↦ let f : Some ys ≡ Some rest = sym (ap (λ b. cond b (Some ys) (option_map (λ r. y ∷ r) (take_out E x ys))) h) ∙ e in
+      | Yes h ↦ let f : Some ys ≡ Some rest =
+          sym (ap (λ b. cond b (Some ys) (option_map (λ r. y ∷ r) (take_out E x ys))) h) ∙ e in
           let g : ys ≡ rest = cc in
-          ap (λ b. cond b 1 0 + count (E z) ys) (sym (alike E o x y z h)) ∙ ap (λ r. cond (E z x) 1 0 + count (E z) r) g
-      | No h ↦ let f : option_map (λ r. y ∷ r) (take_out E x ys) ≡ Some rest = sym (ap (λ b. cond b (Some ys) (option_map (λ r. y ∷ r) (take_out E x ys))) h) ∙ e in
+          ap (λ b. cond b 1 0 + count (E z) ys) (sym (alike E o x y z h))
+          ∙ ap (λ r. cond (E z x) 1 0 + count (E z) r) g
+      | No h ↦ let f : option_map (λ r. y ∷ r) (take_out E x ys) ≡ Some rest =
+          sym (ap (λ b. cond b (Some ys) (option_map (λ r. y ∷ r) (take_out E x ys))) h) ∙ e in
           under (λ r t. taken E o x ys r t z) (take_out E x ys) refl f
     ]
   where
-    under : ((r : List X) → take_out E x ys ≡ Some r → count (E z) ys ≡ cond (E z x) 1 0 + count (E z) r)
-        → (t : Option (List X)) → take_out E x ys ≡ t → option_map (λ r. y ∷ r) t ≡ Some rest → cond (E z y) 1 0 + count (E z) ys ≡ cond (E z x) 1 0 + count (E z) rest
+    under : ((r : List X) → take_out E x ys ≡ Some r
+        → count (E z) ys ≡ cond (E z x) 1 0 + count (E z) r)
+        → (t : Option (List X)) → take_out E x ys ≡ t → option_map (λ r. y ∷ r) t ≡ Some rest
+        → cond (E z y) 1 0 + count (E z) ys ≡ cond (E z x) 1 0 + count (E z) rest
     under ih None t f = cc
     under ih (Some r) t f = let g : (y ∷ r) ≡ rest = cc in
         let i = ih r t in
@@ -58,41 +66,61 @@ taken {X} E o x (y ∷ ys) rest e z =
         omega (arith, i, j)
 
 -- none is there to be taken
-pub untaken : {X : Type 0} (E : X → X → Bool) (x : X) (ys : List X) → take_out E x ys ≡ None → count (E x) ys ≡ 0
+pub untaken : {X : Type 0} (E : X → X → Bool) (x : X) (ys : List X) → take_out E x ys ≡ None
+    → count (E x) ys ≡ 0
 untaken E x [] e = refl
 untaken E x (y ∷ ys) e =
     elim (known (E x y)) [
-      | Yes h ↦ let f : Some ys ≡ None = sym (ap (λ b. cond b (Some ys) (option_map (λ r. y ∷ r) (take_out E x ys))) h) ∙ e in cc
-      | No h ↦ let f : option_map (λ r. y ∷ r) (take_out E x ys) ≡ None = sym (ap (λ b. cond b (Some ys) (option_map (λ r. y ∷ r) (take_out E x ys))) h) ∙ e in
+      | Yes h ↦ let f : Some ys ≡ None =
+          sym (ap (λ b. cond b (Some ys) (option_map (λ r. y ∷ r) (take_out E x ys))) h) ∙ e in cc
+      | No h ↦ let f : option_map (λ r. y ∷ r) (take_out E x ys) ≡ None =
+          sym (ap (λ b. cond b (Some ys) (option_map (λ r. y ∷ r) (take_out E x ys))) h) ∙ e in
           let i = untaken E x ys (mapped_none (λ r. y ∷ r) (take_out E x ys) f) in
-          let j : cond (E x y) 1 0 + count (E x) ys ≡ 0 + count (E x) ys = ap (λ b. cond b 1 0 + count (E x) ys) h in
+          let j : cond (E x y) 1 0 + count (E x) ys ≡ 0 + count (E x) ys =
+          ap (λ b. cond b 1 0 + count (E x) ys) h in
           omega (arith, i, j)
     ]
 
-pub counted : {X : Type 0} (E : X → X → Bool) (x : X) (n : ℕ) → E x x ≡ true → cond (E x x) 1 0 + n ≡ 1 + n
+pub counted : {X : Type 0} (E : X → X → Bool) (x : X) (n : ℕ) → E x x ≡ true
+    → cond (E x x) 1 0 + n ≡ 1 + n
 counted E x n h = ap (λ b. cond b 1 0 + n) h
 
 -- ---- bags and counts
 
-pub counts_from_bag : {X : Type 0} (E : X → X → Bool) (o : IsEquivalence E) (xs ys : List X) → same_bag E xs ys ≡ true → SameCounts E xs ys
+pub counts_from_bag : {X : Type 0} (E : X → X → Bool) (o : IsEquivalence E) (xs ys : List X)
+    → same_bag E xs ys ≡ true → SameCounts E xs ys
 counts_from_bag E o [] [] e = record { each = λ z. refl }
 counts_from_bag E o [] (y ∷ ys) e = cc
-counts_from_bag {X} E o (x ∷ xs) ys e = under (λ r. counts_from_bag E o xs r) (take_out E x ys) refl e
+counts_from_bag {X} E o (x ∷ xs) ys e =
+    under (λ r. counts_from_bag E o xs r) (take_out E x ys) refl e
   where
     under : ((r : List X) → same_bag E xs r ≡ true → SameCounts E xs r)
-        → (t : Option (List X)) → take_out E x ys ≡ t → option_map_or (λ r. same_bag E xs r) t false ≡ true → SameCounts E (x ∷ xs) ys
+        → (t : Option (List X)) → take_out E x ys ≡ t
+        → option_map_or (λ r. same_bag E xs r) t false ≡ true → SameCounts E (x ∷ xs) ys
     under ih None t f = cc
-    under ih (Some r) t f = record { each = λ z. let i = (ih r f).each z in let j = taken E o x ys r t z in omega (arith, i, j) }
+    under ih (Some r) t f =
+        record {
+          each = λ z. let i = (ih r f).each z in let j = taken E o x ys r t z in
+              omega (arith, i, j);
+        }
 
-pub bag_from_counts : {X : Type 0} (E : X → X → Bool) (o : IsEquivalence E) (xs ys : List X) → SameCounts E xs ys → same_bag E xs ys ≡ true
+pub bag_from_counts : {X : Type 0} (E : X → X → Bool) (o : IsEquivalence E) (xs ys : List X)
+    → SameCounts E xs ys → same_bag E xs ys ≡ true
 bag_from_counts E o [] [] h = refl
-bag_from_counts E o [] (y ∷ ys) h = let i = h.each y in let j = counted E y (count (E y) ys) (o.refl y) in absurd (omega (arith, i, j))
+bag_from_counts E o [] (y ∷ ys) h = let i = h.each y in
+    let j = counted E y (count (E y) ys) (o.refl y) in absurd (omega (arith, i, j))
 bag_from_counts {X} E o (x ∷ xs) ys h = under (λ r. bag_from_counts E o xs r) (take_out E x ys) refl
   where
     under : ((r : List X) → SameCounts E xs r → same_bag E xs r ≡ true)
-        → (t : Option (List X)) → take_out E x ys ≡ t → option_map_or (λ r. same_bag E xs r) t false ≡ true
-    under ih None t = let i = h.each x in let j = counted E x (count (E x) xs) (o.refl x) in let k = untaken E x ys t in absurd (omega (arith, i, j, k))
-    under ih (Some r) t = ih r (record { each = λ z. let i = h.each z in let j = taken E o x ys r t z in omega (arith, i, j) })
+        → (t : Option (List X)) → take_out E x ys ≡ t
+        → option_map_or (λ r. same_bag E xs r) t false ≡ true
+    under ih None t = let i = h.each x in let j = counted E x (count (E x) xs) (o.refl x) in
+        let k = untaken E x ys t in absurd (omega (arith, i, j, k))
+    under ih (Some r) t =
+        ih r (record {
+          each = λ z. let i = h.each z in let j = taken E o x ys r t z in
+              omega (arith, i, j);
+        })
 
 -- two tests that imply each other are one
 pub both_ways : (b c : Bool) → (b ≡ true → c ≡ true) → (c ≡ true → b ≡ true) → b ≡ c
@@ -101,24 +129,34 @@ both_ways false true f g = g refl
 both_ways false false f g = refl
 
 -- equal bags do not depend on the order
-pub bag_moved : {X : Type 0} (E : X → X → Bool) (o : IsEquivalence E) (xs xs' ys ys' : List X) → SameCounts E xs xs' → SameCounts E ys ys' → same_bag E xs ys ≡ same_bag E xs' ys'
+pub bag_moved : {X : Type 0} (E : X → X → Bool) (o : IsEquivalence E) (xs xs' ys ys' : List X)
+    → SameCounts E xs xs' → SameCounts E ys ys' → same_bag E xs ys ≡ same_bag E xs' ys'
 bag_moved E o xs xs' ys ys' p q = both_ways (same_bag E xs ys) (same_bag E xs' ys')
-    (λ e. bag_from_counts E o xs' ys' (let c = counts_from_bag E o xs ys e in record { each = λ z. sym (p.each z) ∙ c.each z ∙ q.each z }))
-    (λ e. bag_from_counts E o xs ys (let c = counts_from_bag E o xs' ys' e in record { each = λ z. p.each z ∙ c.each z ∙ sym (q.each z) }))
+    (λ e. bag_from_counts E o xs' ys'
+    (let c = counts_from_bag E o xs ys e in
+    record { each = λ z. sym (p.each z) ∙ c.each z ∙ q.each z }))
+    (λ e. bag_from_counts E o xs ys
+    (let c = counts_from_bag E o xs' ys' e in
+    record { each = λ z. p.each z ∙ c.each z ∙ sym (q.each z) }))
 
 pub bag_equiv : {X : Type 0} (E : X → X → Bool) → IsEquivalence E → IsEquivalence (same_bag E)
 bag_equiv E o = record {
   refl = λ xs. bag_from_counts E o xs xs (record { each = λ z. refl });
   symm = λ xs ys. both_ways (same_bag E xs ys) (same_bag E ys xs)
-      (λ e. bag_from_counts E o ys xs (let c = counts_from_bag E o xs ys e in record { each = λ z. sym (c.each z) }))
-      (λ e. bag_from_counts E o xs ys (let c = counts_from_bag E o ys xs e in record { each = λ z. sym (c.each z) }));
-  congr = λ xs ys zs e. let c = counts_from_bag E o xs ys e in bag_moved E o xs ys zs zs c (record { each = λ z. refl });
+      (λ e. bag_from_counts E o ys xs
+      (let c = counts_from_bag E o xs ys e in record { each = λ z. sym (c.each z) }))
+      (λ e. bag_from_counts E o xs ys
+      (let c = counts_from_bag E o ys xs e in record { each = λ z. sym (c.each z) }));
+  congr = λ xs ys zs e. let c = counts_from_bag E o xs ys e in
+      bag_moved E o xs ys zs zs c (record { each = λ z. refl });
 }
 
-pub counts_from_permutation : {X : Type 0} (E : X → X → Bool) (xs ys : List X) → IsPermutation xs ys → SameCounts E xs ys
+pub counts_from_permutation : {X : Type 0} (E : X → X → Bool) (xs ys : List X) → IsPermutation xs ys
+    → SameCounts E xs ys
 counts_from_permutation E xs ys p = record {
   each = λ z.
-      is_count_by (count (E z)) (E z) refl (λ x l. by_test (E z x) (count (E z) l)) xs ∙ sym (sum_by-IsPermutation (λ x. cond (E z x) 1 0) xs ys p)
+      is_count_by (count (E z)) (E z) refl (λ x l. by_test (E z x) (count (E z) l)) xs
+      ∙ sym (sum_by-IsPermutation (λ x. cond (E z x) 1 0) xs ys p)
       ∙ sym (is_count_by (count (E z)) (E z) refl (λ x l. by_test (E z x) (count (E z) l)) ys);
 }
   where
@@ -127,5 +165,6 @@ counts_from_permutation E xs ys p = record {
     by_test false n = omega arith
 
 -- the order of the members makes no difference
-pub bag_reordered : {X : Type 0} (E : X → X → Bool) → IsEquivalence E → (xs ys : List X) → IsPermutation xs ys → same_bag E xs ys ≡ true
+pub bag_reordered : {X : Type 0} (E : X → X → Bool) → IsEquivalence E → (xs ys : List X)
+    → IsPermutation xs ys → same_bag E xs ys ≡ true
 bag_reordered E o xs ys p = bag_from_counts E o xs ys (counts_from_permutation E xs ys p)

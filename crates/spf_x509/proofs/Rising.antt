@@ -1,5 +1,6 @@
 -- Entries in the order of their trust domains, put in one after the other.
-use Rattle.std.proofs.Common.{◌≡◌, ℕ, List, [], ◌∷◌, ◌++◌, map, refl, sym, ap, ◌∙◌, subst, append_assoc}
+use Rattle.std.proofs.Common.{◌≡◌, ℕ, List, [], ◌∷◌, ◌++◌, map, refl, sym, ap, ◌∙◌, subst}
+use Rattle.std.proofs.Common.{append_assoc}
 use Rattle.std.specs.declared.cmp.Ordering.{Ordering}
 use Rattle.std.specs.declared.cmp.Ordering.TheVariants.{Less, Greater}
 use Rattle.std.specs.declared.sync.Arc.{Arc}
@@ -23,26 +24,35 @@ name_cmp = slice_cmp nat_cmp
 abbrev pub Rises : {V : Type 0} → List (List ℕ × V) → Type 0
 Rises es = IsStrictlySortedBy name_cmp (keys_of es)
 
-member : {V : Type 0} (P : List ℕ → Type 0) (front : List (List ℕ × V)) (f : List ℕ × V) (rest : List (List ℕ × V))
+member : {V : Type 0} (P : List ℕ → Type 0) (front : List (List ℕ × V)) (f : List ℕ × V)
+    (rest : List (List ℕ × V))
     → AllByRecursion P (keys_of (front ++ f ∷ rest)) → P f.0
 member P [] f rest all = all.0
 member P (e ∷ front) f rest all = member P front f rest all.1
 
 -- what comes after all entries is put at the end
-at_end : {V : Type 0} (front : List (List ℕ × V)) (f : List ℕ × V) (rest : List (List ℕ × V)) → Rises (front ++ f ∷ rest)
+at_end : {V : Type 0} (front : List (List ℕ × V)) (f : List ℕ × V) (rest : List (List ℕ × V))
+    → Rises (front ++ f ∷ rest)
     → with_entry front f.0 f.1 ≡ front ++ f ∷ []
 at_end [] f rest rises = refl
 at_end {V} (e ∷ front) f rest rises =
-    let before : name_cmp e.0 f.0 ≡ Less = member (λ y. name_cmp e.0 y ≡ Less) front f rest (sorted_head name_cmp e.0 (keys_of (front ++ f ∷ rest)) rises) in
-    let after : name_cmp f.0 e.0 ≡ Greater = nat_list_cmp_total.antisymm f.0 e.0 ∙ ap ordering_reverse before in
-    rw after (ap (λ (es : List (List ℕ × V)). e ∷ es) (at_end front f rest (sorted_tail name_cmp e.0 (keys_of (front ++ f ∷ rest)) rises)))
+    let before : name_cmp e.0 f.0 ≡ Less =
+    member (λ y. name_cmp e.0 y ≡ Less) front f rest
+    (sorted_head name_cmp e.0 (keys_of (front ++ f ∷ rest)) rises) in
+    let after : name_cmp f.0 e.0 ≡ Greater =
+    nat_list_cmp_total.antisymm f.0 e.0 ∙ ap ordering_reverse before in
+    rw after (ap (λ (es : List (List ℕ × V)). e ∷ es)
+    (at_end front f rest (sorted_tail name_cmp e.0 (keys_of (front ++ f ∷ rest)) rises)))
 
-all_at_end : {V : Type 0} (front es : List (List ℕ × V)) → Rises (front ++ es) → with_entries front es ≡ front ++ es
+all_at_end : {V : Type 0} (front es : List (List ℕ × V)) → Rises (front ++ es)
+    → with_entries front es ≡ front ++ es
 all_at_end front [] rises = sym (append-nil front)
 all_at_end {V} front (f ∷ es) rises =
     let P : List (List ℕ × V) → Type 0 = λ xs. Rises xs in
-    let rises_on : Rises ((front ++ f ∷ []) ++ es) = subst P (sym (append_assoc front (f ∷ []) es)) rises in
-    rw (at_end front f es rises) (all_at_end (front ++ f ∷ []) es rises_on ∙ append_assoc front (f ∷ []) es)
+    let rises_on : Rises ((front ++ f ∷ []) ++ es) =
+    subst P (sym (append_assoc front (f ∷ []) es)) rises in
+    rw (at_end front f es rises)
+    (all_at_end (front ++ f ∷ []) es rises_on ∙ append_assoc front (f ∷ []) es)
 
 abbrev pub Shared : Type 0
 Shared = List ℕ × Arc Bundle Global
@@ -53,14 +63,22 @@ same_keys [] = refl
 same_keys (e ∷ es) = ap (λ (ks : List (List ℕ)). e.0 ∷ ks) (same_keys es)
 
 -- entries in order that are put in are those entries
-pub again : (es : List Shared) → Rises es → with_entries [] (map plain_entry es) ≡ map plain_entry es
-again es rises = let P : List (List ℕ) → Type 0 = λ ks. IsStrictlySortedBy name_cmp ks in all_at_end [] (map plain_entry es) (subst P (same_keys es) rises)
+pub again : (es : List Shared) → Rises es
+    → with_entries [] (map plain_entry es) ≡ map plain_entry es
+again es rises = let P : List (List ℕ) → Type 0 = λ ks. IsStrictlySortedBy name_cmp ks in
+    all_at_end [] (map plain_entry es) (subst P (same_keys es) rises)
 
 -- one more entry is added
-pub one_put : (es left after : List Shared) (k same_k : List ℕ) (v same_v : Arc Bundle Global) (total : List (List ℕ × Bundle))
-    → left ≡ (k, v) ∷ after → same_k ≡ k → arc_value same_v ≡ arc_value v → with_entries (map plain_entry es) (map plain_entry left) ≡ total
-    → with_entries (map plain_entry (insert_entry name_cmp es same_k same_v)) (map plain_entry after) ≡ total
+pub one_put : (es left after : List Shared) (k same_k : List ℕ) (v same_v : Arc Bundle Global)
+    (total : List (List ℕ × Bundle))
+    → left ≡ (k, v) ∷ after → same_k ≡ k → arc_value same_v ≡ arc_value v
+    → with_entries (map plain_entry es) (map plain_entry left) ≡ total
+    → with_entries (map plain_entry (insert_entry name_cmp es same_k same_v))
+    (map plain_entry after) ≡ total
 one_put es left after k same_k v same_v total is key value going =
-    let put : map plain_entry (insert_entry name_cmp es same_k same_v) ≡ with_entry (map plain_entry es) k (arc_value v) =
+    let put : map plain_entry (insert_entry name_cmp es same_k same_v)
+    ≡ with_entry (map plain_entry es) k (arc_value v) =
     insert_plain es same_k same_v ∙ (λ i. with_entry (map plain_entry es) (key i) (value i)) in
-    ap (λ (s : List (List ℕ × Bundle)). with_entries s (map plain_entry after)) put ∙ sym (ap (λ (xs : List Shared). with_entries (map plain_entry es) (map plain_entry xs)) is) ∙ going
+    ap (λ (s : List (List ℕ × Bundle)). with_entries s (map plain_entry after)) put
+    ∙ sym (ap (λ (xs : List Shared). with_entries (map plain_entry es) (map plain_entry xs)) is)
+    ∙ going

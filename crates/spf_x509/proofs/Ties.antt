@@ -45,10 +45,16 @@ svids_tie a b h =
     let first = both_tie (id_cmp a.id b.id) _ h in
     let second = both_tie (option_cmp (slice_cmp nat_cmp) a.hint b.hint) _ first.1 in
     let third = both_tie (slice_cmp (slice_cmp nat_cmp) a.chain b.chain) _ second.1 in
-    record { id = id_ties a.id b.id first.0; hint = hint_ties a.hint b.hint second.0; chain = chain_ties a.chain b.chain third.0; key = name_ties a.key b.key third.1 }
+    record {
+      id = id_ties a.id b.id first.0;
+      hint = hint_ties a.hint b.hint second.0;
+      chain = chain_ties a.chain b.chain third.0;
+      key = name_ties a.key b.key third.1;
+    }
 
 pub same_svids : (a b : Svid) → IsSameSvid a b → svid_cmp a b ≡ Equal
 same_svids a b s =
     rw (s.id, s.hint, s.chain, s.key)
     (then_equal _ _ (then_equal _ _ (name_tied (id_text b.id)) (name_tied b.id.domain))
-    (then_equal _ _ (hint_tied b.hint) (then_equal _ _ (tied_itself (lists_total nat_list_cmp_total) b.chain) (name_tied b.key))))
+    (then_equal _ _ (hint_tied b.hint)
+    (then_equal _ _ (tied_itself (lists_total nat_list_cmp_total) b.chain) (name_tied b.key))))

@@ -1,5 +1,7 @@
--- The authorities of a trust domain, and the bundles of several (SPIFFE Trust Domain and Bundle section 4).
-use Rattle.std.specs.Prelude.{◌≡◌, ◌≢◌, ◌<◌, ℕ, length, take, map, Bool, ◌&&◌, nat_eq, List, [], ◌∷◌, Option, Some, None, if◌then◌else◌}
+-- The authorities of a trust domain, and the bundles of
+-- several (SPIFFE Trust Domain and Bundle section 4).
+use Rattle.std.specs.Prelude.{◌≡◌, ◌≢◌, ◌<◌, ℕ, length, take, map, Bool, ◌&&◌, nat_eq, List, []}
+use Rattle.std.specs.Prelude.{◌∷◌, Option, Some, None, if◌then◌else◌}
 use Rattle.std.specs.Ordering.{match_ordering, nat_cmp}
 use Rattle.std.specs.Cmp.Lexicographic.{pointwise, slice_cmp}
 use Rattle.std.specs.List.Sorted.{IsStrictlySortedBy}
@@ -15,7 +17,8 @@ pub record Bundle : Type 0 where
   pub authorities : List (List ℕ)
 
 abbrev pub bundle_eq : Bundle → Bundle → Bool
-bundle_eq a b = pointwise nat_eq a.domain b.domain && pointwise (pointwise nat_eq) a.authorities b.authorities
+bundle_eq a b =
+    pointwise nat_eq a.domain b.domain && pointwise (pointwise nat_eq) a.authorities b.authorities
 
 -- an entry of a bundle set: the trust domain, and its bundle
 abbrev pub entry_eq : List ℕ × Bundle → List ℕ × Bundle → Bool
@@ -28,10 +31,13 @@ set_eq = pointwise entry_eq
 abbrev pub plain_entry : List ℕ × Arc Bundle Global → List ℕ × Bundle
 plain_entry e = (e.0, arc_value e.1)
 
--- the entries, in the order of the trust domains, with that value instead of the one of that trust domain
+-- the entries, in the order of the trust domains, with
+-- that value instead of the one of that trust domain
 abbrev pub with_entry : {V : Type 0} → List (List ℕ × V) → List ℕ → V → List (List ℕ × V)
 with_entry [] k v = (k, v) ∷ []
-with_entry (e ∷ es) k v = match_ordering (slice_cmp nat_cmp k e.0) ((k, v) ∷ e ∷ es) ((e.0, v) ∷ es) (e ∷ with_entry es k v)
+with_entry (e ∷ es) k v =
+    match_ordering (slice_cmp nat_cmp k e.0) ((k, v) ∷ e ∷ es) ((e.0, v) ∷ es)
+    (e ∷ with_entry es k v)
 
 -- the entries with those put in, one after the other
 abbrev pub with_entries : {V : Type 0} → List (List ℕ × V) → List (List ℕ × V) → List (List ℕ × V)
@@ -43,7 +49,8 @@ abbrev pub with_bundles : List (List ℕ × Bundle) → List Bundle → List (Li
 with_bundles set bundles = with_entries set (map (λ (b : Bundle). (b.domain, b)) bundles)
 
 -- the set with the bundles before one that was refused
-pub record HoldsFront (old : List (List ℕ × Bundle)) (bundles : List Bundle) (new : List (List ℕ × Bundle)) : Type 0 where
+pub record HoldsFront (old : List (List ℕ × Bundle)) (bundles : List Bundle)
+    (new : List (List ℕ × Bundle)) : Type 0 where
   pub count : ℕ
   pub refused : count < length bundles
   pub holds : new ≡ with_bundles old (take count bundles)
@@ -59,4 +66,5 @@ IsInDomainOrder es = IsStrictlySortedBy (slice_cmp nat_cmp) (keys_of es)
 
 -- each other trust domain has the bundle that it had
 abbrev pub KeepsOthers : List ℕ → List (List ℕ × Bundle) → List (List ℕ × Bundle) → Type 0
-KeepsOthers changed old new = (domain : List ℕ) → domain ≢ changed → find_entry domain new ≡ find_entry domain old
+KeepsOthers changed old new = (domain : List ℕ) → domain ≢ changed
+    → find_entry domain new ≡ find_entry domain old

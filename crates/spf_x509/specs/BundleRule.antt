@@ -7,9 +7,15 @@ use Rattle.spf_x509.specs.Errors.{bundle_of_certificate}
 use Rattle.spf_x509.specs.Bundle.{Bundle}
 
 -- the bundle of a trust domain and the certificates that were read, or why they were not
-abbrev pub bundle_of : List ℕ → Result (List (List ℕ)) CertificateError → Result Bundle X509BundleError
-bundle_of domain read = broken_as bundle_of_certificate read >>= λ authorities. Ok (record { domain = domain; authorities = authorities })
+abbrev pub bundle_of : List ℕ → Result (List (List ℕ)) CertificateError
+    → Result Bundle X509BundleError
+bundle_of domain read =
+    broken_as bundle_of_certificate read
+    >>= λ authorities. Ok (record { domain = domain; authorities = authorities })
 
 -- the bundle with one more authority, or why it was not read
 abbrev pub added_to : Bundle → Result (List ℕ) CertificateError → Result Bundle X509BundleError
-added_to bundle read = broken_as bundle_of_certificate read >>= λ authority. Ok (record { domain = bundle.domain; authorities = bundle.authorities ++ authority ∷ [] })
+added_to bundle read =
+    broken_as bundle_of_certificate read
+    >>= λ authority.
+    Ok (record { domain = bundle.domain; authorities = bundle.authorities ++ authority ∷ [] })

@@ -1,18 +1,27 @@
 -- A certificate, and the SPIFFE ID that it names (SPIFFE X.509-SVID section 2).
-use Rattle.std.specs.Prelude.{ℕ, List, [], ◌∷◌, length, Option, Some, None, Result, Ok, Err, not, nat_lt, ◌==◌, if◌then◌else◌, codes}
+use Rattle.std.specs.Prelude.{ℕ, List, [], ◌∷◌, length, Option, Some, None, Result, Ok, Err, not}
+use Rattle.std.specs.Prelude.{nat_lt, ◌==◌, if◌then◌else◌, codes}
 use Rattle.spf_io.specs.Rule.{◌>>=◌, broken_as}
 use Rattle.spf_id.specs.Id.{Id}
 use Rattle.spf_id.specs.Rule.{id_rule, has_spiffe_scheme}
 use Rattle.spf_der.specs.Grammar.{CertText}
-use Rattle.spf_der.specs.Identifier.{basic_constraints_identifier, key_usage_identifier, subject_alt_name_identifier}
+use Rattle.spf_der.specs.Identifier.{basic_constraints_identifier, key_usage_identifier}
+use Rattle.spf_der.specs.Identifier.{subject_alt_name_identifier}
 use Rattle.spf_der.specs.Part.{Parts}
 use Rattle.spf_der.specs.Read.{certificate_rule, unique_rule}
 use Rattle.spf_der.specs.Names.{san_uris_of}
 use Rattle.spf_der.specs.declared.error.X509ParseKind.TheVariants.{InvalidCertificate}
 use Rattle.spf_x509.specs.declared.extension.X509ExtensionId.{X509ExtensionId}
-use Rattle.spf_x509.specs.declared.extension.X509ExtensionId.TheVariants.{KeyUsage, SubjectAlternativeName, BasicConstraints}
+use Rattle.spf_x509.specs.declared.extension.X509ExtensionId.TheVariants.{KeyUsage}
+use Rattle.spf_x509.specs.declared.extension.X509ExtensionId.TheVariants.{SubjectAlternativeName}
+use Rattle.spf_x509.specs.declared.extension.X509ExtensionId.TheVariants.{BasicConstraints}
 use Rattle.spf_x509.specs.declared.error.CertificateError.{CertificateError}
-use Rattle.spf_x509.specs.declared.error.CertificateError.TheVariants.{MissingX509Extension, UnexpectedExtension, ParseX509Certificate, MissingSpiffeId, MultipleUriSanEntries, OversizedUriSan}
+use Rattle.spf_x509.specs.declared.error.CertificateError.TheVariants.{MissingX509Extension}
+use Rattle.spf_x509.specs.declared.error.CertificateError.TheVariants.{UnexpectedExtension}
+use Rattle.spf_x509.specs.declared.error.CertificateError.TheVariants.{ParseX509Certificate}
+use Rattle.spf_x509.specs.declared.error.CertificateError.TheVariants.{MissingSpiffeId}
+use Rattle.spf_x509.specs.declared.error.CertificateError.TheVariants.{MultipleUriSanEntries}
+use Rattle.spf_x509.specs.declared.error.CertificateError.TheVariants.{OversizedUriSan}
 use Rattle.spf_x509.specs.Errors.{of_read, of_id}
 
 -- the certificate that the bytes are, with nothing after it (RFC 5280 section 4.1)
@@ -69,7 +78,8 @@ abbrev pub readable_names : Option (List (List ℕ)) → Result (List (List ℕ)
 readable_names None = Err (UnexpectedExtension (codes "SubjectAlternativeName"))
 readable_names (Some uris) = Ok uris
 
--- SanRule: the one SPIFFE ID of the subject alternative name (RFC 5280 section 4.2.1.6), or the first broken rule
+-- SanRule: the one SPIFFE ID of the subject alternative
+-- name (RFC 5280 section 4.2.1.6), or the first broken rule
 unfoldable pub san_rule : Parts → Result Id CertificateError
 san_rule parts = do
   contents ← extension_rule (oid_of SubjectAlternativeName) SubjectAlternativeName parts

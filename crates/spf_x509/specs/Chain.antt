@@ -1,12 +1,14 @@
 -- Concatenated certificates, and the SVID of a chain (SPIFFE X.509-SVID sections 3 and 4).
-use Rattle.std.specs.Prelude.{◌≡◌, ℕ, List, [], ◌∷◌, ◌++◌, length, take, drop, map, Option, Result, Ok, Err}
+use Rattle.std.specs.Prelude.{◌≡◌, ℕ, List, [], ◌∷◌, ◌++◌, length, take, drop, map, Option, Result}
+use Rattle.std.specs.Prelude.{Ok, Err}
 use Rattle.spf_io.specs.Rule.{◌>>=◌, broken_as, each, many}
 use Rattle.spf_der.specs.Grammar.{CertsOf, joined}
 use Rattle.spf_der.specs.Part.{Parts}
 use Rattle.spf_der.specs.Read.{certificate_rule}
 use Rattle.spf_der.specs.declared.error.X509ParseKind.TheVariants.{InvalidCertificate}
 use Rattle.spf_x509.specs.declared.error.CertificateError.{CertificateError}
-use Rattle.spf_x509.specs.declared.error.CertificateError.TheVariants.{TooManyCertificates, ParseX509Certificate}
+use Rattle.spf_x509.specs.declared.error.CertificateError.TheVariants.{TooManyCertificates}
+use Rattle.spf_x509.specs.declared.error.CertificateError.TheVariants.{ParseX509Certificate}
 use Rattle.spf_x509.specs.declared.svid_error.X509SvidError.{X509SvidError}
 use Rattle.spf_x509.specs.declared.svid_error.X509SvidError.TheVariants.{EmptyChain}
 use Rattle.spf_x509.specs.Errors.{of_read, svid_of_certificate, svid_of_key}
@@ -40,16 +42,24 @@ texts parts = map (λ (p : Parts × List ℕ). p.1) parts
 
 -- SignRule of each intermediate, in order: the first that breaks it decides
 abbrev pub intermediates_rule : List (Parts × List ℕ) → Result (Unit {0}) X509SvidError
-intermediates_rule intermediates = each (λ (p : Parts × List ℕ). intermediate_rule p.0) intermediates >>= λ _. Ok tt
+intermediates_rule intermediates =
+    each (λ (p : Parts × List ℕ). intermediate_rule p.0) intermediates >>= λ _. Ok tt
 
 -- the rules of the leaf, of each intermediate in order, and of the key
-abbrev pub svid_of_parts : List ℕ → Option (List ℕ) → List (Parts × List ℕ) → Result Svid X509SvidError
+abbrev pub svid_of_parts : List ℕ → Option (List ℕ) → List (Parts × List ℕ)
+    → Result Svid X509SvidError
 svid_of_parts key hint [] = Err EmptyChain
 svid_of_parts key hint (leaf ∷ intermediates) = do
   found ← leaf_rule leaf.0
   _ ← intermediates_rule intermediates
   kept ← broken_as svid_of_key (key_rule key)
-  Ok (record { id = found.0; hint = hint; chain = texts (leaf ∷ intermediates); key = kept; expiry = found.1 })
+  Ok (record {
+    id = found.0;
+    hint = hint;
+    chain = texts (leaf ∷ intermediates);
+    key = kept;
+    expiry = found.1;
+  })
 
 -- SvidOf: the SVID of a chain and a key, or the first broken rule
 unfoldable pub svid_of : List ℕ → List ℕ → Option (List ℕ) → Result Svid X509SvidError
@@ -71,7 +81,8 @@ pub record IsTooLong (chain : List ℕ) : Type 0 where
   pub cut : chain ≡ joined certificates ++ octet ∷ others
 
 -- certificates are read of a chain, with those bytes
-pub record ReadAs (read : Result (List (Parts × List ℕ)) CertificateError) (certificates : List (List ℕ)) : Type 0 where
+pub record ReadAs (read : Result (List (Parts × List ℕ)) CertificateError)
+    (certificates : List (List ℕ)) : Type 0 where
   pub parts : List (Parts × List ℕ)
   pub is : read ≡ Ok parts
   pub texts_are : texts parts ≡ certificates

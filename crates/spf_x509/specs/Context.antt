@@ -15,4 +15,6 @@ abbrev pub svid_eq : Svid → Svid → Bool
 svid_eq = svid.ghosts.eq
 
 abbrev pub context_eq : Context → Context → Bool
-context_eq a b = pointwise svid_eq a.svids b.svids && (set_eq a.bundles b.bundles && pointwise (pointwise nat_eq) a.crls b.crls)
+context_eq a b =
+    pointwise svid_eq a.svids b.svids
+    && (set_eq a.bundles b.bundles && pointwise (pointwise nat_eq) a.crls b.crls)

@@ -1,13 +1,22 @@
 -- The rules of the certificates of an SVID (SPIFFE X.509-SVID sections 4 and 5).
-use Rattle.std.specs.Prelude.{ℕ, ℤ, List, length, Option, Some, None, Result, Ok, Err, Bool, not, ◌==◌, if◌then◌else◌, codes}
+use Rattle.std.specs.Prelude.{ℕ, ℤ, List, length, Option, Some, None, Result, Ok, Err, Bool, not}
+use Rattle.std.specs.Prelude.{◌==◌, if◌then◌else◌, codes}
 use Rattle.spf_io.specs.Rule.{◌>>=◌, broken_as}
 use Rattle.spf_id.specs.Id.{Id}
 use Rattle.spf_der.specs.Part.{Parts}
 use Rattle.spf_der.specs.Extensions.{key_usage_of, basic_constraints_of}
 use Rattle.spf_der.specs.declared.extensions.KeyUsageBits.{KeyUsageBits}
-use Rattle.spf_x509.specs.declared.extension.X509ExtensionId.TheVariants.{KeyUsage, BasicConstraints}
+use Rattle.spf_x509.specs.declared.extension.X509ExtensionId.TheVariants.{KeyUsage}
+use Rattle.spf_x509.specs.declared.extension.X509ExtensionId.TheVariants.{BasicConstraints}
 use Rattle.spf_x509.specs.declared.svid_error.X509SvidError.{X509SvidError}
-use Rattle.spf_x509.specs.declared.svid_error.X509SvidError.TheVariants.{LeafCertificateHasCaFlag, LeafCertificateHasCrlSign, LeafCertificateHasKeyCertSign, LeafCertificateMissingDigitalSignature, SigningCertificateMissingCaFlag, SigningCertificateMissingKeyCertSign, UnparseableExtension, LeafSpiffeIdMissingPath}
+use Rattle.spf_x509.specs.declared.svid_error.X509SvidError.TheVariants.{LeafCertificateHasCaFlag}
+use Rattle.spf_x509.specs.declared.svid_error.X509SvidError.TheVariants.{LeafCertificateHasCrlSign}
+use Rattle.spf_x509.specs.declared.svid_error.X509SvidError.TheVariants.{LeafCertificateHasKeyCertSign}
+use Rattle.spf_x509.specs.declared.svid_error.X509SvidError.TheVariants.{LeafCertificateMissingDigitalSignature}
+use Rattle.spf_x509.specs.declared.svid_error.X509SvidError.TheVariants.{SigningCertificateMissingCaFlag}
+use Rattle.spf_x509.specs.declared.svid_error.X509SvidError.TheVariants.{SigningCertificateMissingKeyCertSign}
+use Rattle.spf_x509.specs.declared.svid_error.X509SvidError.TheVariants.{UnparseableExtension}
+use Rattle.spf_x509.specs.declared.svid_error.X509SvidError.TheVariants.{LeafSpiffeIdMissingPath}
 use Rattle.spf_x509.specs.Errors.{svid_of_certificate}
 use Rattle.spf_x509.specs.Certificate.{oid_of, extension_rule, san_rule}
 
@@ -25,7 +34,8 @@ usage_rule parts = do
 -- the CA flag of a certificate (RFC 5280 section 4.2.1.9)
 unfoldable pub ca_rule : Parts → Result Bool X509SvidError
 ca_rule parts = do
-  contents ← broken_as svid_of_certificate (extension_rule (oid_of BasicConstraints) BasicConstraints parts)
+  contents ← broken_as svid_of_certificate
+      (extension_rule (oid_of BasicConstraints) BasicConstraints parts)
   readable (codes "BasicConstraints") (basic_constraints_of contents)
 
 -- a rule, and what is wrong where it is broken

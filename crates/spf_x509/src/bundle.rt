@@ -1,6 +1,7 @@
 //! The authorities of one trust domain.
 
-ghost use Rattle.std.specs.Prelude.{◌≡◌, ◌↔◌, ◌<◌, ◌++◌, [], ◌∷◌, length, IfOk, IsTrue, Ok, OnErr, OnOk};
+ghost use Rattle.std.specs.Prelude.{◌≡◌, ◌↔◌, ◌<◌, ◌++◌, [], ◌∷◌, length, IfOk, IsTrue, Ok, OnErr};
+ghost use Rattle.std.specs.Prelude.{OnOk};
 ghost use Rattle.spf_io.specs.Rule.{Gives, each};
 ghost use Rattle.spf_x509.specs.Certificate.{certificate_of};
 ghost use Rattle.spf_x509.specs.Chain.{authorities_rule, authority_at};
@@ -15,7 +16,8 @@ use spf_io::{Bytes, OutOfMemory};
 use std::alloc::Global;
 use std::marker::Model;
 
-/// A trust domain, and its authorities in the order in which they came (SPIFFE Trust Domain and Bundle section 4).
+/// A trust domain, and its authorities in the order in which
+/// they came (SPIFFE Trust Domain and Bundle section 4).
 #[derive(Debug, Drop)]
 pub struct X509Bundle {
     trust_domain: TrustDomain,
@@ -47,7 +49,8 @@ impl X509Bundle {
         trust_domain: TrustDomain,
         authorities: &[Bytes],
     ) -> Result<X509Bundle, X509BundleError>
-        ensures { Gives is_memory_bundle (λ b. b) result (bundle_of trust_domain (each certificate_of authorities.now)) }
+        ensures { Gives is_memory_bundle (λ b. b) result
+            (bundle_of trust_domain (each certificate_of authorities.now)) }
     {
         let authorities = certificates_from(alloc, authorities)?;
         Ok(X509Bundle {
@@ -62,7 +65,8 @@ impl X509Bundle {
         trust_domain: TrustDomain,
         der: &[u8],
     ) -> Result<X509Bundle, X509BundleError>
-        ensures { Gives is_memory_bundle (λ b. b) result (bundle_of trust_domain (authorities_rule der.now)) }
+        ensures { Gives is_memory_bundle (λ b. b) result
+            (bundle_of trust_domain (authorities_rule der.now)) }
     {
         let authorities = cut_authorities(alloc, der)?;
         Ok(X509Bundle {
@@ -73,9 +77,14 @@ impl X509Bundle {
 
     /// Appends one authority. A refusal leaves the bundle as it was.
     pub fn add_authority(&mut self, der: &[u8]) -> Result<(), X509BundleError>
-        ensures ok { OnOk result (self.new ≡ record { domain = self.old.domain; authorities = self.old.authorities ++ der.now ∷ [] }) }
+        ensures ok { OnOk result
+            (self.new ≡ record {
+              domain = self.old.domain;
+              authorities = self.old.authorities ++ der.now ∷ [];
+            }) }
         ensures err { OnErr result (self.new ≡ self.old) }
-        ensures gives { Gives is_memory_bundle (λ _. self.new) result (added_to self.old (certificate_of der.now)) }
+        ensures gives { Gives is_memory_bundle (λ _. self.new) result
+            (added_to self.old (certificate_of der.now)) }
     {
         let alloc = *self.authorities.allocator();
         let certificate = Certificate::try_from(alloc, der)?;
@@ -95,7 +104,8 @@ impl X509Bundle {
 
     /// Whether this is the bundle of exactly that trust domain and those bytes. It takes no memory.
     pub fn is_parsed_from(&self, trust_domain: &TrustDomain, der: &[u8]) -> bool
-        ensures { IsTrue result ↔ (bundle_of trust_domain.now (authorities_rule der.now) ≡ Ok self.now) }
+        ensures { IsTrue result
+            ↔ (bundle_of trust_domain.now (authorities_rule der.now) ≡ Ok self.now) }
     {
         *trust_domain == self.trust_domain && is_concatenation(self.authorities.as_slice(), der)
     }
@@ -118,7 +128,8 @@ fn certificates_from(
     alloc: Global,
     authorities: &[Bytes],
 ) -> Result<Vec<Certificate>, CertificateError>
-    ensures { Gives is_memory_certificate (λ v. v.items) result (each certificate_of authorities.now) }
+    ensures { Gives is_memory_certificate (λ v. v.items) result
+        (each certificate_of authorities.now) }
 {
     let mut certificates = Vec::new(alloc);
     for authority in authorities {
@@ -131,7 +142,8 @@ fn certificates_from(
 /// A copy of the certificate at the start of `der`, and what follows it.
 #[tactic(auto, unfolding(crate::specs::Chain::authority_at))]
 fn cut_authority(alloc: Global, der: &[u8]) -> Result<(Certificate, &[u8]), CertificateError>
-    ensures gives { Gives is_memory_certificate (λ x. (x.0, x.1.now)) result (authority_at der.now) }
+    ensures gives { Gives is_memory_certificate (λ x. (x.0, x.1.now)) result
+        (authority_at der.now) }
     ensures shorter { IfOk result (λ x. length x.1.now < length der.now) }
 {
     let (part, rest) = cut_certificate(der)?;

@@ -3,7 +3,8 @@
 ghost use Rattle.std.specs.Prelude.{◌≡◌, ◌==◌, [], IfOk, Some, OnErr, OnOk, length};
 ghost use Rattle.std.specs.Option.{option_map};
 ghost use Rattle.std.specs.Arc.{arc_value};
-ghost use Rattle.spf_x509.specs.Bundle.{HoldsFront, IsInDomainOrder, KeepsOthers, find_entry, with_bundles, with_entry};
+ghost use Rattle.spf_x509.specs.Bundle.{HoldsFront, IsInDomainOrder, KeepsOthers, find_entry};
+ghost use Rattle.spf_x509.specs.Bundle.{with_bundles, with_entry};
 
 use crate::bundle::X509Bundle;
 use crate::source::BundleSource;
@@ -14,7 +15,8 @@ use std::collections::{BTreeMap, btree_map};
 use std::marker::Model;
 use std::sync::Arc;
 
-/// At most one bundle for each trust domain, the last one added. Contracts see the pairs in the order of the trust domains.
+/// At most one bundle for each trust domain, the last one added.
+/// Contracts see the pairs in the order of the trust domains.
 #[derive(Debug, Drop)]
 pub struct X509BundleSet {
     bundles: BTreeMap<TrustDomain, Arc<X509Bundle>>,
@@ -53,8 +55,10 @@ impl X509BundleSet {
 
     /// The same with a share of a bundle.
     pub fn add_shared(&mut self, bundle: Arc<X509Bundle>) -> Result<(), OutOfMemory>
-        ensures ok { OnOk result (self.new ≡ with_entry self.old (arc_value bundle).domain (arc_value bundle)) }
-        ensures found { OnOk result (find_entry (arc_value bundle).domain self.new ≡ Some (arc_value bundle)) }
+        ensures ok { OnOk result
+            (self.new ≡ with_entry self.old (arc_value bundle).domain (arc_value bundle)) }
+        ensures found { OnOk result
+            (find_entry (arc_value bundle).domain self.new ≡ Some (arc_value bundle)) }
         ensures others { OnOk result (KeepsOthers (arc_value bundle).domain self.old self.new) }
         ensures err { OnErr result (self.new ≡ self.old) }
     {

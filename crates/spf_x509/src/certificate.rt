@@ -6,7 +6,9 @@ ghost use Rattle.spf_der.specs.Part.{Parts};
 ghost use Rattle.spf_der.specs.Read.{never, unique_rule};
 ghost use Rattle.spf_der.specs.Value.{seen};
 ghost use Rattle.spf_io.specs.Rule.{Gives};
-ghost use Rattle.spf_x509.specs.Certificate.{IsCertificate, certificate_of, extension_rule, oid_of, san_rule, spiffe_id_rule, uri_rule, uris_rule, whole_rule};
+ghost use Rattle.spf_x509.specs.Certificate.{IsCertificate, certificate_of, extension_rule, oid_of};
+ghost use Rattle.spf_x509.specs.Certificate.{san_rule, spiffe_id_rule, uri_rule, uris_rule};
+ghost use Rattle.spf_x509.specs.Certificate.{whole_rule};
 ghost use Rattle.spf_x509.specs.Errors.{is_memory_certificate};
 
 use crate::error::CertificateError;
@@ -94,7 +96,8 @@ impl Certificate {
     /// The one SPIFFE ID of its subject alternative name.
     pub fn spiffe_id(&self, alloc: Global) -> Result<SpiffeId, CertificateError>
         ensures gives { Gives is_memory_certificate (λ id. id) result (spiffe_id_rule self.now) }
-        ensures san { (parts : Parts) → CertText self.now parts → Gives is_memory_certificate (λ id. id) result (san_rule parts) }
+        ensures san { (parts : Parts) → CertText self.now parts
+            → Gives is_memory_certificate (λ id. id) result (san_rule parts) }
     {
         spiffe_id_from_der(alloc, self.der.as_slice())
     }
@@ -155,7 +158,8 @@ pub(crate) fn extension_contents<'a>(
     certificate: &CertScan<'a>,
     extension: X509ExtensionId,
 ) -> Result<&'a [u8], CertificateError>
-    ensures { Gives is_memory_certificate (λ b. b.now) result (extension_rule (oid_of extension) extension certificate.now) }
+    ensures { Gives is_memory_certificate (λ b. b.now) result
+        (extension_rule (oid_of extension) extension certificate.now) }
 {
     match look_up(certificate, extension)? {
         None => Err(CertificateError::MissingX509Extension(extension)),
@@ -164,7 +168,8 @@ pub(crate) fn extension_contents<'a>(
 }
 
 fn unexpected_names(alloc: Global) -> Result<CertificateError, OutOfMemory>
-    ensures { IfOk result (λ e. e ≡ CertificateError.UnexpectedExtension (codes "SubjectAlternativeName")) }
+    ensures { IfOk result
+        (λ e. e ≡ CertificateError.UnexpectedExtension (codes "SubjectAlternativeName")) }
 {
     let extension = Text::copy_of(alloc, "SubjectAlternativeName")?;
     Ok(CertificateError::UnexpectedExtension(extension))
@@ -201,7 +206,8 @@ fn id_of_uris(alloc: Global, mut uris: SanUris<'_>) -> Result<SpiffeId, Certific
     }
 }
 
-/// The SAN rule: the names can be read, and of their URIs, taken in order, the only one is a SPIFFE ID.
+/// The SAN rule: the names can be read, and of their
+/// URIs, taken in order, the only one is a SPIFFE ID.
 #[tactic(auto, unfolding(crate::specs::Certificate::san_rule))]
 pub(crate) fn subject_id(
     alloc: Global,

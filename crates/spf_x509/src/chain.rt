@@ -54,7 +54,8 @@ impl<'a> ChainPart<'a> {
 /// The certificate at the start of `bytes`, and what follows it.
 #[tactic(auto, unfolding(crate::specs::Chain::certificate_text_at))]
 pub(crate) fn cut_certificate(bytes: &[u8]) -> Result<(ChainPart<'_>, &[u8]), CertificateError>
-    ensures gives { Gives is_memory_certificate (λ x. (x.0, x.1.now)) result (certificate_text_at bytes.now) }
+    ensures gives { Gives is_memory_certificate (λ x. (x.0, x.1.now)) result
+        (certificate_text_at bytes.now) }
     ensures shorter { IfOk result (λ x. length x.1.now < length bytes.now) }
 {
     let (scan, length) = scan_certificate(bytes)?;

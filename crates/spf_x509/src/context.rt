@@ -11,7 +11,8 @@ use std::alloc::Global;
 use std::marker::Model;
 use std::sync::Arc;
 
-/// SVIDs in the order in which they came, bundles by trust domain, and CRLs, which are carried unread.
+/// SVIDs in the order in which they came, bundles by
+/// trust domain, and CRLs, which are carried unread.
 #[derive(Debug, Drop)]
 pub struct X509Context {
     svids: Vec<Arc<X509Svid>>,
@@ -26,7 +27,11 @@ impl Model for X509Context {
 
     ghost Value = { Context };
 
-    ghost view = { λ c. record { svids = map arc_value c.svids.items; bundles = arc_value c.bundle_set; crls = c.crls.items } };
+    ghost view = { λ c. record {
+      svids = map arc_value c.svids.items;
+      bundles = arc_value c.bundle_set;
+      crls = c.crls.items;
+    } };
 }
 
 /// The same SVIDs, shared.
@@ -57,7 +62,11 @@ impl X509Context {
         bundle_set: Arc<X509BundleSet>,
         crls: Vec<Bytes>,
     ) -> X509Context
-        ensures { result ≡ record { svids = map arc_value svids.items; bundles = arc_value bundle_set; crls = crls.items } }
+        ensures { result ≡ record {
+          svids = map arc_value svids.items;
+          bundles = arc_value bundle_set;
+          crls = crls.items;
+        } }
     {
         X509Context {
             svids,

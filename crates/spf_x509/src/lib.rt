@@ -1,5 +1,6 @@
-//! X.509 certificates, keys, SVIDs, bundles and contexts, by RFC 5280 and the SPIFFE X.509-SVID standard. What is read is
-//! kept as the bytes that came; signatures and certificate paths are not checked.
+//! X.509 certificates, keys, SVIDs, bundles and contexts, by RFC 5280
+//! and the SPIFFE X.509-SVID standard. What is read is kept as the
+//! bytes that came; signatures and certificate paths are not checked.
 #![tactic(auto)]
 
 mod bundle;

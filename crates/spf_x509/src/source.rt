@@ -17,7 +17,8 @@ pub trait BundleSource {
 
     // What a reader has seen fits the source: it is of this source, and of no other.
     ghost fits: { Self → Self.Seen → Type 0 };
-    // What the source returns for the name of a trust domain to a reader that has seen this much of it.
+    // What the source returns for the name of a trust
+    // domain to a reader that has seen this much of it.
     ghost answers: { Self → Self.Seen → List ℕ → Option Self.Item → Type 0 };
 
     /// A share of the bundle of that trust domain.
@@ -28,7 +29,8 @@ pub trait BundleSource {
     ) -> Result<Option<Arc<Self::Item>>, Self::Error>
         requires { fits self.now seen.old }
         ensures fits { fits self.now seen.new }
-        ensures answer { IfOk result (λ o. answers self.now seen.new trust_domain.now (option_map arc_value o)) };
+        ensures answer { IfOk result
+            (λ o. answers self.now seen.new trust_domain.now (option_map arc_value o)) };
 }
 
 /// A source of the current SVID, which is lent what its reader has seen of it.

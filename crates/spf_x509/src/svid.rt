@@ -16,7 +16,8 @@ use spf_io::{List, OutOfMemory, Text};
 use std::alloc::Global;
 use std::marker::Model;
 
-/// An X.509 SVID (SPIFFE X.509-SVID section 2). Its expiry follows from its chain, so it is not compared.
+/// An X.509 SVID (SPIFFE X.509-SVID section 2). Its
+/// expiry follows from its chain, so it is not compared.
 #[derive(Debug, Drop)]
 #[derive_where(PartialEq, Eq, PartialOrd, Ord)]
 pub struct X509Svid {
@@ -35,11 +36,30 @@ impl Model for X509Svid {
 
     ghost Value = { Svid };
 
-    ghost view = { λ s. record { id = s.spiffe_id; hint = s.hint; chain = s.cert_chain; key = s.private_key; expiry = s.expiry } };
+    ghost view = { λ s. record {
+      id = s.spiffe_id;
+      hint = s.hint;
+      chain = s.cert_chain;
+      key = s.private_key;
+      expiry = s.expiry;
+    } };
 
-    ghost invariant = { λ s. (s.cert_chain ≢ []) × IsSvid (record { id = s.spiffe_id; hint = s.hint; chain = s.cert_chain; key = s.private_key; expiry = s.expiry }) };
+    ghost invariant = { λ s. (s.cert_chain ≢ [])
+        × IsSvid (record {
+          id = s.spiffe_id;
+          hint = s.hint;
+          chain = s.cert_chain;
+          key = s.private_key;
+          expiry = s.expiry;
+        }) };
 
-    ghost inverse = { λ v. record { spiffe_id = v.id; hint = v.hint; cert_chain = v.chain; private_key = v.key; expiry = v.expiry } };
+    ghost inverse = { λ v. record {
+      spiffe_id = v.id;
+      hint = v.hint;
+      cert_chain = v.chain;
+      private_key = v.key;
+      expiry = v.expiry;
+    } };
 }
 
 /// Copies of the certificates of a chain.
@@ -65,7 +85,8 @@ fn is_same_hint(a: Option<&str>, b: Option<&str>) -> bool
 }
 
 impl X509Svid {
-    /// The SVID of a chain of concatenated certificates, leaf first, and a PKCS#8 key, without a hint.
+    /// The SVID of a chain of concatenated certificates,
+    /// leaf first, and a PKCS#8 key, without a hint.
     pub fn parse_from_der(
         alloc: Global,
         chain: &[u8],
@@ -122,7 +143,8 @@ impl X509Svid {
 
     /// Whether this is the SVID of exactly that chain, key and hint. It takes no memory.
     pub fn is_parsed_from(&self, chain: &[u8], key: &[u8], hint: Option<&str>) -> bool
-        ensures { IsTrue result ↔ (svid_of chain.now key.now (option_map (λ t. t.now) hint.entry) ≡ Ok self.now) }
+        ensures { IsTrue result
+            ↔ (svid_of chain.now key.now (option_map (λ t. t.now) hint.entry) ≡ Ok self.now) }
     {
         if key != self.private_key.as_bytes() {
             return false;

@@ -4,7 +4,8 @@ ghost use Rattle.std.specs.Prelude.{◌≡◌, IfOk};
 ghost use Rattle.spf_io.specs.Rule.{Gives};
 ghost use Rattle.spf_x509.specs.Chain.{intermediates_rule};
 ghost use Rattle.spf_x509.specs.Errors.{is_memory_svid};
-ghost use Rattle.spf_x509.specs.Rule.{ca_rule, leaf_rule, leaf_usage, intermediate_rule, usage_rule};
+ghost use Rattle.spf_x509.specs.Rule.{ca_rule, leaf_rule, leaf_usage, intermediate_rule};
+ghost use Rattle.spf_x509.specs.Rule.{usage_rule};
 
 use crate::certificate::{extension_contents, subject_id};
 use crate::chain::ChainPart;

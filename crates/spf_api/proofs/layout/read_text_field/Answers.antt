@@ -6,8 +6,11 @@ use Rattle.spf_api.proofs.layout.read_text_field.Goals as goal
 
 pub returns-in-Ok : goal.returns-in-Ok
 unfolding text_field_at
-returns-in-Ok c = rw (← c.in_ok-text.ensures, is_utf8-from_IsUtf8 c.in_ok-text.text.now c.in-Ok.ensures.cases.1) (λ i. Some (c.in-Ok.ensures.cases.0 i, c.in_ok-text.rest.now))
+returns-in-Ok c =
+    rw (← c.in_ok-text.ensures, is_utf8-from_IsUtf8 c.in_ok-text.text.now c.in-Ok.ensures.cases.1)
+    (λ i. Some (c.in-Ok.ensures.cases.0 i, c.in_ok-text.rest.now))
 
 pub returns-in-Err : goal.returns-in-Err
 unfolding text_field_at
-returns-in-Err c = rw (← c.in_ok-text.ensures, is_utf8-false c.in_ok-text.text.now c.in-Err.ensures.cases.0) refl
+returns-in-Err c =
+    rw (← c.in_ok-text.ensures, is_utf8-false c.in_ok-text.text.now c.in-Err.ensures.cases.0) refl

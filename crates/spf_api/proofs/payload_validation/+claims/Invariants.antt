@@ -21,7 +21,11 @@ abbrev pub decreases-claim_contents : goal.decreases-claim_contents
 decreases-claim_contents l = 4 * l.depth + 3
 
 abbrev pub invariant-claim_values-values : goal.invariant-claim_values-values
-invariant-claim_values-values l = Goes (claim_value_at l.depth) (l.count - l.counter) l.values.items l.rest (counted (claim_value_at l.depth) l.count l.initial.rest)
+invariant-claim_values-values l =
+    Goes (claim_value_at l.depth) (l.count - l.counter) l.values.items l.rest
+    (counted (claim_value_at l.depth) l.count l.initial.rest)
 
 abbrev pub invariant-claims-claims : goal.invariant-claims-claims
-invariant-claims-claims l = Goes (claim_at (claim_value_at l.depth)) (l.count - l.counter) l.claims.items l.rest (counted (claim_at (claim_value_at l.depth)) l.count l.initial.rest)
+invariant-claims-claims l =
+    Goes (claim_at (claim_value_at l.depth)) (l.count - l.counter) l.claims.items l.rest
+    (counted (claim_at (claim_value_at l.depth)) l.count l.initial.rest)

@@ -4,7 +4,11 @@ use Rattle.spf_api.proofs.Laid.{Laid}
 use Rattle.spf_api.proofs.payload_validation.+put_claims.Given as goal
 
 abbrev pub invariant-put_claim_values-loop-value : goal.invariant-put_claim_values-loop-value
-invariant-put_claim_values-loop-value l = Laid claim_value_text (IsClaimValue l.depth) l.initial.out.items l.out.items (take l.value-index l.values)
+invariant-put_claim_values-loop-value l =
+    Laid claim_value_text (IsClaimValue l.depth) l.initial.out.items l.out.items
+    (take l.value-index l.values)
 
 abbrev pub invariant-put_claims-loop-claim : goal.invariant-put_claims-loop-claim
-invariant-put_claims-loop-claim l = Laid claim_text (IsClaim (IsClaimValue l.depth)) l.initial.out.items l.out.items (take l.claim-index l.claims)
+invariant-put_claims-loop-claim l =
+    Laid claim_text (IsClaim (IsClaimValue l.depth)) l.initial.out.items l.out.items
+    (take l.claim-index l.claims)

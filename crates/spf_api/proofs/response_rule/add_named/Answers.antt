@@ -18,8 +18,11 @@ loop-entry-preserved c =
     let xs = c.args.entries.now in
     let i = c.loop-entry.entry-index in
     let x = get_or xs i no_bundle in
-    named_more (λ v. named_bundle_of (bundle_entry_of v)) xs i x c.args.bundles.now c.loop-entry.bundles c.add_shared.new.self (arc_value c.in_ok-bundle.bundle)
-    c.loop-entry.invariant c.loop-entry-test.true (get_or_same xs i no_bundle x c.loop-entry-test.true) c.in_ok-bundle.ensures c.in_ok-add_shared.ensures.ok
+    named_more (λ v. named_bundle_of (bundle_entry_of v)) xs i x c.args.bundles.now
+    c.loop-entry.bundles c.add_shared.new.self (arc_value c.in_ok-bundle.bundle)
+    c.loop-entry.invariant c.loop-entry-test.true
+    (get_or_same xs i no_bundle x c.loop-entry-test.true) c.in_ok-bundle.ensures
+    c.in_ok-add_shared.ensures.ok
 
 pub returns-in_err-bundle : goal.returns-in_err-bundle
 returns-in_err-bundle c =
@@ -30,13 +33,17 @@ returns-in_err-bundle c =
     let x = get_or xs i no_bundle in
     rw (p.1, p.2)
     (unless (is_memory_api e)
-    (λ broken. ap (read_as (with_bundles c.args.bundles.now)) (each-map named_bundle_of bundle_entry_of xs)
-    ∙ named_fails (λ v. named_bundle_of (bundle_entry_of v)) xs i x c.args.bundles.now c.loop-entry.bundles e
-    c.loop-entry.invariant c.loop-entry-test.true (get_or_same xs i no_bundle x c.loop-entry-test.true) broken)
+    (λ broken. ap (read_as (with_bundles c.args.bundles.now))
+    (each-map named_bundle_of bundle_entry_of xs)
+    ∙ named_fails (λ v. named_bundle_of (bundle_entry_of v)) xs i x c.args.bundles.now
+    c.loop-entry.bundles e
+    c.loop-entry.invariant c.loop-entry-test.true
+    (get_or_same xs i no_bundle x c.loop-entry-test.true) broken)
     c.in_err-bundle.ensures)
 
 pub returns : goal.returns
 returns c =
     let xs = c.args.entries.now in
     ap (read_as (with_bundles c.args.bundles.now)) (each-map named_bundle_of bundle_entry_of xs)
-    ∙ named_all (λ v. named_bundle_of (bundle_entry_of v)) xs c.loop-entry.entry-index c.args.bundles.now c.loop-entry.bundles c.loop-entry.invariant (omega arith)
+    ∙ named_all (λ v. named_bundle_of (bundle_entry_of v)) xs c.loop-entry.entry-index
+    c.args.bundles.now c.loop-entry.bundles c.loop-entry.invariant (omega arith)

@@ -5,4 +5,5 @@ use Rattle.spf_api.proofs.Rules.{Kept}
 use Rattle.spf_api.proofs.response_rule.check_all_fields.Given as goal
 
 abbrev pub invariant-loop-entry : goal.invariant-loop-entry
-invariant-loop-entry l = Kept (λ v. fields_required (svid_entry_of v)) (take l.entry-index l.entries)
+invariant-loop-entry l =
+    Kept (λ v. fields_required (svid_entry_of v)) (take l.entry-index l.entries)

@@ -12,7 +12,8 @@ loop-entry-init c = record { answers = []; are = refl }
 
 pub loop-entry-preserved : goal.loop-entry-preserved
 loop-entry-preserved c =
-    kept_more (λ v. bundle_required (svid_entry_of v)) c.args.entries.now c.loop-entry.entry-index no_entry
+    kept_more (λ v. bundle_required (svid_entry_of v)) c.args.entries.now c.loop-entry.entry-index
+    no_entry
     c.loop-entry.invariant c.loop-entry-test.true c.in_ok-check_bundle.ensures
 
 pub returns-in_err-check_bundle : goal.returns-in_err-check_bundle
@@ -20,8 +21,11 @@ returns-in_err-check_bundle c =
     let p = err_from_is_err_and c.from_residual.result c.from_residual.ensures.1 in
     let e = c.in_err-check_bundle.field-0.0 in
     rw (p.1, p.2)
-    (unless (is_memory_api e) (kept_fails bundle_required svid_entry_of c.args.entries.now c.loop-entry.entry-index no_entry e
+    (unless (is_memory_api e)
+    (kept_fails bundle_required svid_entry_of c.args.entries.now c.loop-entry.entry-index no_entry e
     c.loop-entry.invariant c.loop-entry-test.true) c.in_err-check_bundle.ensures)
 
 pub returns : goal.returns
-returns c = kept_all bundle_required svid_entry_of c.args.entries.now c.loop-entry.entry-index c.loop-entry.invariant (omega arith)
+returns c =
+    kept_all bundle_required svid_entry_of c.args.entries.now c.loop-entry.entry-index
+    c.loop-entry.invariant (omega arith)

@@ -5,4 +5,5 @@ use Rattle.spf_api.proofs.Rules.{Kept}
 use Rattle.spf_api.proofs.response_rule.check_bundles.Given as goal
 
 abbrev pub invariant-loop-entry : goal.invariant-loop-entry
-invariant-loop-entry l = Kept (λ v. bundle_required (svid_entry_of v)) (take l.entry-index l.entries)
+invariant-loop-entry l =
+    Kept (λ v. bundle_required (svid_entry_of v)) (take l.entry-index l.entries)

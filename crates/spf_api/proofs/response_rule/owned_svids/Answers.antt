@@ -17,8 +17,10 @@ loop-entry-preserved c =
     let i = c.loop-entry.entry-index in
     let x = get_or xs i no_entry in
     rw c.in_ok-push.ensures.items
-    (brought_more (λ v. svid_and_bundle_of (svid_entry_of v)) xs i x c.loop-entry.svids.items (c.in_ok-svid.svid, c.in_ok-svid.field-0-1)
-    c.loop-entry.invariant c.loop-entry-test.true (get_or_same xs i no_entry x c.loop-entry-test.true) c.in_ok-svid.ensures)
+    (brought_more (λ v. svid_and_bundle_of (svid_entry_of v)) xs i x c.loop-entry.svids.items
+    (c.in_ok-svid.svid, c.in_ok-svid.field-0-1)
+    c.loop-entry.invariant c.loop-entry-test.true
+    (get_or_same xs i no_entry x c.loop-entry-test.true) c.in_ok-svid.ensures)
 
 pub returns-in_err-svid : goal.returns-in_err-svid
 returns-in_err-svid c =
@@ -30,12 +32,15 @@ returns-in_err-svid c =
     rw (p.1, p.2)
     (unless (is_memory_api e)
     (λ broken. ap (read_as svids_in) (each-map svid_and_bundle_of svid_entry_of xs)
-    ∙ brought_fails (λ v. svid_and_bundle_of (svid_entry_of v)) xs i x c.loop-entry.svids.items e svids_in
-    c.loop-entry.invariant c.loop-entry-test.true (get_or_same xs i no_entry x c.loop-entry-test.true) broken)
+    ∙ brought_fails (λ v. svid_and_bundle_of (svid_entry_of v)) xs i x c.loop-entry.svids.items e
+    svids_in
+    c.loop-entry.invariant c.loop-entry-test.true
+    (get_or_same xs i no_entry x c.loop-entry-test.true) broken)
     c.in_err-svid.ensures)
 
 pub returns : goal.returns
 returns c =
     let xs = c.args.entries.now in
     ap (read_as svids_in) (each-map svid_and_bundle_of svid_entry_of xs)
-    ∙ brought_all (λ v. svid_and_bundle_of (svid_entry_of v)) xs c.loop-entry.entry-index c.loop-entry.svids.items c.loop-entry.invariant (omega arith)
+    ∙ brought_all (λ v. svid_and_bundle_of (svid_entry_of v)) xs c.loop-entry.entry-index
+    c.loop-entry.svids.items c.loop-entry.invariant (omega arith)

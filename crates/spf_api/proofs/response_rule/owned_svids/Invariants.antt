@@ -5,4 +5,5 @@ use Rattle.spf_api.proofs.Added.{Brought}
 use Rattle.spf_api.proofs.response_rule.owned_svids.Given as goal
 
 abbrev pub invariant-loop-entry : goal.invariant-loop-entry
-invariant-loop-entry l = Brought (λ v. svid_and_bundle_of (svid_entry_of v)) (take l.entry-index l.entries) l.svids.items
+invariant-loop-entry l =
+    Brought (λ v. svid_and_bundle_of (svid_entry_of v)) (take l.entry-index l.entries) l.svids.items

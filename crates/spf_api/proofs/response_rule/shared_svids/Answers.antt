@@ -14,7 +14,15 @@ use Rattle.spf_api.proofs.Rules.{each-map, get_or_same, no_entry}
 use Rattle.spf_api.proofs.response_rule.shared_svids.Goals as goal
 
 pub loop-entry-init : goal.loop-entry-init
-loop-entry-init c = record { brought = record { materials = []; read = refl; are = ap (map arc_value) c.new-svids.ensures.items }; stand = refl }
+loop-entry-init c =
+    record {
+      brought = record {
+        materials = [];
+        read = refl;
+        are = ap (map arc_value) c.new-svids.ensures.items;
+      };
+      stand = refl;
+    }
 
 pub loop-entry-preserved : goal.loop-entry-preserved
 loop-entry-preserved c =
@@ -22,11 +30,18 @@ loop-entry-preserved c =
     let i = c.loop-entry.entry-index in
     let x = get_or xs i no_entry in
     let svids : List (Arc Svid Global) = c.loop-entry.svids.items in
-    let pushed : map arc_value c.push.new.self.items ≡ map arc_value svids ++ arc_value c.in_ok-svid.svid ∷ [] =
+    let pushed : map arc_value c.push.new.self.items
+    ≡ map arc_value svids ++ arc_value c.in_ok-svid.svid ∷ [] =
     ap (map arc_value) c.in_ok-push.ensures.items ∙ map_push arc_value svids c.in_ok-svid.svid in
     rw pushed
-    (placed_more (λ v. svid_and_bundle_of (svid_entry_of v)) xs i x (map arc_value svids) c.args.bundles.now c.loop-entry.bundles c.add_shared.new.self (arc_value c.in_ok-svid.svid, arc_value c.in_ok-svid.bundle)
-    c.loop-entry.invariant c.loop-entry-test.true (get_or_same xs i no_entry x c.loop-entry-test.true) c.in_ok-svid.ensures c.in_ok-add_shared.ensures.ok)
+    (placed_more (λ v. svid_and_bundle_of (svid_entry_of v)) xs i x (map arc_value svids)
+    c.args.bundles.now c.loop-entry.bundles c.add_shared.new.self (
+      arc_value c.in_ok-svid.svid,
+      arc_value c.in_ok-svid.bundle,
+    )
+    c.loop-entry.invariant c.loop-entry-test.true
+    (get_or_same xs i no_entry x c.loop-entry-test.true) c.in_ok-svid.ensures
+    c.in_ok-add_shared.ensures.ok)
 
 pub returns-in_err-svid : goal.returns-in_err-svid
 returns-in_err-svid c =
@@ -37,14 +52,18 @@ returns-in_err-svid c =
     let x = get_or xs i no_entry in
     rw (p.1, p.2)
     (unless (is_memory_api e)
-    (λ broken. ap (read_as (brought_to c.args.bundles.now)) (each-map svid_and_bundle_of svid_entry_of xs)
-    ∙ brought_fails (λ v. svid_and_bundle_of (svid_entry_of v)) xs i x (map arc_value c.loop-entry.svids.items) e (brought_to c.args.bundles.now)
-    c.loop-entry.invariant.brought c.loop-entry-test.true (get_or_same xs i no_entry x c.loop-entry-test.true) broken)
+    (λ broken. ap (read_as (brought_to c.args.bundles.now))
+    (each-map svid_and_bundle_of svid_entry_of xs)
+    ∙ brought_fails (λ v. svid_and_bundle_of (svid_entry_of v)) xs i x
+    (map arc_value c.loop-entry.svids.items) e (brought_to c.args.bundles.now)
+    c.loop-entry.invariant.brought c.loop-entry-test.true
+    (get_or_same xs i no_entry x c.loop-entry-test.true) broken)
     c.in_err-svid.ensures)
 
 pub returns : goal.returns
 returns c =
     let xs = c.args.entries.now in
     ap (read_as (brought_to c.args.bundles.now)) (each-map svid_and_bundle_of svid_entry_of xs)
-    ∙ placed_all (λ v. svid_and_bundle_of (svid_entry_of v)) xs c.loop-entry.entry-index (map arc_value c.loop-entry.svids.items) c.args.bundles.now c.loop-entry.bundles
+    ∙ placed_all (λ v. svid_and_bundle_of (svid_entry_of v)) xs c.loop-entry.entry-index
+    (map arc_value c.loop-entry.svids.items) c.args.bundles.now c.loop-entry.bundles
     c.loop-entry.invariant (omega arith)

@@ -6,4 +6,6 @@ use Rattle.spf_api.proofs.Added.{Placed}
 use Rattle.spf_api.proofs.response_rule.shared_svids.Given as goal
 
 abbrev pub invariant-loop-entry : goal.invariant-loop-entry
-invariant-loop-entry l = Placed (λ v. svid_and_bundle_of (svid_entry_of v)) (take l.entry-index l.entries) (map arc_value l.svids.items) l.initial.bundles l.bundles
+invariant-loop-entry l =
+    Placed (λ v. svid_and_bundle_of (svid_entry_of v)) (take l.entry-index l.entries)
+    (map arc_value l.svids.items) l.initial.bundles l.bundles

@@ -13,5 +13,8 @@ pub loop-rest-preserved : goal.loop-rest-preserved
 loop-rest-preserved c =
     let front = map plain c.loop-rest.found.items in
     let some : 0 < length c.loop-rest.rest.now = grind (arith, nat_tests) in
-    let pushed : map plain c.push.new.self.items ≡ front ++ plain c.in-Some.extension ∷ [] = rw c.in_ok-push.ensures.items (map_push plain c.loop-rest.found.items c.in-Some.extension) in
-    rw pushed (many_more part_at (Parse InvalidCertificate) front c.loop-rest.rest.now (extensions_rule c.args.text.now) (plain c.in-Some.extension) c.in-Some.after.now some (ap here (sym c.in-Some.ensures.exact)) c.in-Some.ensures.shorter c.loop-rest.invariant)
+    let pushed : map plain c.push.new.self.items ≡ front ++ plain c.in-Some.extension ∷ [] =
+    rw c.in_ok-push.ensures.items (map_push plain c.loop-rest.found.items c.in-Some.extension) in
+    rw pushed (many_more part_at (Parse InvalidCertificate) front c.loop-rest.rest.now
+    (extensions_rule c.args.text.now) (plain c.in-Some.extension) c.in-Some.after.now some
+    (ap here (sym c.in-Some.ensures.exact)) c.in-Some.ensures.shorter c.loop-rest.invariant)

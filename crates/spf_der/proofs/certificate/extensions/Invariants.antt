@@ -7,7 +7,9 @@ use Rattle.spf_der.specs.declared.error.X509ParseKind.TheVariants.{InvalidCertif
 use Rattle.spf_der.proofs.certificate.extensions.Given as goal
 
 abbrev pub invariant-loop-rest : goal.invariant-loop-rest
-invariant-loop-rest l = Goes part_at (Parse InvalidCertificate) (map plain l.found.items) l.rest (extensions_rule l.text)
+invariant-loop-rest l =
+    Goes part_at (Parse InvalidCertificate) (map plain l.found.items) l.rest
+    (extensions_rule l.text)
 
 abbrev pub decreases-loop-rest : goal.decreases-loop-rest
 decreases-loop-rest l = length l.rest

@@ -8,7 +8,10 @@ use Rattle.spf_der.specs.declared.error.X509ParseKind.TheVariants.{InvalidCertif
 use Rattle.spf_der.proofs.scan.scan_extensions.Given as goal
 
 abbrev pub invariant-loop-rest : goal.invariant-loop-rest
-invariant-loop-rest l = (front : List ExtensionPart) × Goes part_at (Parse InvalidCertificate) front l.rest (extensions_rule l.text) × HasFound l.found front
+invariant-loop-rest l =
+    (front : List ExtensionPart)
+    × Goes part_at (Parse InvalidCertificate) front l.rest (extensions_rule l.text)
+    × HasFound l.found front
 
 abbrev pub decreases-loop-rest : goal.decreases-loop-rest
 decreases-loop-rest l = length l.rest

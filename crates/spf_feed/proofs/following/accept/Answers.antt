@@ -5,9 +5,14 @@ use Rattle.spf_feed.proofs.HandLemmas.{step_unpublished, step_unrecorded}
 use Rattle.spf_feed.proofs.following.accept.Goals as goal
 
 pub returns-in_err-change-clause-taken : goal.returns-in_err-change-clause-taken
-returns-in_err-change-clause-taken g c = step_unpublished _ _ _ _ _ c.from_residual.ensures.0 c.in_err-change.ensures.steps refl
+returns-in_err-change-clause-taken g c =
+    step_unpublished _ _ _ _ _ c.from_residual.ensures.0 c.in_err-change.ensures.steps refl
 
 pub returns-in_err-record_change-clause-taken : goal.returns-in_err-record_change-clause-taken
 returns-in_err-record_change-clause-taken g c =
-    step_unrecorded _ _ _ _ _ c.from_residual-in_err-record_change.ensures.0 c.in_ok-change.ensures.steps
-    (subst (λ x. GrowsUpTo (g.M.MetricsRecorder.records c.args.recorder.now) (g.M.MetricsRecorder.records c.record_change.new.recorder) (update_of x) true) c.in_ok-change.ensures.change c.in_err-record_change.ensures)
+    step_unrecorded _ _ _ _ _ c.from_residual-in_err-record_change.ensures.0
+    c.in_ok-change.ensures.steps
+    (subst (λ x.
+    GrowsUpTo (g.M.MetricsRecorder.records c.args.recorder.now)
+    (g.M.MetricsRecorder.records c.record_change.new.recorder) (update_of x) true)
+    c.in_ok-change.ensures.change c.in_err-record_change.ensures)

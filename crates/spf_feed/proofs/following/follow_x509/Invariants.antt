@@ -12,7 +12,9 @@ invariant-events g l = record {
   synced : IsTrue (is_some l.snapshot) → HasStep (g.P.Publisher.steps l.publisher);
   reads : g.S.Source.failures l.initial.source ≤ g.S.Source.failures l.source;
   writes : g.K.Sink.failures l.initial.sink ≤ g.K.Sink.failures l.sink;
-  session : LoopAt (rules_with l.fn.limits l.fn.deadline l.fn.ready (option_map (λ p. g.C.SvidPicker.picks p.now) l.fn.picker)) l.max_frames
+  session : LoopAt
+      (rules_with l.fn.limits l.fn.deadline l.fn.ready
+      (option_map (λ p. g.C.SvidPicker.picks p.now) l.fn.picker)) l.max_frames
       (record {
         left = g.S.Source.left l.initial.source;
         held = g.K.Sink.held l.initial.sink;

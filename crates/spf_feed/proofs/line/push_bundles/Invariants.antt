@@ -7,7 +7,8 @@ use Rattle.spf_feed.proofs.line.push_bundles.Given as goal
 -- what is still to come behind the line is what was to come behind it at first
 abbrev pub invariant-loop-domain : goal.invariant-loop-domain
 invariant-loop-domain l = record {
-  text : l.initial.line.items ++ flat_map entry_text l.set ≡ l.line.items ++ flat_map entry_text l.domain-iterator;
+  text : l.initial.line.items ++ flat_map entry_text l.set
+      ≡ l.line.items ++ flat_map entry_text l.domain-iterator;
   indexed : AreIndexed l.domain-iterator l.left;
   grows : vec_len l.initial.line ≤ vec_len l.line;
 }

@@ -5,6 +5,9 @@ use Rattle.spf_feed.proofs.line.push_other_indices.Given as goal
 
 abbrev pub invariant-loop-index : goal.invariant-loop-index
 invariant-loop-index g l = record {
-  text : l.line.items ≡ l.initial.line.items ++ flat_map (λ p. after_comma (shown_at g.T.Octets.shown l.items p)) (take l.index-index l.indices);
+  text : l.line.items
+      ≡ l.initial.line.items
+      ++ flat_map (λ p. after_comma (shown_at g.T.Octets.shown l.items p))
+      (take l.index-index l.indices);
   grows : vec_len l.initial.line ≤ vec_len l.line;
 }

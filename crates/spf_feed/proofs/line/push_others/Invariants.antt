@@ -5,6 +5,8 @@ use Rattle.spf_feed.proofs.line.push_others.Given as goal
 
 abbrev pub invariant-loop-item : goal.invariant-loop-item
 invariant-loop-item g l = record {
-  text : l.line.items ≡ l.initial.line.items ++ flat_map (λ x. after_comma (g.T.Octets.shown x)) (take l.item-index l.items);
+  text : l.line.items
+      ≡ l.initial.line.items
+      ++ flat_map (λ x. after_comma (g.T.Octets.shown x)) (take l.item-index l.items);
   grows : vec_len l.initial.line ≤ vec_len l.line;
 }

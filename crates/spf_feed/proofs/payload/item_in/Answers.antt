@@ -6,5 +6,8 @@ use Rattle.spf_feed.proofs.payload.item_in.Goals as goal
 
 pub returns : goal.returns
 returns c =
-    item_is _ (context_of c.in-Some.view) _ (sym c.in_ok-view.ensures.exact ∙ ap (option_map context_of) c.in-Some.is)
-    (received_is (context_of c.in-Some.view) c.context_from_view_sharing-context.result _ c.received.result c.in_ok-received.was c.context_from_view_sharing-context.ensures c.received.ensures)
+    item_is _ (context_of c.in-Some.view) _
+    (sym c.in_ok-view.ensures.exact ∙ ap (option_map context_of) c.in-Some.is)
+    (received_is (context_of c.in-Some.view) c.context_from_view_sharing-context.result _
+    c.received.result c.in_ok-received.was c.context_from_view_sharing-context.ensures
+    c.received.ensures)

@@ -11,5 +11,7 @@ returns-then-synced c = rw c.if-synced.true c.synced_turn.ensures
 pub returns-else-synced : goal.returns-else-synced
 returns-else-synced c = rw c.if-synced.false (record {
   may = c.initial_turn.ensures.may;
-  turn = subst (λ o. IsTurn (refusal_in c.args.answer) o (ended false c.args.error) c.initial_turn.result) (sym (passed_before (denial_in c.args.answer))) c.initial_turn.ensures.turn;
+  turn = subst
+      (λ o. IsTurn (refusal_in c.args.answer) o (ended false c.args.error) c.initial_turn.result)
+      (sym (passed_before (denial_in c.args.answer))) c.initial_turn.ensures.turn;
 })

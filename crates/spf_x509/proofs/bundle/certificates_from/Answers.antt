@@ -10,11 +10,15 @@ returns-in_err-certificate c =
     let e = c.in_err-certificate.field-0.0 in
     rw (p.1, p.2)
     (unless (is_memory_certificate e)
-    (each_fails certificate_of c.args.authorities.now c.loop-authority.authority-index c.authority-item.result c.loop-authority.certificates.items e c.loop-authority.invariant c.loop-authority-test.true c.authority-item.is)
+    (each_fails certificate_of c.args.authorities.now c.loop-authority.authority-index
+    c.authority-item.result c.loop-authority.certificates.items e c.loop-authority.invariant
+    c.loop-authority-test.true c.authority-item.is)
     (rw c.as_slice.ensures at c.in_err-certificate.ensures.gives))
 
 pub loop-authority-preserved : goal.loop-authority-preserved
 loop-authority-preserved c =
     rw c.in_ok-push.ensures.items
-    (each_more certificate_of c.args.authorities.now c.loop-authority.authority-index c.authority-item.result c.loop-authority.certificates.items c.in_ok-certificate.certificate
-    c.loop-authority.invariant c.loop-authority-test.true c.authority-item.is (rw c.as_slice.ensures at c.in_ok-certificate.ensures.gives))
+    (each_more certificate_of c.args.authorities.now c.loop-authority.authority-index
+    c.authority-item.result c.loop-authority.certificates.items c.in_ok-certificate.certificate
+    c.loop-authority.invariant c.loop-authority-test.true c.authority-item.is
+    (rw c.as_slice.ensures at c.in_ok-certificate.ensures.gives))

@@ -6,7 +6,9 @@ use Rattle.spf_x509.specs.Chain.{authority_at, authorities_rule}
 use Rattle.spf_x509.proofs.bundle.cut_authorities.Given as goal
 
 abbrev pub invariant-loop-rest : goal.invariant-loop-rest
-invariant-loop-rest l = Goes authority_at (ParseX509Certificate InvalidCertificate) l.authorities.items l.rest (authorities_rule l.der)
+invariant-loop-rest l =
+    Goes authority_at (ParseX509Certificate InvalidCertificate) l.authorities.items l.rest
+    (authorities_rule l.der)
 
 abbrev pub decreases-loop-rest : goal.decreases-loop-rest
 decreases-loop-rest l = length l.rest

@@ -6,12 +6,15 @@ use Rattle.spf_x509.proofs.chain.cut_chain.Goals as goal
 
 pub loop-rest-init : goal.loop-rest-init
 unfolding chain_rule
-loop-rest-init c = rw c.new-parts.ensures.items (within_starts certificate_text_at (TooManyCertificates 16) 16 c.args.chain.now)
+loop-rest-init c =
+    rw c.new-parts.ensures.items
+    (within_starts certificate_text_at (TooManyCertificates 16) 16 c.args.chain.now)
 
 pub loop-rest-preserved : goal.loop-rest-preserved
 loop-rest-preserved c =
     let some : 0 < length c.loop-rest.rest.now = grind arith in
     let room : length c.loop-rest.parts.items ≢ 16 = grind arith in
     rw c.in_ok-push.ensures.items
-    (within_more certificate_text_at (TooManyCertificates 16) 16 c.loop-rest.parts.items c.loop-rest.rest.now (chain_rule c.args.chain.now) c.in_ok-part.part c.in_ok-part.after.now
+    (within_more certificate_text_at (TooManyCertificates 16) 16 c.loop-rest.parts.items
+    c.loop-rest.rest.now (chain_rule c.args.chain.now) c.in_ok-part.part c.in_ok-part.after.now
     some c.in_ok-part.ensures.gives room c.loop-rest.invariant)

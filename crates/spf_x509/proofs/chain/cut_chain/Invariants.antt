@@ -5,7 +5,9 @@ use Rattle.spf_x509.proofs.Within.{GoesWithin}
 use Rattle.spf_x509.proofs.chain.cut_chain.Given as goal
 
 abbrev pub invariant-loop-rest : goal.invariant-loop-rest
-invariant-loop-rest l = GoesWithin certificate_text_at (TooManyCertificates 16) 16 l.parts.items l.rest (chain_rule l.chain)
+invariant-loop-rest l =
+    GoesWithin certificate_text_at (TooManyCertificates 16) 16 l.parts.items l.rest
+    (chain_rule l.chain)
 
 abbrev pub decreases-loop-rest : goal.decreases-loop-rest
 decreases-loop-rest l = length l.rest

@@ -16,18 +16,24 @@ returns-in_err-intermediate_certificate c =
     rw (p.1, p.2)
     (unless (is_memory_svid e)
     (λ broken. intermediates_at c.args.certificates.now _
-    (each_fails (λ (p : Parts × List ℕ). intermediate_rule p.0) c.args.certificates.now c.loop-certificate.certificate-index c.certificate-item.result i.0 e i.1 c.loop-certificate-test.true c.certificate-item.is broken))
+    (each_fails (λ (p : Parts × List ℕ). intermediate_rule p.0) c.args.certificates.now
+    c.loop-certificate.certificate-index c.certificate-item.result i.0 e i.1
+    c.loop-certificate-test.true c.certificate-item.is broken))
     (rw c.scan.ensures at c.in_err-intermediate_certificate.ensures))
 
 pub loop-certificate-preserved : goal.loop-certificate-preserved
 loop-certificate-preserved c =
     let i = c.loop-certificate.invariant in (
       i.0 ++ tt ∷ [],
-      each_more (λ (p : Parts × List ℕ). intermediate_rule p.0) c.args.certificates.now c.loop-certificate.certificate-index c.certificate-item.result i.0 tt i.1 c.loop-certificate-test.true c.certificate-item.is (rw c.scan.ensures at c.in_ok-intermediate_certificate.ensures),
+      each_more (λ (p : Parts × List ℕ). intermediate_rule p.0) c.args.certificates.now
+          c.loop-certificate.certificate-index c.certificate-item.result i.0 tt i.1
+          c.loop-certificate-test.true c.certificate-item.is
+          (rw c.scan.ensures at c.in_ok-intermediate_certificate.ensures),
     )
 
 pub returns : goal.returns
 returns c =
     let i = c.loop-certificate.invariant in
-    let all = take_all c.loop-certificate.certificate-index c.args.certificates.now c.loop-certificate-test.false in
+    let all = take_all c.loop-certificate.certificate-index c.args.certificates.now
+    c.loop-certificate-test.false in
     intermediates_at c.args.certificates.now (Ok i.0) (rw all at i.1)

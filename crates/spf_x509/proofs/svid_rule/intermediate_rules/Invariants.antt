@@ -5,4 +5,7 @@ use Rattle.spf_x509.specs.Rule.{intermediate_rule}
 use Rattle.spf_x509.proofs.svid_rule.intermediate_rules.Given as goal
 
 abbrev pub invariant-loop-certificate : goal.invariant-loop-certificate
-invariant-loop-certificate l = (ys : List (Unit {0})) × (each (λ (p : Parts × List ℕ). intermediate_rule p.0) (take l.certificate-index l.certificates) ≡ Ok ys)
+invariant-loop-certificate l =
+    (ys : List (Unit {0}))
+    × (each (λ (p : Parts × List ℕ). intermediate_rule p.0)
+    (take l.certificate-index l.certificates) ≡ Ok ys)

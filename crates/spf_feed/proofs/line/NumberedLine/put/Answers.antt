@@ -15,5 +15,6 @@ returns-clause-text g c =
     let same : length buf ≡ length octets.items = search rules in
     let size : octets.len ≡ length octets.items = search rules in
     ap (drop 20) (written_back buf octets.items octets.len same size)
-    ∙ number_before c.deref_mut.result.now buf (decimal c.args.number) c.write_digits-start.result 20 c.write_digits-start.ensures.start c.write_digits-start.ensures.written
+    ∙ number_before c.deref_mut.result.now buf (decimal c.args.number) c.write_digits-start.result
+    20 c.write_digits-start.ensures.start c.write_digits-start.ensures.written
     ∙ ap (drop 20) c.deref_mut.ensures.value ∙ ap (λ (l : LineView). l.text) c.self.view_is

@@ -5,5 +5,7 @@ use Rattle.spf_feed.proofs.line.NumberedLine.write.Goals as goal
 pub returns-clause-text : goal.returns-clause-text
 returns-clause-text c =
     let room : 20 ≤ length c.self.inside.octets.items = search rules in
-    line_written c.self.inside.octets.items c.truncate.new.self.items c.push.new.self.items c.push_view.new.line.items _ _ _ _ c.args.now room c.truncate.ensures.items c.in_ok-push.ensures.items
+    line_written c.self.inside.octets.items c.truncate.new.self.items c.push.new.self.items
+    c.push_view.new.line.items _ _ _ _ c.args.now room c.truncate.ensures.items
+    c.in_ok-push.ensures.items
     c.standing.ensures.view c.revision.ensures c.in_ok-push_view.ensures.text

@@ -8,9 +8,12 @@ use Rattle.spf_feed.proofs.snapshot.Snapshot.apply.Goals as goal
 
 pub returns-then-is_changed_by-clause-stands : goal.returns-then-is_changed_by-clause-stands
 returns-then-is_changed_by-clause-stands c = λ steps h.
-    subst (λ (k : Kept Material Denial). Stands same_material (steps ++ c.args.step ∷ []) k) (sym c.show.ensures)
-    (stands_changed same_material material_equiv steps c.args.self.now c.args.step c.is_changed_by.ensures.showing h (sym c.is_changed_by.ensures.value ∙ c.if-is_changed_by.true))
+    subst (λ (k : Kept Material Denial). Stands same_material (steps ++ c.args.step ∷ []) k)
+    (sym c.show.ensures)
+    (stands_changed same_material material_equiv steps c.args.self.now c.args.step
+    c.is_changed_by.ensures.showing h (sym c.is_changed_by.ensures.value ∙ c.if-is_changed_by.true))
 
 pub returns-else-is_changed_by-clause-stands : goal.returns-else-is_changed_by-clause-stands
 returns-else-is_changed_by-clause-stands c = λ steps h.
-    stands_unchanged same_material material_equiv steps c.args.self.now c.args.step c.is_changed_by.ensures.showing h (sym c.is_changed_by.ensures.value ∙ c.if-is_changed_by.false)
+    stands_unchanged same_material material_equiv steps c.args.self.now c.args.step
+    c.is_changed_by.ensures.showing h (sym c.is_changed_by.ensures.value ∙ c.if-is_changed_by.false)

@@ -4,4 +4,5 @@ use Rattle.spf_x509.proofs.bundle_set.X509BundleSet.try_clone.Given as goal
 
 abbrev pub invariant-loop-trust_domain : goal.invariant-loop-trust_domain
 invariant-loop-trust_domain l =
-    with_entries (map plain_entry l.bundles.entries) (map plain_entry l.trust_domain-iterator) ≡ with_entries [] l.self
+    with_entries (map plain_entry l.bundles.entries) (map plain_entry l.trust_domain-iterator)
+    ≡ with_entries [] l.self

@@ -5,5 +5,6 @@ use Rattle.spf_x509.proofs.bundle_set.X509BundleSetPartialEq.eq.Goals as goal
 
 pub returns : goal.returns
 returns c =
-    let e = pointwise-map plain_entry entry_eq c.self.inside.bundles.entries c.other.inside.bundles.entries in
+    let e = pointwise-map plain_entry entry_eq c.self.inside.bundles.entries
+    c.other.inside.bundles.entries in
     rw (← c.self.view_is, ← c.other.view_is) (c.eq.ensures ∙ sym e)

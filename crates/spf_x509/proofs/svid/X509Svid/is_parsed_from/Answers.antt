@@ -1,4 +1,5 @@
-use Rattle.std.proofs.Common.{◌≡◌, ℕ, ◌<◌, ◌∙◌, Bool, true, false, not, List, refl, sym, subst, ap, arith}
+use Rattle.std.proofs.Common.{◌≡◌, ℕ, ◌<◌, ◌∙◌, Bool, true, false, not, List, refl, sym, subst, ap}
+use Rattle.std.proofs.Common.{arith}
 use Rattle.std.specs.Option.{option_map}
 use Rattle.std.specs.Borrow.{Bor}
 use Rattle.std.proofs.lemmas.List.Elements.{All-from_get_or}
@@ -15,9 +16,13 @@ holds false h = absurd (cc)
 
 pub returns-then-ne : goal.returns-then-ne
 returns-then-ne c =
-    let octets = All-from_get_or (λ (b : ℕ). b < 256) c.args.chain.now 0 (λ i lt. omega (arith, c.type_inv.chain i)) in
+    let octets =
+    All-from_get_or (λ (b : ℕ). b < 256) c.args.chain.now 0
+    (λ i lt. omega (arith, c.type_inv.chain i)) in
     let hint = option_map (λ (t : Bor (List ℕ)). t.now) c.args.hint in
-    let exact = svid_exact c.args.chain.now c.args.key.now hint c.args.self.now octets (subst IsSvid c.self.view_is c.self.invariant.1) in
+    let exact =
+    svid_exact c.args.chain.now c.args.key.now hint c.args.self.now octets
+    (subst IsSvid c.self.view_is c.self.invariant.1) in
     let key = c.as_bytes.ensures ∙ ap (λ (s : Svid). s.key) c.self.view_is in (
       λ yes. absurd (cc (yes)),
       λ is. absurd (cc (rw ((bytes_exact _ _).1 ((exact.1 is).0 ∙ sym key)) at c.if-ne.ensures)),
@@ -25,20 +30,35 @@ returns-then-ne c =
 
 pub returns-then-not-is_same_hint : goal.returns-then-not-is_same_hint
 returns-then-not-is_same_hint c =
-    let octets = All-from_get_or (λ (b : ℕ). b < 256) c.args.chain.now 0 (λ i lt. omega (arith, c.type_inv.chain i)) in
+    let octets =
+    All-from_get_or (λ (b : ℕ). b < 256) c.args.chain.now 0
+    (λ i lt. omega (arith, c.type_inv.chain i)) in
     let hint = option_map (λ (t : Bor (List ℕ)). t.now) c.args.hint in
-    let exact = svid_exact c.args.chain.now c.args.key.now hint c.args.self.now octets (subst IsSvid c.self.view_is c.self.invariant.1) in (
+    let exact =
+    svid_exact c.args.chain.now c.args.key.now hint c.args.self.now octets
+    (subst IsSvid c.self.view_is c.self.invariant.1) in (
       λ yes. absurd (cc (yes)),
       λ is. c.if-not-is_same_hint.ensures.1 ((exact.1 is).1 ∙ sym c.hint.ensures),
     )
 
 pub returns : goal.returns
 returns c =
-    let octets = All-from_get_or (λ (b : ℕ). b < 256) c.args.chain.now 0 (λ i lt. omega (arith, c.type_inv.chain i)) in
+    let octets =
+    All-from_get_or (λ (b : ℕ). b < 256) c.args.chain.now 0
+    (λ i lt. omega (arith, c.type_inv.chain i)) in
     let hint = option_map (λ (t : Bor (List ℕ)). t.now) c.args.hint in
-    let exact = svid_exact c.args.chain.now c.args.key.now hint c.args.self.now octets (subst IsSvid c.self.view_is c.self.invariant.1) in
-    let key : c.args.key.now ≡ c.args.self.now.key = (bytes_exact _ _).0 (holds _ c.if-ne.ensures) ∙ c.as_bytes.ensures ∙ ap (λ (s : Svid). s.key) c.self.view_is in
+    let exact =
+    svid_exact c.args.chain.now c.args.key.now hint c.args.self.now octets
+    (subst IsSvid c.self.view_is c.self.invariant.1) in
+    let key : c.args.key.now ≡ c.args.self.now.key =
+    (bytes_exact _ _).0 (holds _ c.if-ne.ensures) ∙ c.as_bytes.ensures
+    ∙ ap (λ (s : Svid). s.key) c.self.view_is in
     let chain = c.as_slice.ensures ∙ ap (λ (s : Svid). s.chain) c.self.view_is in (
-      λ yes. exact.0 (key, c.if-not-is_same_hint.ensures.0 refl ∙ c.hint.ensures, subst (CertsOf c.args.chain.now) chain (c.is_concatenation.ensures.0 yes)),
-      λ is. c.is_concatenation.ensures.1 (subst (CertsOf c.args.chain.now) (sym chain) (exact.1 is).2),
+      λ yes. exact.0 (
+        key,
+        c.if-not-is_same_hint.ensures.0 refl ∙ c.hint.ensures,
+        subst (CertsOf c.args.chain.now) chain (c.is_concatenation.ensures.0 yes),
+      ),
+      λ is. c.is_concatenation.ensures.1
+          (subst (CertsOf c.args.chain.now) (sym chain) (exact.1 is).2),
     )
