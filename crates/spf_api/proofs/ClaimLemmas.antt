@@ -195,7 +195,7 @@ pub claims : {value_at : List ℕ → Option (ClaimValue × List ℕ)} {IsValue 
     → Reads (claim_at value_at) claim_text (IsClaim IsValue)
 claims values = record { again = claim_again values; takes = claim_takes values }
 
--- values of one kind: the contents of such a value are spelled behind the kind octet
+-- values of one kind: the contents of such a value follow the kind octet
 record Kind {A : Type 0} (kind : ℕ) (value : A → ClaimValue) (one : List ℕ → Option (A × List ℕ))
     (Fits : ClaimValue → Type 0) : Type 1 where
   text : A → List ℕ
@@ -218,7 +218,7 @@ kind_takes {A} {kind} {value} {one} {Fits} k octet bytes v rest octets is found 
           ∙ ap (λ (l : List ℕ). l ++ x.1) (sym (k.spelled x.0)),
     ))
 
--- behind its kind octet a value is read
+-- after its kind octet a value is read
 kind_again : {A : Type 0} {kind : ℕ} {value : A → ClaimValue} {one : List ℕ → Option (A × List ℕ)}
     {Fits : ClaimValue → Type 0} (k : Kind kind value one Fits)
     → (depth : ℕ) (x : A) (rest : List ℕ) → k.P x
@@ -257,7 +257,7 @@ rolled : (v : ClaimValue) (f : ClaimValue-F ClaimValue Claim) → out-ClaimValue
     → roll-ClaimValue f ≡ v
 rolled v f is = ap roll-ClaimValue (sym is) ∙ roll-out-ClaimValue v
 
--- what is put behind the kind octet of a value
+-- what is put after the kind octet of a value
 pub value_put : (kind : ℕ) (contents : List ℕ) (v w : ClaimValue) (old mid new : List ℕ) → v ≡ w
     → claim_value_text w ≡ kind ∷ contents
     → mid ≡ old ++ kind ∷ [] → new ≡ mid ++ contents → new ≡ old ++ claim_value_text v

@@ -7,7 +7,7 @@ use Rattle.std.proofs.lemmas.List.Concat.{flat_map-cons, flat_map-append}
 use Rattle.std.specs.List.{flat_map, All}
 use Rattle.spf_api.specs.Layout.{IsListOf, HasLength32}
 
--- behind `start` the members are laid out, and each may be
+-- after `start` the members are laid out, and each may be
 pub record Laid {A : Type 0} (one : A → List ℕ) (P : A → Type 0) (start now : List ℕ)
     (members : List A) : Type 0 where
   pub octets : now ≡ start ++ flat_map one members
@@ -41,7 +41,7 @@ laid_list {A} one P start now xs i laid le short = record {
   each = subst (λ (l : List A). All P l) (take_all i xs le) laid.fits;
 }
 
--- what all members add, behind their count
+-- what all members add, after their count
 pub laid_octets : {A : Type 0} (one : A → List ℕ) (P : A → Type 0) (out count start now : List ℕ)
     (xs : List A) (i : ℕ)
     → Laid one P start now (take i xs) → length xs ≤ i → start ≡ out ++ count

@@ -16,11 +16,11 @@ use Rattle.spf_api.specs.Reading.{svid_entry_at, bundle_entry_at, jwt_svid_entry
 use Rattle.spf_api.proofs.Spelled.{IsBytes, Reads, rest_bytes, bind_some, pair_parts, number_again}
 use Rattle.spf_api.proofs.Spelled.{number_takes, byte_fields, text_fields}
 
--- behind the text of x stands the rest
+-- the rest follows the text of x
 abbrev pub Front : List ℕ → List ℕ → List ℕ → Type 0
 Front bytes text rest = (bytes ≡ text ++ rest) × IsBytes rest
 
--- what was read stands in front, and the rest are octets
+-- the bytes begin with what was read, and the rest are octets
 pub front : {A : Type 0} {one : List ℕ → Option (A × List ℕ)} {text : A → List ℕ} {P : A → Type 0}
     (reads : Reads one text P)
     → (bytes : List ℕ) (x : A) (rest : List ℕ) → IsBytes bytes → one bytes ≡ Some (x, rest)
@@ -29,13 +29,13 @@ front {A} {one} {text} {P} reads bytes x rest octets found =
     let taken = reads.takes bytes x rest octets found in
     (taken.0, (taken.1, rest_bytes (text x) rest (subst IsBytes taken.1 octets)))
 
--- one text behind another
+-- one text after another
 pub both : (bytes first middle second rest : List ℕ) → Front bytes first middle
     → Front middle second rest → Front bytes (first ++ second) rest
 both bytes first middle second rest f s =
     (f.0 ∙ ap (λ (l : List ℕ). first ++ l) s.0 ∙ sym (append_assoc first second rest), s.1)
 
--- an entry that may be laid out, and its text in front of the rest
+-- an entry that may be laid out, and its text before the rest
 abbrev pub LaidFront : {A : Type 0} → (A → Type 0) → (A → List ℕ) → List ℕ → A → List ℕ → Type 0
 LaidFront P text bytes x rest = P x × (bytes ≡ text x ++ rest)
 

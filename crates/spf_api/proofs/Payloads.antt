@@ -318,7 +318,7 @@ one_reading kind.Validation bytes r s first second =
     some_is r s
     (laid_is_read kind.Validation bytes r first ∙ sym (laid_is_read kind.Validation bytes s second))
 
--- the same where the answer is not want of memory
+-- the same where memory did not run out
 pub finds_ok : {E : Type 0} (k : ResponseKind) (bytes : List ℕ)
     (answer : Result (Option Response) E) → IsBytes bytes → IfOk answer (λ o. IsRead k bytes o)
     → IfOk answer (λ o. Finds k bytes o)

@@ -30,7 +30,7 @@ kept_more rule xs i d kept lt keeps =
           (get_or_same xs i d (get_or xs i d) lt) keeps;
     }
 
--- a rule for what is behind a function
+-- a rule for what a function gives
 pub each-map : {A B C E : Type 0} (f : B → Result C E) (g : A → B) (xs : List A)
     → each f (map g xs) ≡ each (λ x. f (g x)) xs
 each-map f g [] = refl

@@ -77,7 +77,7 @@ validation_put (Ok x) r old new fits octets = record {
 }
 validation_put (Err e) r old new fits octets = tt
 
--- behind nothing stands the payload alone
+-- after nothing there is the payload alone
 pub alone : (r : Response) (new : List ℕ) → Appends r [] new → Payload (kind_of r) new r
 alone r new appended =
     subst (λ (l : List ℕ). Payload (kind_of r) l r) (sym appended.appended) appended.lays

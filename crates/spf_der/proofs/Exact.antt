@@ -1,5 +1,5 @@
--- The rule of certificates is the grammar: it answers the parts
--- of the certificate in front, and refuses where there is none.
+-- The rule of certificates is the grammar: it gives the parts of the
+-- certificate at the start, and refuses where there is none.
 use Rattle.std.proofs.Common.{◌≡◌, ℕ, zero, suc, ◌-◌, ◌<◌, ◌≤◌, List, [], ◌∷◌, ◌++◌, length, take}
 use Rattle.std.proofs.Common.{drop, Option, Some, None, Result, Ok, Err, refl, sym, ap, subst, ◌∙◌}
 use Rattle.std.proofs.Common.{arith, length-append, append_assoc, ℤ}
@@ -129,7 +129,7 @@ certificate_reads b rest parts text =
       size,
     ) refl
 
--- what is read is a certificate in front
+-- what is read is a certificate at the start
 pub record Read (bytes : List ℕ) (parts : Parts) (n : ℕ) : Type 0 where
   pub text : List ℕ
   pub rest : List ℕ
@@ -214,7 +214,7 @@ refused_from bytes (Ok read) all is never =
     absurd (never read.1 read.0 ((certificate_found bytes read.0 read.1 all).0 is).1)
 refused_from bytes (Err e) all is never = ap Err (rule_fails bytes e is)
 
--- a certificate is refused exactly where none stands in front
+-- a certificate is refused exactly where there is none at the start
 pub certificate_refused : (bytes : List ℕ) → IsBytes bytes
     → (certificate_rule bytes ≡ Err invalid)
     ↔ ((n : ℕ) (parts : Parts) → CertText (take n bytes) parts → ⊥)
@@ -236,7 +236,7 @@ certificate_followed bytes rest parts n all is =
     ∙ certificate_reads read.text (read.rest ++ rest) parts read.is
     ∙ ap (λ (m : ℕ). Ok (parts, m)) (sym read.size)
 
--- what a reader answers of bytes
+-- what a reader returns for bytes
 pub answered : (bytes : List ℕ) (r : Result (Parts × ℕ) CertReadError) → IsBytes bytes
     → Gives is_memory (λ x. (x.0, x.1)) r (certificate_rule bytes)
     → IfOk r (λ x. (x.1 ≤ length bytes) × CertText (take x.1 bytes) x.0)

@@ -19,7 +19,7 @@ use Rattle.spf_der.proofs.Values.{Octets, MaybeTaken, begins, some_is, no_rest, 
 use Rattle.spf_der.proofs.Values.{tagged_again, tagged_taken, value_again, value_taken, whole_again}
 use Rattle.spf_der.proofs.Values.{optional_again, optional_taken}
 
--- a piece was taken from the front
+-- a piece was taken from the start
 pub record Piece (P : List ℕ → Type 0) (bytes rest : List ℕ) : Type 0 where
   pub text : List ℕ
   pub is : P text

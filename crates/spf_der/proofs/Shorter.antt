@@ -1,4 +1,4 @@
--- What follows a value is shorter than what the value stood in front of.
+-- What follows a value is shorter than what begins with it.
 use Rattle.std.proofs.Common.{◌≡◌, ℕ, ◌<◌, ◌≤◌, List, [], ◌∷◌, length, take, drop, cond, Option}
 use Rattle.std.proofs.Common.{Some, None, nat_lt, nat_eq, arith, ap, sym, ⊎_elim, length-drop}
 use Rattle.std.proofs.lemmas.Bool.Decides.{nat_tests}

@@ -26,7 +26,7 @@ use Rattle.spf_der.proofs.Certificates.{listed_again, listed_taken}
 
 -- ---- tbsCertificate
 
--- what stands before the validity was taken from the front
+-- what comes before the validity was taken from the start
 pub record Headed (bytes rest : List ℕ) : Type 0 where
   pub version : List ℕ
   pub number : List ℕ
@@ -99,7 +99,7 @@ issuer_taken bytes rest o is =
       outer = s.outer;
     })
 
--- no unique identifier of that number stands in front
+-- no unique identifier of that number is at the start
 unnamed : (number : ℕ) (b : List ℕ) (tag : ℕ) (contents rest : List ℕ) → Value b tag contents
     → (nat_eq tag (128 + number) || nat_eq tag (160 + number)) ≡ false
     → after_unique_id_at number (b ++ rest) ≡ Some (b ++ rest)
@@ -266,7 +266,7 @@ signed_again b expiry list rest t =
       bits_again t.signature [] t.signature_is,
     ) refl
 
--- a certificate was taken from the front
+-- a certificate was taken from the start
 pub record Signed (bytes : List ℕ) (expiry : ℤ) (list rest : List ℕ) : Type 0 where
   pub text : List ℕ
   pub is : SignedText text expiry list

@@ -71,7 +71,7 @@ form_5 n low =
       le-ltb n 16777216 low,
     ) refl
 
--- a length was taken from the front
+-- a length was taken from the start
 abbrev LengthTaken : List ℕ → ℕ × List ℕ → Type 0
 LengthTaken bytes n = (bytes ≡ length_octets n.0 ++ n.1) × (n.0 < 2 ^ 32) × Octets n.1
 
@@ -247,7 +247,7 @@ length_again n rest high =
 abbrev split : ℕ × List ℕ → Option (List ℕ × List ℕ)
 split n = cond (nat_lt (length n.1) n.0) None (Some (take n.0 n.1, drop n.0 n.1))
 
--- contents were taken from the front
+-- contents were taken from the start
 pub record ContentsTaken (bytes contents rest : List ℕ) : Type 0 where
   pub cut : bytes ≡ length_octets (length contents) ++ (contents ++ rest)
   pub short : length contents < 2 ^ 32
@@ -299,7 +299,7 @@ contents_again contents rest short =
 
 -- ---- values
 
--- a value was taken from the front
+-- a value was taken from the start
 pub record Taken (tag : ℕ) (bytes contents rest : List ℕ) : Type 0 where
   pub text : List ℕ
   pub value : Value text tag contents
@@ -427,7 +427,7 @@ whole_taken tag bytes contents octet is_tag o is =
     (whole_from tag bytes v.0 v.1 (no_rest v.1 p.0) taken)) (λ p. cc (p.1))
     (chosen (nat_eq (length v.1) 0) (Some v.0) None (Some contents) found.2)
 
--- a value that may be left out was taken from the front, or was left out
+-- a value that may be left out was taken from the start, or was left out
 abbrev pub MaybeTaken : ℕ → List ℕ → Option (List ℕ) → List ℕ → Type 0
 MaybeTaken tag bytes None rest = (bytes ≡ rest) × Octets rest
 MaybeTaken tag bytes (Some contents) rest = Taken tag bytes contents rest
@@ -468,7 +468,7 @@ optional_taken tag (first ∷ bytes) found rest octet is_tag o is =
 
 -- ---- one reading
 
--- the value in front is what is read
+-- the value at the start is what is read
 pub value_exact : (bytes : List ℕ) (tag : ℕ) (contents rest : List ℕ) → IsBytes bytes
     → (value_at bytes ≡ Some (tag, contents, rest))
     ↔ ((text : List ℕ) × Value text tag contents × (bytes ≡ text ++ rest))

@@ -1,8 +1,9 @@
 -- Certificates, in the order of RFC 5280 section 4.1: what is read at the start of the bytes.
-use Rattle.std.specs.Prelude.{ℕ, ℤ, ◌+◌, List, [], ◌∷◌, length, Option, Some, None, Bool, true}
+use Rattle.std.specs.Prelude.{ℕ, ℤ, List, [], ◌∷◌, length, Option, Some, None, Bool, true}
 use Rattle.std.specs.Prelude.{false, ◌==◌, ◌||◌, if◌then◌else◌}
 use Rattle.spf_io.specs.Option.{◌>>=◌}
-use Rattle.spf_der.specs.Value.{contents_at, tagged_at, whole_at, optional_at}
+use Rattle.spf_der.specs.Value.{context_primitive, context_constructed, contents_at, tagged_at}
+use Rattle.spf_der.specs.Value.{whole_at, optional_at}
 use Rattle.spf_der.specs.Types.{object_identifier_at, integer_at, small_integer_at}
 use Rattle.spf_der.specs.Types.{default_false_at, after_bit_string_at, after_algorithm_at}
 use Rattle.spf_der.specs.Time.{time_at}
@@ -22,7 +23,7 @@ is_version (Some inner) = ends (small_integer_at 2 inner)
 -- what follows the version
 unfoldable pub after_version_at : List ℕ → Option (List ℕ)
 after_version_at bytes = do
-  v ← optional_at 160 bytes
+  v ← optional_at (context_constructed 0) bytes
   if is_version v.0 then Some v.1 else None
 
 -- the second of two times, and what follows the validity (section 4.1.2.5)
@@ -46,7 +47,7 @@ after_public_key_at bytes = do
 unfoldable pub after_unique_id_at : ℕ → List ℕ → Option (List ℕ)
 after_unique_id_at number [] = Some []
 after_unique_id_at number (tag ∷ bytes) =
-    if tag == 128 + number || tag == 160 + number then (do
+    if tag == context_primitive number || tag == context_constructed number then (do
       v ← contents_at bytes
       Some v.1)
     else Some (tag ∷ bytes)
@@ -59,7 +60,7 @@ extension_text_of (Some inner) = whole_at SEQUENCE inner
 
 unfoldable pub extension_text_at : List ℕ → Option (List ℕ)
 extension_text_at bytes = do
-  v ← optional_at 163 bytes
+  v ← optional_at (context_constructed 3) bytes
   if length v.1 == 0 then extension_text_of v.0 else None
 
 -- what stands before the validity of tbsCertificate: version,

@@ -1,8 +1,8 @@
 -- The grammar of certificates (RFC 5280 section 4.1) and of keys
 -- (RFC 5958 section 2): which octets are a text, piece by piece.
-use Rattle.std.specs.Prelude.{◌≡◌, ◌≢◌, ℕ, ◌+◌, ◌≤◌, ◌⊎◌, List, [], ◌∷◌, ◌++◌, Some, Bool, true}
+use Rattle.std.specs.Prelude.{◌≡◌, ◌≢◌, ℕ, ◌≤◌, ◌⊎◌, List, [], ◌∷◌, ◌++◌, Some, Bool, true}
 use Rattle.std.specs.Prelude.{false, ℤ}
-use Rattle.spf_der.specs.Value.{Value}
+use Rattle.spf_der.specs.Value.{Value, context_primitive, context_constructed}
 use Rattle.spf_der.specs.Types.{is_bit_string}
 use Rattle.spf_der.specs.Time.{unix_of}
 use Rattle.spf_der.specs.Part.{Parts}
@@ -55,7 +55,7 @@ pub record AlgorithmText (b : List ℕ) : Type 0 where
 pub record NumberedText (b : List ℕ) : Type 0 where
   pub inner : List ℕ
   pub number : ℕ
-  pub value : Value b 160 inner
+  pub value : Value b (context_constructed 0) inner
   pub number_is : SmallText 2 inner number
 
 abbrev pub VersionText : List ℕ → Type 0
@@ -91,7 +91,8 @@ pub record PublicKeyText (b : List ℕ) : Type 0 where
 -- a unique identifier of that number, primitive or constructed (section 4.1.2.8)
 pub record NamedText (number : ℕ) (b : List ℕ) : Type 0 where
   pub contents : List ℕ
-  pub value : Value b (128 + number) contents ⊎ Value b (160 + number) contents
+  pub value : Value b (context_primitive number) contents
+      ⊎ Value b (context_constructed number) contents
 
 -- which may be left out
 abbrev pub UniqueIdText : ℕ → List ℕ → Type 0
@@ -123,7 +124,7 @@ ExtensionTexts b (extension ∷ extensions) =
 -- Extensions (section 4.1.2.9), whose list has these octets
 pub record ListedText (b list : List ℕ) : Type 0 where
   pub inner : List ℕ
-  pub value : Value b 163 inner
+  pub value : Value b (context_constructed 3) inner
   pub list_is : Value inner SEQUENCE list
 
 -- which may be left out, and then are none
@@ -188,7 +189,7 @@ CertsOf b (text ∷ texts) =
 -- what may stand for the attributes of a key, which are unread
 pub record AttributesText (b : List ℕ) : Type 0 where
   pub contents : List ℕ
-  pub value : Value b 160 contents
+  pub value : Value b (context_constructed 0) contents
 
 -- PrivateKeyInfo (RFC 5958 section 2): a public key ends it exactly where the version is 1
 pub record KeyText (b : List ℕ) : Type 0 where
@@ -205,4 +206,4 @@ pub record KeyText (b : List ℕ) : Type 0 where
   pub octets_are : Value octets OCTET_STRING key
   pub attributes_are : (attributes ≡ []) ⊎ AttributesText attributes
   pub public_key_is : ((version ≡ 0) × (public_key ≡ []))
-      ⊎ ((version ≡ 1) × BitsText 129 public_key)
+      ⊎ ((version ≡ 1) × BitsText (context_primitive 1) public_key)

@@ -1,7 +1,8 @@
 -- Private keys (RFC 5958 section 2).
 use Rattle.std.specs.Prelude.{ℕ, List, length, Option, Some, None, Bool, false, ◌&&◌, ◌==◌}
 use Rattle.spf_io.specs.Option.{◌>>=◌}
-use Rattle.spf_der.specs.Value.{tagged_at, whole_at, optional_at}
+use Rattle.spf_der.specs.Value.{context_primitive, context_constructed, tagged_at, whole_at}
+use Rattle.spf_der.specs.Value.{optional_at}
 use Rattle.spf_der.specs.Types.{small_integer_at, is_bit_string, after_algorithm_at}
 use Rattle.spf_der.specs.declared.value.TheConstants.{OCTET_STRING, SEQUENCE}
 
@@ -17,8 +18,8 @@ key_at der = do
   version ← small_integer_at 1 inner
   key ← after_algorithm_at version.1
   attributes ← tagged_at OCTET_STRING key
-  public ← optional_at 160 attributes.1
-  end ← optional_at 129 public.1
+  public ← optional_at (context_constructed 0) attributes.1
+  end ← optional_at (context_primitive 1) public.1
   Some (is_public_key version.0 end)
 
 abbrev pub is_key : List ℕ → Bool

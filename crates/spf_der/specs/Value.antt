@@ -17,6 +17,13 @@ length_octets n =
     else (if nat_lt n 16777216 then 131 ∷ n / 65536 ∷ n / 256 % 256 ∷ n % 256 ∷ []
     else 132 ∷ n / 16777216 ∷ n / 65536 % 256 ∷ n / 256 % 256 ∷ n % 256 ∷ [])))
 
+-- the tag octets of the number n in the context-specific class (section 8.1.2)
+abbrev pub context_primitive : ℕ → ℕ
+context_primitive n = 128 + n
+
+abbrev pub context_constructed : ℕ → ℕ
+context_constructed n = 160 + n
+
 -- a tag octet whose low five bits are not all set
 abbrev pub IsTag : ℕ → Type 0
 IsTag t = bit_and t 31 ≢ 31

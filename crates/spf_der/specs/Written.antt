@@ -4,7 +4,7 @@ use Rattle.std.specs.Prelude.{◌≡◌, ℕ, ◌+◌, List, [], ◌∷◌, ◌+
 use Rattle.std.specs.Prelude.{if◌then◌else◌, codes}
 use Rattle.spf_der.specs.Identifier.{basic_constraints_identifier, key_usage_identifier}
 use Rattle.spf_der.specs.Identifier.{subject_alt_name_identifier}
-use Rattle.spf_der.specs.Value.{value_text}
+use Rattle.spf_der.specs.Value.{value_text, context_constructed}
 use Rattle.spf_der.specs.WrittenTime.{IsTimeText}
 use Rattle.spf_der.specs.declared.extensions.KeyUsageBits.{KeyUsageBits}
 use Rattle.spf_der.specs.declared.writer.CertSpec.{CertSpec}
@@ -71,11 +71,12 @@ extensions_text spec = usage_part spec.key_usage ++ constraints_part spec.ca ++ 
 -- a version of 2 exactly where there are extensions
 abbrev pub version_text : List ℕ → List ℕ
 version_text [] = []
-version_text (x ∷ extensions) = value_text 160 (value_text INTEGER (2 ∷ []))
+version_text (x ∷ extensions) = value_text (context_constructed 0) (value_text INTEGER (2 ∷ []))
 
 abbrev pub extensions_part : List ℕ → List ℕ
 extensions_part [] = []
-extensions_part (x ∷ extensions) = value_text 163 (value_text SEQUENCE (x ∷ extensions))
+extensions_part (x ∷ extensions) =
+    value_text (context_constructed 3) (value_text SEQUENCE (x ∷ extensions))
 
 -- from the first second of 1970 to that time
 abbrev pub validity_text : List ℕ → List ℕ

@@ -97,7 +97,7 @@ fn name_parts(tag: u8, contents: &[u8]) -> Option<Option<&str>>
     Some(Some(uri))
 }
 
-/// The name at the front (section 4.2.1.6): its URI if it is one, and what follows it.
+/// The name at the start (section 4.2.1.6): its URI if it is one, and what follows it.
 #[inline]
 #[tactic(auto, unfolding(crate::specs::Names::name_at))]
 fn name(bytes: &[u8]) -> Option<(Option<&str>, &[u8])>

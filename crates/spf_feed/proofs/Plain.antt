@@ -35,9 +35,9 @@ plain_is c passed at = true≢false (sym passed ∙ ap is_plain at)
 above : (c : ℕ) → 10 < c → is_plain c ≡ true
 above c high = ap not (ne_eqb c 10 (λ at. absurd (omega arith)))
 
--- ---- texts behind one another
+-- ---- texts after one another
 
--- one text behind another
+-- one text after another
 pub behind : (xs ys : List ℕ) → Plain xs → Plain ys → Plain (xs ++ ys)
 behind xs ys p q =
     list_all-append is_plain xs ys ∙ and_from (list_all is_plain xs) (list_all is_plain ys) p q

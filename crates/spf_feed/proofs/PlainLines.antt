@@ -111,7 +111,7 @@ visible_plain (Some material) None now p =
     (usable_plain (chosen_of material) now
     (chosen_plain material.context.svids material.choice p.0))
 
--- what stands in front of the line feed has none
+-- what comes before the line feed has none
 numbered : (number text : List ℕ) → Plain number → Plain text
     → IsLine (number ++ 32 ∷ (text ++ 10 ∷ []))
 numbered number text p q =

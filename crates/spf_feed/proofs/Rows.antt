@@ -83,7 +83,7 @@ rules = record {
   pick = pick_of None;
 }
 
--- what is visible behind a history, its revision, and the last moment
+-- what is visible after a history, its revision, and the last moment
 abbrev behind : List Received → View Material Denial × ℕ × Option ℤ
 behind past = (
   view_of (outcomes (subject_by (λ o. o) rules) past),

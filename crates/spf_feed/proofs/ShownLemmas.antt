@@ -95,7 +95,7 @@ crls_made (c ∷ crls) order before mark all empty is not_empty p named made =
     ∙ append_assoc before (codes " #") (hex_list (shown_at (λ x. x) (c ∷ crls)) order)
     ∙ ap (λ (t : List ℕ). before ++ (codes " #" ++ t)) (indices_text (c ∷ crls) order p)
 
--- ---- the line of a session, behind the room for its number
+-- ---- the line of a session, after the room for its number
 
 pub line_written : (octets cut spaced all : List ℕ) (v w : View Material Denial) (r s : ℕ)
     (now : Option ℤ) → 20 ≤ length octets → cut ≡ take 20 octets → spaced ≡ cut ++ 32 ∷ [] → v ≡ w
@@ -117,7 +117,7 @@ written_back buf items n same size =
     ap (λ (l : List ℕ). take n (buf ++ l)) (drop_all (length buf) items (omega (arith, same)))
     ∙ ap (take n) (append-nil buf) ∙ take_all n buf (omega (arith, same, size))
 
--- what stands behind a written number stays
+-- what follows a written number stays
 pub number_before : (old new digits : List ℕ) (start end : ℕ) → start + length digits ≡ end
     → drop start new ≡ digits ++ drop end old → drop end new ≡ drop end old
 number_before old new digits start end size written =

@@ -21,7 +21,7 @@ use std::sync::Arc;
 pub trait SvidPicker {
     // The function.
     ghost picks: { Self → List Svid → Option ℕ };
-    // The picker may be asked, and answers by its function.
+    // The picker may be called, and returns what its function gives.
     ghost can_pick: { Self → Type 0 } = { λ _. Unit {0} };
 
     fn pick_svid(&self, svids: &[Arc<X509Svid>]) -> Option<usize>
@@ -34,7 +34,7 @@ pub trait PickFunction {
     ghost function: { List Svid → Option ℕ };
 }
 
-/// A stored closure that answers by the function of `N`.
+/// A stored closure that returns what the function of `N` gives.
 #[derive(Drop)]
 pub struct FnPicker<F: Fn(&[Arc<X509Svid>]) -> Option<usize>, N: PickFunction> {
     f: F,

@@ -25,7 +25,7 @@ starts kind = kind == CONNECTED || kind == CONNECT_STATUS
 abbrev pub streams : ℕ → Bool
 streams kind = kind == ITEM || kind == ITEM_STATUS || kind == STREAM_END
 
--- the kinds that may stand at a start: behind an
+-- the kinds that may stand at a start: after an
 -- earlier request frames of its stream may stand first
 abbrev pub may_start : Bool → ℕ → Bool
 may_start again kind = starts kind || (again && streams kind)
@@ -96,7 +96,7 @@ abbrev pub answering : {A E : Type 0} → Result A E → Result (Option A) E
 answering (Ok answer) = Ok (Some answer)
 answering (Err e) = Err e
 
--- The answer to a start, behind frames that are passed over. Where there is none, no frame begins
+-- The answer to a start, after frames that are passed over. Where there is none, no frame begins
 -- the rest that could be passed over either.
 pub record StartRead (again : Bool) (old new : Option (List ℕ))
     (r : Result (Result (Unit {0}) Refused) FrameError) : Type 0 where

@@ -16,7 +16,7 @@ use Rattle.spf_x509.specs.Svid.{Svid}
 use Rattle.spf_x509.specs.Key.{key_rule}
 use Rattle.spf_x509.specs.Rule.{leaf_rule, intermediate_rule}
 
--- the certificate at the front, as what is kept of it and as its bytes, and what follows it
+-- the certificate at the start, as what is kept of it and as its bytes, and what follows it
 unfoldable pub certificate_text_at : List ℕ → Result ((Parts × List ℕ) × List ℕ) CertificateError
 certificate_text_at bytes = do
   read ← broken_as of_read (certificate_rule bytes)
@@ -26,7 +26,7 @@ certificate_text_at bytes = do
 unfoldable pub chain_rule : List ℕ → Result (List (Parts × List ℕ)) CertificateError
 chain_rule chain = many certificate_text_at (TooManyCertificates 16) 16 chain
 
--- the bytes of the certificate at the front, and what follows it
+-- the bytes of the certificate at the start, and what follows it
 unfoldable pub authority_at : List ℕ → Result (List ℕ × List ℕ) CertificateError
 authority_at bytes = do
   read ← certificate_text_at bytes

@@ -182,7 +182,7 @@ impl X509Svid {
         &self.private_key
     }
 
-    /// What the identity is meant for, in the words of its operator.
+    /// What the identity is meant for, as its operator says.
     pub fn hint(&self) -> Option<&str>
         ensures { option_map (λ t. t.now) result ≡ self.now.hint }
     {

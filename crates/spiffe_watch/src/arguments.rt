@@ -27,7 +27,7 @@ use std::marker::Model;
 /// The default of `--max-frames`.
 pub(crate) const DEFAULT_MAX_FRAMES: u64 = 1_000_000;
 
-/// The greatest number that an argument may spell.
+/// The max number that an argument may spell.
 const MAX_NUMBER: u64 = i64::MAX as u64;
 
 /// The max number of operations of a generated session.

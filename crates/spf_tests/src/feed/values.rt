@@ -67,7 +67,7 @@ fn context_in(alloc: Global, payload: &[u8]) -> Result<X509Context, Fail> {
     Ok(context)
 }
 
-/// The context of a named item, which stands behind the kind and the length of its frame.
+/// The context of a named item, which follows the kind and the length of its frame.
 fn context(alloc: Global, name: &str) -> Result<X509Context, Fail> {
     let frame = octets(alloc, name)?;
     match frame.as_slice().get(5..) {

@@ -4,7 +4,7 @@ use Rattle.spf_feed.specs.Shown.{entry_text}
 use Rattle.spf_feed.specs.Sorted.{AreIndexed}
 use Rattle.spf_feed.proofs.line.push_bundles.Given as goal
 
--- what is still to come behind the line is what was to come behind it at first
+-- what is still to follow the line is what was to follow it at first
 abbrev pub invariant-loop-domain : goal.invariant-loop-domain
 invariant-loop-domain l = record {
   text : l.initial.line.items ++ flat_map entry_text l.set
