@@ -20,6 +20,8 @@ mod io;
 #[cfg(test)]
 mod pace;
 #[cfg(test)]
+mod socket;
+#[cfg(test)]
 mod system;
 #[cfg(test)]
 mod uses;
