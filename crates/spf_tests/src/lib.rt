@@ -22,6 +22,8 @@ mod pace;
 #[cfg(test)]
 mod proto;
 #[cfg(test)]
+mod socket;
+#[cfg(test)]
 mod system;
 #[cfg(test)]
 mod uses;
