@@ -1,4 +1,5 @@
-//! A client of the Workload API over a link of any kind: fetches and streams of X.509 identities and bundles.
+//! A client of the Workload API over a link of any kind: fetches and streams of X.509 identities
+//! and bundles.
 #![tactic(auto)]
 
 mod client;
