@@ -4,6 +4,7 @@
 
 mod client;
 mod connect;
+pub mod laws;
 mod reading;
 mod stream;
 mod x509;
