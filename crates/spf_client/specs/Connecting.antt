@@ -12,13 +12,18 @@ use Rattle.spf_client.specs.declared.client.WorkloadApiClient.{WorkloadApiClient
 abbrev pub no_interceptor : NoInterceptor
 no_interceptor = record {}
 
--- a client over the link, without an endpoint and an interceptor, or the error that the fault stands for
-abbrev pub client_of : {L : Type 0} → Result L ClientFault → Result (WorkloadApiClient L NoInterceptor) WorkloadApiError
-client_of (Ok link) = Ok (record { endpoint = None; link = link; metadata = record { extra = no_interceptor } })
+-- a client over the link, without an endpoint and an interceptor, or the error that the fault
+-- stands for
+abbrev pub client_of : {L : Type 0} → Result L ClientFault
+    → Result (WorkloadApiClient L NoInterceptor) WorkloadApiError
+client_of (Ok link) = Ok (record
+    { endpoint = None; link = link; metadata = record { extra = no_interceptor } })
 client_of (Err f) = Err (client_fault_reading f)
 
 -- one `connect` of the connector, and the client over its link
-pub record ConnectsOver {S L : Type 0} (connector : connectors.Ghosts S L) (answers : L → Option (List Answer)) (old : S) (result : Result (WorkloadApiClient L NoInterceptor) WorkloadApiError) (new : S) : Type 0 where
+pub record ConnectsOver {S L : Type 0} (connector : connectors.Ghosts S L)
+    (answers : L → Option (List Answer)) (old : S)
+    (result : Result (WorkloadApiClient L NoInterceptor) WorkloadApiError) (new : S) : Type 0 where
   pub answer : Result L ClientFault
   pub connected : Connected connector answers old answer new
   pub read : result ≡ client_of answer

@@ -10,19 +10,25 @@ use Rattle.spf_client.specs.declared.client.WorkloadApiClient.{WorkloadApiClient
 use Rattle.spf_client.specs.contracts.client.WorkloadApiClient.{the_row}
 
 -- the request was begun, and the client is as it was but for its link
-pub record LeavesClient {L I : Type 0} (link : links.Ghosts L) (made : Intercepted) (request : Request) (old : WorkloadApiClient L I) (begun : Result (Unit {0}) WorkloadApiError) (new : WorkloadApiClient L I) : Type 0 where
+pub record LeavesClient {L I : Type 0} (link : links.Ghosts L) (made : Intercepted)
+    (request : Request) (old : WorkloadApiClient L I) (begun : Result (Unit {0}) WorkloadApiError)
+    (new : WorkloadApiClient L I) : Type 0 where
   pub begins : Begins link made request old.link begun new.link
   pub kept : new ≡ record old { link = new.link }
 
 -- a stream is over the client, behind a request that began, and has not ended
-pub record OpensStream {L I : Type 0} (link : links.Ghosts L) (made : Intercepted) (request : Request) (old new : WorkloadApiClient L I) (ended : Bool) : Type 0 where
+pub record OpensStream {L I : Type 0} (link : links.Ghosts L) (made : Intercepted)
+    (request : Request) (old new : WorkloadApiClient L I) (ended : Bool) : Type 0 where
   pub begun : LeavesClient link made request old (Ok tt) new
   pub goes_on : ended ≡ false
 
-module _ (L I : RattleType) (link : links.Ghosts L.Denot) (made : Intercepted) (request : Request) (client : MutBor (WorkloadApiClient L.Denot I.Denot)) where
+module _ (L I : RattleType) (link : links.Ghosts L.Denot) (made : Intercepted) (request : Request)
+    (client : MutBor (WorkloadApiClient L.Denot I.Denot)) where
   -- without a stream the request was begun in vain
-  abbrev pub EndsInVain : {T : Type 0} → Result T WorkloadApiError → WorkloadApiClient L.Denot I.Denot → Type 0
-  EndsInVain result end = MatchResult result (λ _. Unit {0}) (λ e. LeavesClient link made request client.now (Err e) end)
+  abbrev pub EndsInVain : {T : Type 0} → Result T WorkloadApiError
+      → WorkloadApiClient L.Denot I.Denot → Type 0
+  EndsInVain result end = MatchResult result (λ _. Unit {0})
+      (λ e. LeavesClient link made request client.now (Err e) end)
 
   -- the client ends as the stream leaves it, of which `name` says its client
   abbrev pub LendsClient : {T : Type 0} → (T → GName) → Result T WorkloadApiError → Fml

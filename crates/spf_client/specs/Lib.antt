@@ -1,4 +1,5 @@
 pub mod Asking
+pub mod Causes
 pub mod Connecting
 pub mod Lending
 pub mod Reading

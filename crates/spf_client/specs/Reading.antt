@@ -23,25 +23,29 @@ client_fault_reading (client.Status s) = status_reading s
 client_fault_reading (client.Unreachable text) = api.Transport (transport.Connect text)
 client_fault_reading client.OutOfMemory = api.OutOfMemory
 
--- the first response to a request by the first answer of the link: at the end of the stream there is none
+-- the first response to a request by the first answer of the link: at the end of the stream there
+-- is none
 abbrev pub first_response_of : Result (Option Response) LinkFault → Result Response WorkloadApiError
 first_response_of (Ok (Some r)) = Ok r
 first_response_of (Ok None) = Err api.EmptyResponse
 first_response_of (Err f) = Err (fault_reading f)
 
--- The response is of the kind that `of_kind` makes, and what is returned, seen by view, is what the rule says of it, unless
--- memory ran out.
-pub record IsReadBy {R X Y : Type 0} (of_kind : R → Response) (rule : R → Result Y WorkloadApiError) (view : X → Y) (response : Response) (result : Result X WorkloadApiError) : Type 0 where
+-- The response is of the kind that `of_kind` makes, and what is returned, seen by view, is what the
+-- rule says of it, unless memory ran out.
+pub record IsReadBy {R X Y : Type 0} (of_kind : R → Response) (rule : R → Result Y WorkloadApiError)
+    (view : X → Y) (response : Response) (result : Result X WorkloadApiError) : Type 0 where
   pub body : R
   pub kind : response ≡ of_kind body
   pub read : Gives is_memory_api view result (rule body)
 
 -- the same of a first response; without one, the error is that there is none
-abbrev pub ReadsFirst : {R X Y : Type 0} → (R → Response) → (R → Result Y WorkloadApiError) → (X → Y) → Result Response WorkloadApiError → Result X WorkloadApiError → Type 0
+abbrev pub ReadsFirst : {R X Y : Type 0} → (R → Response) → (R → Result Y WorkloadApiError)
+    → (X → Y) → Result Response WorkloadApiError → Result X WorkloadApiError → Type 0
 ReadsFirst of_kind rule view (Ok response) result = IsReadBy of_kind rule view response result
 ReadsFirst of_kind rule view (Err e) result = result ≡ Err e
 
 -- the same result, with its value wrapped
-abbrev pub wrapped : {R : Type 0} → (R → Response) → Result R WorkloadApiError → Result Response WorkloadApiError
+abbrev pub wrapped : {R : Type 0} → (R → Response) → Result R WorkloadApiError
+    → Result Response WorkloadApiError
 wrapped of_kind (Ok r) = Ok (of_kind r)
 wrapped of_kind (Err e) = Err e

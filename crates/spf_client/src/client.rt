@@ -11,14 +11,21 @@ use spf_api::{Response, WorkloadApiError};
 use spf_endpoint::Endpoint;
 use spf_link::{Headers, Interceptor, Link, MetadataAdder, Request};
 use std::alloc::Global;
+use std::fmt;
 
-/// A client of the Workload API over a link. Each request carries the headers that its interceptor makes, and behind them
-/// the one of the Workload API.
+/// A client of the Workload API over a link. Each request carries the headers that its interceptor
+/// makes, and behind them the one of the Workload API.
 #[derive(Drop)]
 pub struct WorkloadApiClient<L, I> {
     endpoint: Option<Endpoint>,
     pub(crate) link: L,
     metadata: MetadataAdder<I>,
+}
+
+impl<L, I> fmt::Debug for WorkloadApiClient<L, I> {
+    fn fmt<W: fmt::Write>(&self, f: &mut fmt::Formatter<W>) -> fmt::Result {
+        write!(f, "WorkloadApiClient")
+    }
 }
 
 impl<L: Link, I: Interceptor> WorkloadApiClient<L, I> {
@@ -28,7 +35,12 @@ impl<L: Link, I: Interceptor> WorkloadApiClient<L, I> {
         link: L,
         interceptor: I,
     ) -> WorkloadApiClient<L, I>
-        ensures { result ≡ record { endpoint = endpoint; link = link; metadata = record { extra = interceptor } } }
+        ensures { result ≡ record {
+          endpoint = endpoint;
+          link = link;
+          metadata =
+              record { extra = interceptor };
+        } }
     {
         WorkloadApiClient {
             endpoint,
@@ -47,7 +59,8 @@ impl<L: Link, I: Interceptor> WorkloadApiClient<L, I> {
     /// Begins a request.
     pub(crate) fn begin(&mut self, alloc: Global, request: &Request) -> Result<(), WorkloadApiError>
         requires { I.can_intercept self.old.metadata.extra }
-        ensures begins { Begins L.Link (I.intercepts self.old.metadata.extra []) request.now self.old.link result self.new.link }
+        ensures begins { Begins L.Link (I.intercepts self.old.metadata.extra []) request.now
+            self.old.link result self.new.link }
         ensures kind { IfOk result (λ _. L.kind self.new.link ≡ Some (answered_by request.now)) }
         ensures kept { self.new ≡ record self.old { link = self.new.link } }
     {
@@ -66,7 +79,8 @@ impl<L: Link, I: Interceptor> WorkloadApiClient<L, I> {
         request: &Request,
     ) -> Result<Response, WorkloadApiError>
         requires { I.can_intercept self.old.metadata.extra }
-        ensures asks { Asks L.Link (I.intercepts self.old.metadata.extra []) request.now self.old.link result self.new.link }
+        ensures asks { Asks L.Link (I.intercepts self.old.metadata.extra []) request.now
+            self.old.link result self.new.link }
         ensures kind { IfOk result (λ r. kind_of r ≡ answered_by request.now) }
         ensures kept { self.new ≡ record self.old { link = self.new.link } }
     {

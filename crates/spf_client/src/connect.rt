@@ -9,8 +9,9 @@ use spf_api::WorkloadApiError;
 use spf_link::{Connector, Link, NoInterceptor};
 
 impl<L: Link> WorkloadApiClient<L, NoInterceptor> {
-    /// A client over the link that the connector makes, without an endpoint. A refusal of the connector is read as its status,
-    /// or as an error of the transport with the text of what is unreachable.
+    /// A client over the link that the connector makes, without an endpoint. A refusal of the
+    /// connector is read as its status, or as an error of the transport with the text of what is
+    /// unreachable.
     pub fn connect_over<C: Connector<Link = L>>(
         connector: &mut C,
     ) -> Result<WorkloadApiClient<L, NoInterceptor>, WorkloadApiError>

@@ -1,8 +1,10 @@
-//! A client of the Workload API over a link of any kind: fetches and streams of X.509 identities and bundles.
+//! A client of the Workload API over a link of any kind: fetches and streams of X.509 identities
+//! and bundles.
 #![tactic(auto)]
 
 mod client;
 mod connect;
+pub mod laws;
 mod reading;
 mod stream;
 mod x509;

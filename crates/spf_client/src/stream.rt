@@ -1,5 +1,6 @@
-//! Streams of X.509 identities and bundles, each over the link of a client (SPIFFE Workload API section 5). A stream ends
-//! where the link says so, or refuses. An item that breaks a rule is an error, and so is want of memory: the stream goes on.
+//! Streams of X.509 identities and bundles, each over the link of a client (SPIFFE Workload API
+//! section 5). A stream ends where the link says so, or refuses. An item that breaks a rule is an
+//! error, and so is running out of memory: the stream goes on.
 
 ghost use Rattle.std.specs.Prelude.{◌≡◌, [], IfErr, IfOk, IfSome, Some};
 ghost use Rattle.std.specs.Borrow.{sem};
@@ -21,7 +22,8 @@ fn next_response<L: Link>(
     ended: &mut bool,
 ) -> Option<Result<Response, WorkloadApiError>>
     ensures brings { Brings L.Link ended.old link.old result link.new ended.new }
-    ensures kind { IfSome result (λ r. IfOk r (λ response. L.kind link.old ≡ Some (kind_of response))) }
+    ensures kind { IfSome result (λ r. IfOk r
+        (λ response. L.kind link.old ≡ Some (kind_of response))) }
     ensures same_kind { L.kind link.new ≡ L.kind link.old }
 {
     if *ended {
@@ -52,8 +54,10 @@ pub struct X509ContextStream<'a, L: Link, I = NoInterceptor> {
 impl<'a, L: Link, I> X509ContextStream<'a, L, I> {
     /// The next context: none at the end of the stream, and after it.
     pub fn next_item(&mut self, alloc: Global) -> Option<Result<X509Context, WorkloadApiError>>
-        ensures streams { Streams L.Link Response.Context parsed_of (λ c. c) self.old.ended self.old.client.now.link result self.new.client.now.link self.new.ended }
-        ensures kept { self.new.client.now ≡ record self.old.client.now { link = self.new.client.now.link } }
+        ensures streams { Streams L.Link Response.Context parsed_of (λ c. c) self.old.ended
+            self.old.client.now.link result self.new.client.now.link self.new.ended }
+        ensures kept { self.new.client.now ≡ record self.old.client.now
+            { link = self.new.client.now.link } }
         ensures same_client { self.new.client.ghost_name ≡ self.old.client.ghost_name }
     {
         match next_response(&mut self.client.link, &mut self.ended)? {
@@ -75,8 +79,10 @@ pub struct X509SvidStream<'a, L: Link, I = NoInterceptor> {
 impl<'a, L: Link, I> X509SvidStream<'a, L, I> {
     /// The next SVID: none at the end of the stream, and after it.
     pub fn next_item(&mut self, alloc: Global) -> Option<Result<X509Svid, WorkloadApiError>>
-        ensures streams { Streams L.Link Response.Context first_svid_of (λ s. s) self.old.ended self.old.client.now.link result self.new.client.now.link self.new.ended }
-        ensures kept { self.new.client.now ≡ record self.old.client.now { link = self.new.client.now.link } }
+        ensures streams { Streams L.Link Response.Context first_svid_of (λ s. s) self.old.ended
+            self.old.client.now.link result self.new.client.now.link self.new.ended }
+        ensures kept { self.new.client.now ≡ record self.old.client.now
+            { link = self.new.client.now.link } }
         ensures same_client { self.new.client.ghost_name ≡ self.old.client.ghost_name }
     {
         match next_response(&mut self.client.link, &mut self.ended)? {
@@ -98,8 +104,10 @@ pub struct X509BundleStream<'a, L: Link, I = NoInterceptor> {
 impl<'a, L: Link, I> X509BundleStream<'a, L, I> {
     /// The next bundle set: none at the end of the stream, and after it.
     pub fn next_item(&mut self, alloc: Global) -> Option<Result<X509BundleSet, WorkloadApiError>>
-        ensures streams { Streams L.Link Response.Bundles bundle_set_of (λ b. b) self.old.ended self.old.client.now.link result self.new.client.now.link self.new.ended }
-        ensures kept { self.new.client.now ≡ record self.old.client.now { link = self.new.client.now.link } }
+        ensures streams { Streams L.Link Response.Bundles bundle_set_of (λ b. b) self.old.ended
+            self.old.client.now.link result self.new.client.now.link self.new.ended }
+        ensures kept { self.new.client.now ≡ record self.old.client.now
+            { link = self.new.client.now.link } }
         ensures same_client { self.new.client.ghost_name ≡ self.old.client.ghost_name }
     {
         match next_response(&mut self.client.link, &mut self.ended)? {
@@ -120,10 +128,16 @@ impl<L: Link, I: Interceptor> WorkloadApiClient<L, I> {
         alloc: Global,
     ) -> Result<X509ContextStream<'_, L, I>, WorkloadApiError>
         requires { I.can_intercept self.old.metadata.extra }
-        ensures* lends { sem 𝓛 (LendsClient L.row I.row L.Link (I.intercepts self.old.metadata.extra []) Request.X509Svid self.entry (λ s. s.client.ghost_name) result) }
+        ensures* lends { sem 𝓛 (LendsClient L.row I.row L.Link
+            (I.intercepts self.old.metadata.extra []) Request.X509Svid self.entry
+            (λ s. s.client.ghost_name) result) }
         ensures same_client { IfOk result (λ s. s.client.ghost_name ≡ self.entry.ghost_name) }
-        ensures opens { IfOk result (λ s. OpensStream L.Link (I.intercepts self.old.metadata.extra []) Request.X509Svid self.old s.client.now s.ended) }
-        ensures refused { IfErr result (λ e. (end : L) × Begins L.Link (I.intercepts self.old.metadata.extra []) Request.X509Svid self.old.link (Err e) end) }
+        ensures opens { IfOk result (λ s. OpensStream L.Link
+            (I.intercepts self.old.metadata.extra []) Request.X509Svid self.old s.client.now
+            s.ended) }
+        ensures refused { IfErr result (λ e. (end : L)
+            × Begins L.Link (I.intercepts self.old.metadata.extra []) Request.X509Svid self.old.link
+            (Err e) end) }
     {
         self.begin(alloc, &Request::X509Svid)?;
         Ok(X509ContextStream {
@@ -132,16 +146,23 @@ impl<L: Link, I: Interceptor> WorkloadApiClient<L, I> {
         })
     }
 
-    /// Begins a stream of X.509-SVIDs, the first of each update, which is over the client until it is let go.
+    /// Begins a stream of X.509-SVIDs, the first of each update, which is over the client until it
+    /// is let go.
     pub fn stream_x509_svids(
         &mut self,
         alloc: Global,
     ) -> Result<X509SvidStream<'_, L, I>, WorkloadApiError>
         requires { I.can_intercept self.old.metadata.extra }
-        ensures* lends { sem 𝓛 (LendsClient L.row I.row L.Link (I.intercepts self.old.metadata.extra []) Request.X509Svid self.entry (λ s. s.client.ghost_name) result) }
+        ensures* lends { sem 𝓛 (LendsClient L.row I.row L.Link
+            (I.intercepts self.old.metadata.extra []) Request.X509Svid self.entry
+            (λ s. s.client.ghost_name) result) }
         ensures same_client { IfOk result (λ s. s.client.ghost_name ≡ self.entry.ghost_name) }
-        ensures opens { IfOk result (λ s. OpensStream L.Link (I.intercepts self.old.metadata.extra []) Request.X509Svid self.old s.client.now s.ended) }
-        ensures refused { IfErr result (λ e. (end : L) × Begins L.Link (I.intercepts self.old.metadata.extra []) Request.X509Svid self.old.link (Err e) end) }
+        ensures opens { IfOk result (λ s. OpensStream L.Link
+            (I.intercepts self.old.metadata.extra []) Request.X509Svid self.old s.client.now
+            s.ended) }
+        ensures refused { IfErr result (λ e. (end : L)
+            × Begins L.Link (I.intercepts self.old.metadata.extra []) Request.X509Svid self.old.link
+            (Err e) end) }
     {
         self.begin(alloc, &Request::X509Svid)?;
         Ok(X509SvidStream {
@@ -156,10 +177,16 @@ impl<L: Link, I: Interceptor> WorkloadApiClient<L, I> {
         alloc: Global,
     ) -> Result<X509BundleStream<'_, L, I>, WorkloadApiError>
         requires { I.can_intercept self.old.metadata.extra }
-        ensures* lends { sem 𝓛 (LendsClient L.row I.row L.Link (I.intercepts self.old.metadata.extra []) Request.X509Bundles self.entry (λ s. s.client.ghost_name) result) }
+        ensures* lends { sem 𝓛 (LendsClient L.row I.row L.Link
+            (I.intercepts self.old.metadata.extra []) Request.X509Bundles self.entry
+            (λ s. s.client.ghost_name) result) }
         ensures same_client { IfOk result (λ s. s.client.ghost_name ≡ self.entry.ghost_name) }
-        ensures opens { IfOk result (λ s. OpensStream L.Link (I.intercepts self.old.metadata.extra []) Request.X509Bundles self.old s.client.now s.ended) }
-        ensures refused { IfErr result (λ e. (end : L) × Begins L.Link (I.intercepts self.old.metadata.extra []) Request.X509Bundles self.old.link (Err e) end) }
+        ensures opens { IfOk result (λ s. OpensStream L.Link
+            (I.intercepts self.old.metadata.extra []) Request.X509Bundles self.old s.client.now
+            s.ended) }
+        ensures refused { IfErr result (λ e. (end : L)
+            × Begins L.Link (I.intercepts self.old.metadata.extra []) Request.X509Bundles
+            self.old.link (Err e) end) }
     {
         self.begin(alloc, &Request::X509Bundles)?;
         Ok(X509BundleStream {

@@ -17,7 +17,8 @@ use std::alloc::Global;
 impl<L: Link, I: Interceptor> WorkloadApiClient<L, I> {
     fn first_context(&mut self, alloc: Global) -> Result<ContextResponse, WorkloadApiError>
         requires { I.can_intercept self.old.metadata.extra }
-        ensures asks { Asks L.Link (I.intercepts self.old.metadata.extra []) Request.X509Svid self.old.link (wrapped Response.Context result) self.new.link }
+        ensures asks { Asks L.Link (I.intercepts self.old.metadata.extra []) Request.X509Svid
+            self.old.link (wrapped Response.Context result) self.new.link }
         ensures kept { self.new ≡ record self.old { link = self.new.link } }
     {
         match self.ask(alloc, &Request::X509Svid)? {
@@ -28,7 +29,8 @@ impl<L: Link, I: Interceptor> WorkloadApiClient<L, I> {
 
     fn first_bundles(&mut self, alloc: Global) -> Result<BundlesResponse, WorkloadApiError>
         requires { I.can_intercept self.old.metadata.extra }
-        ensures asks { Asks L.Link (I.intercepts self.old.metadata.extra []) Request.X509Bundles self.old.link (wrapped Response.Bundles result) self.new.link }
+        ensures asks { Asks L.Link (I.intercepts self.old.metadata.extra []) Request.X509Bundles
+            self.old.link (wrapped Response.Bundles result) self.new.link }
         ensures kept { self.new ≡ record self.old { link = self.new.link } }
     {
         match self.ask(alloc, &Request::X509Bundles)? {
@@ -40,7 +42,8 @@ impl<L: Link, I: Interceptor> WorkloadApiClient<L, I> {
     /// Fetches the first X.509-SVID of the workload.
     pub fn fetch_x509_svid(&mut self, alloc: Global) -> Result<X509Svid, WorkloadApiError>
         requires { I.can_intercept self.old.metadata.extra }
-        ensures fetches { Fetches L.Link (I.intercepts self.old.metadata.extra []) Request.X509Svid Response.Context first_svid_of (λ s. s) self.old.link result self.new.link }
+        ensures fetches { Fetches L.Link (I.intercepts self.old.metadata.extra []) Request.X509Svid
+            Response.Context first_svid_of (λ s. s) self.old.link result self.new.link }
         ensures kept { self.new ≡ record self.old { link = self.new.link } }
     {
         let response = self.first_context(alloc)?;
@@ -50,7 +53,8 @@ impl<L: Link, I: Interceptor> WorkloadApiClient<L, I> {
     /// Fetches the X.509-SVIDs of the workload, in order.
     pub fn fetch_all_x509_svids(&mut self, alloc: Global) -> Result<Vec<X509Svid>, WorkloadApiError>
         requires { I.can_intercept self.old.metadata.extra }
-        ensures fetches { Fetches L.Link (I.intercepts self.old.metadata.extra []) Request.X509Svid Response.Context svids_of (λ v. v.items) self.old.link result self.new.link }
+        ensures fetches { Fetches L.Link (I.intercepts self.old.metadata.extra []) Request.X509Svid
+            Response.Context svids_of (λ v. v.items) self.old.link result self.new.link }
         ensures kept { self.new ≡ record self.old { link = self.new.link } }
     {
         let response = self.first_context(alloc)?;
@@ -60,7 +64,8 @@ impl<L: Link, I: Interceptor> WorkloadApiClient<L, I> {
     /// Fetches the X.509-SVIDs of the workload with all bundles and CRLs.
     pub fn fetch_x509_context(&mut self, alloc: Global) -> Result<X509Context, WorkloadApiError>
         requires { I.can_intercept self.old.metadata.extra }
-        ensures fetches { Fetches L.Link (I.intercepts self.old.metadata.extra []) Request.X509Svid Response.Context parsed_of (λ c. c) self.old.link result self.new.link }
+        ensures fetches { Fetches L.Link (I.intercepts self.old.metadata.extra []) Request.X509Svid
+            Response.Context parsed_of (λ c. c) self.old.link result self.new.link }
         ensures kept { self.new ≡ record self.old { link = self.new.link } }
     {
         let response = self.first_context(alloc)?;
@@ -70,7 +75,9 @@ impl<L: Link, I: Interceptor> WorkloadApiClient<L, I> {
     /// Fetches the X.509 bundles of the workload's trust domain and of federated ones.
     pub fn fetch_x509_bundles(&mut self, alloc: Global) -> Result<X509BundleSet, WorkloadApiError>
         requires { I.can_intercept self.old.metadata.extra }
-        ensures fetches { Fetches L.Link (I.intercepts self.old.metadata.extra []) Request.X509Bundles Response.Bundles bundle_set_of (λ b. b) self.old.link result self.new.link }
+        ensures fetches { Fetches L.Link (I.intercepts self.old.metadata.extra [])
+            Request.X509Bundles Response.Bundles bundle_set_of (λ b. b) self.old.link result
+            self.new.link }
         ensures kept { self.new ≡ record self.old { link = self.new.link } }
     {
         let response = self.first_bundles(alloc)?;

@@ -13,7 +13,8 @@ use Rattle.spf_link.specs.declared.link.Link as links
 use Rattle.spf_link.specs.declared.request.Start.{Start}
 
 -- one `start` was called with these headers and this request
-pub record Starts {S : Type 0} (link : links.Ghosts S) (old : S) (start : Start) (result : Result (Unit {0}) LinkFault) (new : S) : Type 0 where
+pub record Starts {S : Type 0} (link : links.Ghosts S) (old : S) (start : Start)
+    (result : Result (Unit {0}) LinkFault) (new : S) : Type 0 where
   pub gives : link.start_gives old start.headers start.request result new
   pub cause : HasLinkCause (link.refusals old) (link.refusals new) result
   pub starts : StartAppends (link.starts old) (link.starts new) result start
@@ -21,7 +22,8 @@ pub record Starts {S : Type 0} (link : links.Ghosts S) (old : S) (start : Start)
   pub answers : Takes (link.answers old) (link.answers new) started_by result
 
 -- one `next` was called
-pub record Nexts {S : Type 0} (link : links.Ghosts S) (old : S) (result : Result (Option Response) LinkFault) (new : S) : Type 0 where
+pub record Nexts {S : Type 0} (link : links.Ghosts S) (old : S)
+    (result : Result (Option Response) LinkFault) (new : S) : Type 0 where
   pub gives : link.next_gives old result new
   pub cause : HasLinkCause (link.refusals old) (link.refusals new) result
   pub starts : link.starts new ≡ link.starts old
@@ -30,7 +32,9 @@ pub record Nexts {S : Type 0} (link : links.Ghosts S) (old : S) (result : Result
   pub answers : Takes (link.answers old) (link.answers new) (next_by (link.kind old)) result
 
 -- one `connect` was called, where `answers` says the answers to come of a link
-pub record Connected {S L : Type 0} (connector : connectors.Ghosts S L) (answers : L → Option (List Answer)) (old : S) (result : Result L ClientFault) (new : S) : Type 0 where
+pub record Connected {S L : Type 0} (connector : connectors.Ghosts S L)
+    (answers : L → Option (List Answer)) (old : S) (result : Result L ClientFault) (new : S) :
+    Type 0 where
   pub gives : connector.connect_gives old result new
   pub cause : HasClientCause (connector.refusals old) (connector.refusals new) result
   pub validates : connector.validates new ≡ connector.validates old

@@ -13,7 +13,8 @@ IsClientRefusal (Err fault.OutOfMemory) = ⊥
 IsClientRefusal (Err f) = Unit {0}
 
 -- the count of refusals never falls, and a refusal comes only where it rose
-pub record HasClientCause {T : Type 0} (before now : ℕ) (result : Result T ClientFault) : Type 0 where
+pub record HasClientCause {T : Type 0} (before now : ℕ) (result : Result T ClientFault) :
+    Type 0 where
   pub later : before ≤ now
   pub refused : IsClientRefusal result → Rose before now
 
@@ -26,9 +27,14 @@ abbrev pub connected_by : List Member → Member
 connected_by (m ∷ members) = m
 connected_by [] = Err (fault.Status unavailable)
 
--- the link has the answers of the next member, which is taken, or its fault is returned, unless memory ran out
-abbrev pub Connects : {L : Type 0} → (L → Option (List Answer)) → Option (List Member) → Option (List Member) → Result L ClientFault → Type 0
+-- the link has the answers of the next member, which is taken, or its fault is returned, unless
+-- memory ran out
+abbrev pub Connects : {L : Type 0} → (L → Option (List Answer)) → Option (List Member)
+    → Option (List Member) → Result L ClientFault → Type 0
 Connects answers None new result = Unit {0}
-Connects answers (Some members) new (Err fault.OutOfMemory) = (new ≡ Some members) ⊎ (new ≡ Some (rest_of members))
-Connects answers (Some members) new (Err f) = (new ≡ Some (rest_of members)) × (connected_by members ≡ Err f)
-Connects answers (Some members) new (Ok link) = (new ≡ Some (rest_of members)) × ((coming : List Answer) × (answers link ≡ Some coming) × (connected_by members ≡ Ok coming))
+Connects answers (Some members) new (Err fault.OutOfMemory) = (new ≡ Some members)
+    ⊎ (new ≡ Some (rest_of members))
+Connects answers (Some members) new (Err f) = (new ≡ Some (rest_of members))
+    × (connected_by members ≡ Err f)
+Connects answers (Some members) new (Ok link) = (new ≡ Some (rest_of members))
+    × ((coming : List Answer) × (answers link ≡ Some coming) × (connected_by members ≡ Ok coming))

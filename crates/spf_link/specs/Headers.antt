@@ -15,7 +15,9 @@ abbrev pub without : List ℕ → List Header → List Header
 without name [] = []
 without name (h ∷ headers) = if bytes_eq h.0 name then headers else h ∷ without name headers
 
--- the headers with this value under the name, in place of the one that was there, or else at the end
+-- the headers with this value under the name, in place of the one that was there, or else at the
+-- end
 abbrev pub with_header : List ℕ → List ℕ → List Header → List Header
 with_header name value [] = (name, value) ∷ []
-with_header name value (h ∷ headers) = if bytes_eq h.0 name then (h.0, value) ∷ headers else h ∷ with_header name value headers
+with_header name value (h ∷ headers) = if bytes_eq h.0 name then (h.0, value) ∷ headers else h ∷
+    with_header name value headers

@@ -1,5 +1,6 @@
 -- How a link and a connector of memory answer: what they are made of, and what each call leaves.
-use Rattle.std.specs.Prelude.{◌≡◌, ℕ, ◌⊎◌, List, [], ◌∷◌, ◌++◌, map, Option, None, Some, Result, Ok, Err}
+use Rattle.std.specs.Prelude.{◌≡◌, ℕ, ◌⊎◌, List, [], ◌∷◌, ◌++◌, map, Option, None, Some, Result, Ok}
+use Rattle.std.specs.Prelude.{Err}
 use Rattle.spf_io.specs.Memory.{next_number}
 use Rattle.spf_api.specs.declared.link.ClientFault.{ClientFault}
 use Rattle.spf_api.specs.declared.link.ClientFault.TheVariants as client
@@ -14,7 +15,8 @@ use Rattle.spf_link.specs.declared.answer.Answer.{Answer}
 use Rattle.spf_link.specs.declared.request.Request.{Request}
 use Rattle.spf_link.specs.declared.request.Start.{Start}
 
--- a link: the answers to come, what each `start` was given, the kind that was started last, and how often it refused
+-- a link: the answers to come, what each `start` was given, the kind that was started last, and how
+-- often it refused
 pub record LinkState : Type 0 where
   pub answers : List Answer
   pub starts : List Start
@@ -37,17 +39,31 @@ abbrev pub kind_after : {T : Type 0} → Result T LinkFault → Request → Opti
 kind_after (Ok _) request = Some (answered_by request)
 kind_after (Err f) request = None
 
--- a `start` returns by the next answer, and keeps what it was given; where memory runs out, at most an answer is taken
+-- a `start` returns by the next answer, and keeps what it was given; where memory runs out, at most
+-- an answer is taken
 abbrev pub StartsInMemory : LinkState → Start → Result (Unit {0}) LinkFault → LinkState → Type 0
-StartsInMemory old start (Err fault.OutOfMemory) new = (new ≡ old) ⊎ ((started_by old.answers ≡ Err fault.OutOfMemory) × (new ≡ record old { answers = rest_of old.answers }))
+StartsInMemory old start (Err fault.OutOfMemory) new = (new ≡ old)
+    ⊎ ((started_by old.answers ≡ Err fault.OutOfMemory)
+    × (new ≡ record old { answers = rest_of old.answers }))
 StartsInMemory old start result new =
     (result ≡ started_by old.answers)
-    × (new ≡ record { answers = rest_of old.answers; starts = old.starts ++ start ∷ []; kind = kind_after result start.request; refusals = refusals_after result old.refusals })
+    × (new ≡ record {
+      answers = rest_of old.answers;
+      starts = old.starts ++ start ∷ [];
+      kind =
+          kind_after result start.request;
+      refusals = refusals_after result old.refusals;
+    })
 
 -- a `next` returns by the next answer
 abbrev pub NextsInMemory : LinkState → Result (Option Response) LinkFault → LinkState → Type 0
 NextsInMemory old result new =
-    (result ≡ next_by old.kind old.answers) × (new ≡ record old { answers = rest_of old.answers; refusals = refusals_after result old.refusals })
+    (result ≡ next_by old.kind old.answers)
+    × (new ≡ record old {
+      answers = rest_of old.answers;
+      refusals =
+          refusals_after result old.refusals;
+    })
 
 -- the count of refusals after a call of a connector
 abbrev pub client_refusals_after : {T : Type 0} → Result T ClientFault → ℕ → ℕ
@@ -61,9 +77,15 @@ next_link [] = Err (client.Status unavailable)
 next_link (link ∷ links) = link
 
 -- a `connect` gives the next link or fault
-abbrev pub ConnectsInMemory : ConnectorState → Result LinkState ClientFault → ConnectorState → Type 0
+abbrev pub ConnectsInMemory : ConnectorState → Result LinkState ClientFault → ConnectorState
+    → Type 0
 ConnectsInMemory old result new =
-    (result ≡ next_link old.links) × (new ≡ record { links = rest_of old.links; refusals = client_refusals_after result old.refusals })
+    (result ≡ next_link old.links) ×
+    (new ≡ record {
+      links = rest_of old.links;
+      refusals =
+          client_refusals_after result old.refusals;
+    })
 
 -- what a `connect` gives: the answers of its link, or its fault
 abbrev pub member_of : Result LinkState ClientFault → Member

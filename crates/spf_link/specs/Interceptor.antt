@@ -13,13 +13,17 @@ pub record Intercepted : Type 0 where
   pub headers : List Header
 
 -- the call says so and leaves these headers, unless memory ran out
-abbrev pub IsIntercepted : {T : Type 0} → Intercepted → List Header → Result T InterceptorFault → Type 0
+abbrev pub IsIntercepted : {T : Type 0} → Intercepted → List Header → Result T InterceptorFault
+    → Type 0
 IsIntercepted i left (Ok done) = (i.refusal ≡ None) × (left ≡ i.headers)
 IsIntercepted i left (Err (failures.Status s)) = (i.refusal ≡ Some s) × (left ≡ i.headers)
 IsIntercepted i left (Err failures.OutOfMemory) = Unit {0}
 
 -- the closure returns and leaves what the function gives, unless memory ran out
-abbrev pub InterceptsBy : {F : Type 0} → Shared F (MutBor (List Header) × Unit {0}) (Result (Unit {0}) InterceptorFault × (MutBor (List Header) × Unit {0})) → F → (List Header → Intercepted) → Type 0
+abbrev pub InterceptsBy : {F : Type 0} → Shared F (MutBor (List Header) × Unit {0})
+    (Result (Unit {0}) InterceptorFault × (MutBor (List Header) × Unit {0})) → F
+    → (List Header → Intercepted) → Type 0
 InterceptsBy g f function =
     (before after : MutBor (List Header)) (result : Result (Unit {0}) InterceptorFault)
-    → FnReturns g f (before, tt) (result, (after, tt)) → IsIntercepted (function before.now) after.now result
+    → FnReturns g f (before, tt) (result, (after, tt))
+    → IsIntercepted (function before.now) after.now result

@@ -1,5 +1,6 @@
 -- What a link answers, and what its count of refusals says.
-use Rattle.std.specs.Prelude.{◌≡◌, ℕ, ◌≤◌, ◌⊎◌, Bool, true, false, List, [], ◌∷◌, ◌++◌, Option, None, Some, Result, Ok, Err, if◌then◌else◌}
+use Rattle.std.specs.Prelude.{◌≡◌, ℕ, ◌≤◌, ◌⊎◌, Bool, true, false, List, [], ◌∷◌, ◌++◌, Option}
+use Rattle.std.specs.Prelude.{None, Some, Result, Ok, Err, if◌then◌else◌}
 use Rattle.spf_io.specs.Outside.{Rose}
 use Rattle.spf_api.specs.Payload.{kind_of}
 use Rattle.spf_api.specs.Refused.{Refused}
@@ -25,7 +26,8 @@ pub record HasLinkCause {T : Type 0} (before now : ℕ) (result : Result T LinkF
   pub refused : IsRefusal result → Rose before now
 
 -- what a `start` was given is appended, unless memory ran out
-abbrev pub StartAppends : {T : Type 0} → Option (List Start) → Option (List Start) → Result T LinkFault → Start → Type 0
+abbrev pub StartAppends : {T : Type 0} → Option (List Start) → Option (List Start)
+    → Result T LinkFault → Start → Type 0
 StartAppends None new result start = Unit {0}
 StartAppends (Some old) new (Err fault.OutOfMemory) start = new ≡ Some old
 StartAppends (Some old) new result start = new ≡ Some (old ++ start ∷ [])
@@ -40,9 +42,11 @@ rest_of [] = []
 rest_of (x ∷ xs) = xs
 
 -- the next answer is taken, and the call returns by it, unless memory ran out
-abbrev pub Takes : {T : Type 0} → Option (List Answer) → Option (List Answer) → (List Answer → Result T LinkFault) → Result T LinkFault → Type 0
+abbrev pub Takes : {T : Type 0} → Option (List Answer) → Option (List Answer)
+    → (List Answer → Result T LinkFault) → Result T LinkFault → Type 0
 Takes None new by result = Unit {0}
-Takes (Some answers) new by (Err fault.OutOfMemory) = (new ≡ Some answers) ⊎ (new ≡ Some (rest_of answers))
+Takes (Some answers) new by (Err fault.OutOfMemory) = (new ≡ Some answers)
+    ⊎ (new ≡ Some (rest_of answers))
 Takes (Some answers) new by result = (new ≡ Some (rest_of answers)) × (result ≡ by answers)
 
 -- what a `start` returns by the answers to come: an answer that does not fit refuses like none
@@ -64,5 +68,6 @@ is_kind _ _ = false
 abbrev pub next_by : Option ResponseKind → List Answer → Result (Option Response) LinkFault
 next_by asked (answer.End ∷ answers) = Ok None
 next_by asked (answer.Refused f ∷ answers) = Err f
-next_by asked (answer.Item r ∷ answers) = if is_kind asked (kind_of r) then Ok (Some r) else Err (fault.Status unavailable)
+next_by asked (answer.Item r ∷ answers) = if is_kind asked (kind_of r) then Ok (Some r) else Err
+    (fault.Status unavailable)
 next_by asked _ = Err (fault.Status unavailable)

@@ -38,7 +38,8 @@ pub trait Connector {
         ensures validates { validates self.new ≡ validates self.old }
         ensures members { Connects Self.Link.answers (members self.old) (members self.new) result };
 
-    /// From here on a wait of the connector, and of the links that it makes, ends soon once the mark is set, where it can.
+    /// From here on a wait of the connector, and of the links that it makes, ends soon once the
+    /// mark is set, where it can.
     fn heed(&mut self, stop: StopFlag)
         ensures validates { validates self.new ≡ validates self.old }
         ensures refusals { refusals self.new ≡ refusals self.old }

@@ -36,7 +36,8 @@ pub trait Link {
     fn start(&mut self, headers: &Headers, request: &Request) -> Result<(), LinkFault>
         ensures gives { start_gives self.old headers.now request.now result self.new }
         ensures cause { HasLinkCause (refusals self.old) (refusals self.new) result }
-        ensures starts { StartAppends (starts self.old) (starts self.new) result (record { headers = headers.now; request = request.now }) }
+        ensures starts { StartAppends (starts self.old) (starts self.new) result
+            (record { headers = headers.now; request = request.now }) }
         ensures kind { IfOk result (λ _. kind self.new ≡ Some (answered_by request.now)) }
         ensures answers { Takes (answers self.old) (answers self.new) started_by result };
 
@@ -47,7 +48,8 @@ pub trait Link {
         ensures starts { starts self.new ≡ starts self.old }
         ensures kind { IfOk result (λ o. IfSome o (λ r. kind self.old ≡ Some (kind_of r))) }
         ensures same_kind { kind self.new ≡ kind self.old }
-        ensures answers { Takes (answers self.old) (answers self.new) (next_by (kind self.old)) result };
+        ensures answers { Takes (answers self.old) (answers self.new) (next_by (kind self.old))
+            result };
 
     /// From here on a wait of the link ends soon once the mark is set, where it can.
     fn heed(&mut self, stop: StopFlag)

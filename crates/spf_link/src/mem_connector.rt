@@ -10,7 +10,8 @@ use std::alloc::Global;
 use std::collections::VecDeque;
 use std::marker::Model;
 
-/// A connector that gives these links and faults in turn, and then refuses with UNAVAILABLE and an empty message.
+/// A connector that gives these links and faults in turn, and then refuses with UNAVAILABLE and an
+/// empty message.
 #[derive(Drop)]
 pub struct MemConnector {
     alloc: Global,

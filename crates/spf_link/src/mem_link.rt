@@ -4,7 +4,8 @@ ghost use Rattle.std.specs.Prelude.{◌≡◌, List, [], None, Option, Some, Res
 ghost use Rattle.std.specs.Option.{option_to_list};
 ghost use Rattle.spf_api.specs.Payload.{kind_of};
 ghost use Rattle.spf_link.specs.InMemory.{NextsInMemory, StartsInMemory, refusals_after};
-ghost use Rattle.spf_link.specs.Links.{HasLinkCause, StartAppends, Takes, is_kind, next_by, started_by as start_by, unavailable as unavailable_status};
+ghost use Rattle.spf_link.specs.Links.{HasLinkCause, StartAppends, Takes, is_kind, next_by};
+ghost use Rattle.spf_link.specs.Links.{started_by as start_by, unavailable as unavailable_status};
 ghost use Rattle.spf_link.specs.Request.{answered_by};
 
 use crate::answer::Answer;
@@ -17,8 +18,9 @@ use std::alloc::Global;
 use std::collections::VecDeque;
 use std::marker::Model;
 
-/// A link that gives these answers in turn, and keeps what each `start` was given. An answer that does not fit the call is
-/// taken, and the call is refused as after the last answer: with UNAVAILABLE and an empty message.
+/// A link that gives these answers in turn, and keeps what each `start` was given. An answer that
+/// does not fit the call is taken, and the call is refused as after the last answer: with
+/// UNAVAILABLE and an empty message.
 #[derive(Drop)]
 pub struct MemLink {
     alloc: Global,
@@ -38,7 +40,12 @@ impl Model for MemLink {
 
     ghost coded = { Prim.hlevel (codes, claim.the_row.coded) };
 
-    ghost view = { λ l. record { answers = l.answers.items; starts = l.starts.items; kind = l.kind; refusals = l.refusals } };
+    ghost view = { λ l. record {
+      answers = l.answers.items;
+      starts = l.starts.items;
+      kind = l.kind;
+      refusals = l.refusals;
+    } };
 }
 
 /// UNAVAILABLE with an empty message.
@@ -112,7 +119,13 @@ fn counted<T>(refusals: u64, answer: &Result<T, LinkFault>) -> u64
 
 impl MemLink {
     pub fn new(alloc: Global, answers: Vec<Answer>) -> MemLink
-        ensures { result ≡ record { answers = answers.items; starts = []; kind = None; refusals = 0 } }
+        ensures { result ≡ record {
+          answers = answers.items;
+          starts = [];
+          kind = None;
+          refusals =
+              0;
+        } }
     {
         MemLink {
             alloc,
@@ -140,7 +153,8 @@ impl Link for MemLink {
 
     ghost answers = { λ l. Some l.answers };
 
-    ghost start_gives = { λ old headers request result new. StartsInMemory old (record { headers = headers; request = request }) result new };
+    ghost start_gives = { λ old headers request result new. StartsInMemory old
+        (record { headers = headers; request = request }) result new };
 
     ghost next_gives = { NextsInMemory };
 

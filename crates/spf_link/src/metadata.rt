@@ -23,8 +23,8 @@ impl<I: Interceptor> MetadataAdder<I> {
         MetadataAdder { extra }
     }
 
-    /// Calls the interceptor, and then sets the header to `true`. After a refusal the headers are as the interceptor left
-    /// them.
+    /// Calls the interceptor, and then sets the header to `true`. After a refusal the headers are
+    /// as the interceptor left them.
     pub fn call(&self, headers: &mut Headers) -> Result<(), WorkloadApiError>
         requires { I.can_intercept self.now.extra }
         ensures { IsAdded (I.intercepts self.now.extra headers.old) headers.new result }

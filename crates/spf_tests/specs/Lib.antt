@@ -1,1 +1,1 @@
-pub mod Client
+pub mod Interceptors

@@ -18,6 +18,10 @@ mod id;
 #[cfg(test)]
 mod io;
 #[cfg(test)]
+mod link;
+#[cfg(test)]
+mod link_doubles;
+#[cfg(test)]
 mod pace;
 #[cfg(test)]
 mod proto;
