@@ -26,6 +26,8 @@ mod system;
 #[cfg(test)]
 mod uses;
 #[cfg(test)]
+mod wire;
+#[cfg(test)]
 mod x509;
 #[cfg(test)]
 mod x509_texts;
