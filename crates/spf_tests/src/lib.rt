@@ -32,6 +32,8 @@ mod system;
 #[cfg(test)]
 mod uses;
 #[cfg(test)]
+mod wire;
+#[cfg(test)]
 mod x509;
 #[cfg(test)]
 mod x509_texts;

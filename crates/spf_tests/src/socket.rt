@@ -8,13 +8,12 @@ use spf_link::{Connector, Headers, Link, Request};
 use spf_system::{EnvValue, MemEnvironment, StopFlag};
 use spf_wire::{EndpointConnector, EnvConnector, SocketLink};
 use std::alloc::Global;
-use std::fs;
 use std::io::{self, Read, Write};
 use std::net::TcpListener;
 use std::os::unix::net::UnixListener;
 use std::test::Fail;
-use std::thread;
 use std::time::{Duration, Instant};
+use std::{fs, thread};
 
 /// How many seconds a wait that is ended may take, with room for a machine that is busy.
 const SOON: u64 = 5;
@@ -190,7 +189,12 @@ fn wait_ends_by_its_limit(rt: HostRuntime) -> Result<(), Fail> {
 fn nobody_is_reached(rt: HostRuntime) -> Result<(), Fail> {
     let alloc = rt.alloc();
     let long = String::from_utf8(vec![in alloc; b'x'; 200]?)?;
-    for path in ["/tmp/spf_tests-nobody.sock", "/etc/hostname", "", long.as_str()] {
+    for path in [
+        "/tmp/spf_tests-nobody.sock",
+        "/etc/hostname",
+        "",
+        long.as_str(),
+    ] {
         let endpoint = Endpoint::Unix(Text::copy_of(alloc, path)?);
         let connected = EndpointConnector::to(&rt, alloc, endpoint).connect();
         assert!(rt; is_unreachable(&connected, path), "{path}");
