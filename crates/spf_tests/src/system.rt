@@ -3,6 +3,7 @@
 use spf_api::{EndpointError, EndpointParseError, WorkloadApiError};
 use spf_endpoint::{Endpoint, from_env};
 use spf_io::Text;
+use spf_link::Headers;
 use spf_system::{
     Clock, EnvValue, Environment, MemClock, MemEnvironment, MemPause, Pause, StdClock,
     StdEnvironment, StdPause, StopFlag,
@@ -72,6 +73,23 @@ fn environment(rt: HostRuntime) -> Result<(), Fail> {
         own.var(rt.alloc(), "SPF_TESTS_HAS_NO_SUCH_VARIABLE")?,
         EnvValue::Missing
     );
+    Ok(())
+}
+
+#[test]
+fn pause_header_env(rt: HostRuntime) -> Result<(), Fail> {
+    let alloc = rt.alloc();
+    let mut pause = MemPause::new(alloc, 2)?;
+    for millis in [1, 2, 3] {
+        pause.pause(Duration::from_millis(millis));
+    }
+    assert!(rt; pause.delays() == [Duration::from_millis(1), Duration::from_millis(2)].as_slice());
+    let mut headers = Headers::new(alloc);
+    headers.set("name", "value")?;
+    assert!(rt; headers.get("name") == Some("value"));
+    let found = EnvValue::Found(Text::copy_of(alloc, "unix:///foo")?);
+    let environment = MemEnvironment::new(found.try_clone(alloc)?);
+    assert!(rt; environment.var(alloc, "SPIFFE_ENDPOINT_SOCKET")? == found);
     Ok(())
 }
 
