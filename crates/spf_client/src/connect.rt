@@ -1,12 +1,18 @@
 //! Clients over the links of a connector.
 
 ghost use Rattle.std.specs.Prelude.{◌≡◌};
-ghost use Rattle.spf_client.specs.Connecting.{ConnectsOver};
+ghost use Rattle.spf_client.specs.Connecting.{ConnectsOver, ConnectsKeeping};
+ghost use Rattle.spf_client.specs.Connecting.{IsConnected, ReadsAndConnects};
 
 use crate::client::WorkloadApiClient;
 use crate::reading::client_fault_error;
 use spf_api::WorkloadApiError;
+use spf_endpoint::{Endpoint, WORKLOAD_API_ENDPOINT_ENV, from_env};
 use spf_link::{Connector, Link, NoInterceptor};
+use spf_system::Environment;
+use spf_wire::{EndpointConnector, SocketLink};
+use std::alloc::Global;
+use std::net::{Net, TcpStream};
 
 impl<L: Link> WorkloadApiClient<L, NoInterceptor> {
     /// A client over the link that the connector makes, without an endpoint. A refusal of the
@@ -21,5 +27,47 @@ impl<L: Link> WorkloadApiClient<L, NoInterceptor> {
             Ok(link) => Ok(WorkloadApiClient::new_with_link(None, link, NoInterceptor)),
             Err(fault) => Err(client_fault_error(fault)),
         }
+    }
+
+    /// The same, with the endpoint kept.
+    fn connect_keeping<C: Connector<Link = L>>(
+        connector: &mut C,
+        endpoint: Endpoint,
+    ) -> Result<WorkloadApiClient<L, NoInterceptor>, WorkloadApiError>
+        ensures { ConnectsKeeping C.Connector L.answers connector.old endpoint result connector.new }
+    {
+        match connector.connect() {
+            Ok(link) => Ok(WorkloadApiClient::new_with_link(Some(endpoint), link, NoInterceptor)),
+            Err(fault) => Err(client_fault_error(fault)),
+        }
+    }
+}
+
+impl WorkloadApiClient<SocketLink, NoInterceptor> {
+    /// A client over a socket of the endpoint.
+    pub fn connect<R: Net<Stream = TcpStream> + Drop>(
+        net: R,
+        alloc: Global,
+        endpoint: Endpoint,
+    ) -> Result<WorkloadApiClient<SocketLink, NoInterceptor>, WorkloadApiError>
+        ensures { IsConnected ⟦<EndpointConnector<R> as Connector>⟧ ⟦<SocketLink as Link>⟧.answers
+            endpoint result }
+    {
+        let mut connector = EndpointConnector::to(net, alloc, endpoint.try_clone(alloc)?);
+        WorkloadApiClient::connect_keeping(&mut connector, endpoint)
+    }
+
+    /// A client over a socket of the endpoint that `SPIFFE_ENDPOINT_SOCKET` names.
+    pub fn connect_env<R: Net<Stream = TcpStream> + Drop, E: Environment>(
+        net: R,
+        alloc: Global,
+        environment: &E,
+    ) -> Result<WorkloadApiClient<SocketLink, NoInterceptor>, WorkloadApiError>
+        ensures { ReadsAndConnects ⟦<EndpointConnector<R> as Connector>⟧
+            ⟦<SocketLink as Link>⟧.answers
+            (E.value environment.now WORKLOAD_API_ENDPOINT_ENV.now) result }
+    {
+        let endpoint = from_env(alloc, environment)?;
+        WorkloadApiClient::connect(net, alloc, endpoint)
     }
 }

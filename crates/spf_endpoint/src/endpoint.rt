@@ -156,4 +156,17 @@ impl Endpoint {
     {
         Endpoint::parse(alloc, input)
     }
+
+    /// A copy of the endpoint.
+    pub fn try_clone(&self, alloc: Global) -> Result<Endpoint, OutOfMemory>
+        ensures { IfOk result (λ e. e ≡ self.now) }
+    {
+        match self {
+            Endpoint::Unix(path) => Ok(Endpoint::Unix(path.try_clone(alloc)?)),
+            Endpoint::Tcp { host, port } => Ok(Endpoint::Tcp {
+                host: *host,
+                port: *port,
+            }),
+        }
+    }
 }

@@ -20,7 +20,10 @@ static READ: [(&str, &str); 8] = [
         "00000001 00000000 00000001 bb 00000000 00000000 00000000 00000000 00000000",
     ),
     // Fields of a number that is not named, of each type.
-    ("4801 490000000000000000 4a01ff 4d00000000", "00000000 00000000 00000000"),
+    (
+        "4801 490000000000000000 4a01ff 4d00000000",
+        "00000000 00000000 00000000",
+    ),
     // A tag and a length in more octets than they need.
     (
         "8a00 8000",
@@ -31,24 +34,45 @@ static READ: [(&str, &str); 8] = [
         "1a06 0a0161 120101 1a06 0a0162 120102 1a06 0a0161 120103",
         "00000000 00000002 00000001 62 00000001 02 00000001 61 00000001 03 00000000",
     ),
-    ("12010a 12010b", "00000000 00000000 00000002 00000001 0a 00000001 0b"),
+    (
+        "12010a 12010b",
+        "00000000 00000000 00000002 00000001 0a 00000001 0b",
+    ),
     ("1a00", "00000000 00000001 00000000 00000000 00000000"),
 ];
 
 /// What is no message.
 static REFUSED: [&str; 24] = [
     // Ends inside a tag, a value, a length and a nested message.
-    "8a", "48", "49 00000000000000", "4d 000000", "0a", "0a02 0a", "0a05 1202aa", "12ff",
+    "8a",
+    "48",
+    "49 00000000000000",
+    "4d 000000",
+    "0a",
+    "0a02 0a",
+    "0a05 1202aa",
+    "12ff",
     // A length past the end, and one past what is addressed.
-    "0affffffff07", "0affffffffffffffffff01",
+    "0affffffff07",
+    "0affffffffffffffffff01",
     // The number 0; the types 3, 4, 6 and 7, of numbers that are named and of others.
-    "0200", "0b", "0c", "0e", "0f", "4b", "4c", "4f",
+    "0200",
+    "0b",
+    "0c",
+    "0e",
+    "0f",
+    "4b",
+    "4c",
+    "4f",
     // Fields that are named, of another type.
-    "0801", "0a02 0801",
+    "0801",
+    "0a02 0801",
     // A varint of eleven octets, and one above 2^64.
-    "4880808080808080808080 01", "48ffffffffffffffffff 02",
+    "4880808080808080808080 01",
+    "48ffffffffffffffffff 02",
     // Texts that are not UTF-8, also where a later one replaces it.
-    "0a04 0a02c328", "1a07 0a02c328 0a0161",
+    "0a04 0a02c328",
+    "1a07 0a02c328 0a0161",
 ];
 
 /// Whether a message is read as what the payload lays out.
