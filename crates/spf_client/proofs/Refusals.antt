@@ -31,7 +31,8 @@ err_same : {T : Type 0} (d e : WorkloadApiError) (r s : Result T WorkloadApiErro
 err_same d e r s is are same = cc
 
 -- a refusal of the link came only where its count rose
-link_refused : {T : Type 0} (f : LinkFault) (before now : ℕ) → HasLinkCause {T = T} before now (Err f)
+link_refused : {T : Type 0} (f : LinkFault) (before now : ℕ)
+    → HasLinkCause {T = T} before now (Err f)
     → is_refusal (fault_reading f) ≡ true → Rose before now
 link_refused (fault.Status s) before now cause refusal = cause.refused tt
 link_refused (fault.Connect e) before now cause refusal = cause.refused tt
@@ -50,7 +51,8 @@ module _ {S : Type 0} (link : links.Ghosts S) (made : Intercepted) (request : Re
   Caused old new e = IsOfInterceptor made.refusal e ⊎ Rose (link.refusals old) (link.refusals new)
 
   sent : (start : Start) (old new : S) (e : WorkloadApiError)
-      (answer : Result (Unit {0}) LinkFault) → Starts link old start answer new → Err e ≡ broken_as fault_reading answer → is_refusal e ≡ true
+      (answer : Result (Unit {0}) LinkFault) → Starts link old start answer new
+      → Err e ≡ broken_as fault_reading answer → is_refusal e ≡ true
       → Rose (link.refusals old) (link.refusals new)
   sent start old new e (Ok x) started read is = absurd cc
   sent start old new e (Err f) started read is = let same =

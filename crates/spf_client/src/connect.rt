@@ -34,7 +34,8 @@ impl<L: Link> WorkloadApiClient<L, NoInterceptor> {
         connector: &mut C,
         endpoint: Endpoint,
     ) -> Result<WorkloadApiClient<L, NoInterceptor>, WorkloadApiError>
-        ensures { ConnectsKeeping C.Connector L.answers connector.old endpoint result connector.new }
+        ensures { ConnectsKeeping C.Connector L.answers connector.old endpoint result
+            connector.new }
     {
         match connector.connect() {
             Ok(link) => Ok(WorkloadApiClient::new_with_link(Some(endpoint), link, NoInterceptor)),

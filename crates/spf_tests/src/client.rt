@@ -178,17 +178,20 @@ const STREAMS: &[(&[&str], &str, &str)] = &[
     (
         &["started", "broken", "first", "end", "first"],
         "contexts",
-        "failed to parse X.509 SVID: failed decoding PKCS#8 private key; 1 SVIDs, 1 bundles; none; none; ",
+        "failed to parse X.509 SVID: failed decoding PKCS#8 private key; 1 SVIDs, 1 bundles; none; \
+         none; ",
     ),
     (
         &["started", "broken", "first", "end", "first"],
         "svids",
-        "failed to parse X.509 SVID: failed decoding PKCS#8 private key; spiffe://example.org/w; none; none; ",
+        "failed to parse X.509 SVID: failed decoding PKCS#8 private key; spiffe://example.org/w; \
+         none; none; ",
     ),
     (
         &["started", "no_bundles", "bundles", "end", "bundles"],
         "bundles",
-        "Workload API response is missing required field: X509BundlesResponse.bundles; 1 bundles; none; none; ",
+        "Workload API response is missing required field: X509BundlesResponse.bundles; 1 bundles; \
+         none; none; ",
     ),
     (
         &["started", "memory", "first", "denied", "first"],

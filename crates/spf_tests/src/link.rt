@@ -40,7 +40,16 @@ impl Interceptor for Expired {
     ghost use Rattle.std.specs.Prelude.{Some, None, codes};
     ghost use Rattle.spf_api.specs.declared.status.GrpcStatusCode.TheVariants as status_code;
 
-    ghost intercepts = { λ _ headers. record { refusal = Some (record { code = status_code.Internal; message = codes "token expired"; source = None }); headers = headers } };
+    ghost intercepts = { λ _ headers.
+        record {
+          refusal = Some
+              (record {
+                code = status_code.Internal;
+                message = codes "token expired";
+                source = None;
+              });
+          headers = headers;
+        } };
 
     fn call(&self, _headers: &mut Headers) -> Result<(), InterceptorFault> {
         match Text::copy_of(self.alloc, "token expired") {

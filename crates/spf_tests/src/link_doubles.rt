@@ -62,7 +62,8 @@ pub fn link(alloc: Global, words: &[&str]) -> Result<MemLink, Fail> {
     Ok(MemLink::new(alloc, answers))
 }
 
-/// A connector that gives a link with these answers, then a denial and an endpoint that is not there.
+/// A connector that gives a link with these answers,
+/// then a denial and an endpoint that is not there.
 pub fn connector(alloc: Global, words: &[&str]) -> Result<MemConnector, Fail> {
     let mut links = Vec::new(alloc);
     links.push(Ok(link(alloc, words)?))?;

@@ -10,7 +10,8 @@ use std::test::Fail;
 static READ: [(&str, &str); 8] = [
     // The message of the item I1.
     (
-        "0a8302 0a16 7370696666653a2f2f6578616d706c652e6f72672f77 128d01 LEAF1 1a0f KEY1 2248 ROOT1",
+        "0a8302 0a16 7370696666653a2f2f6578616d706c652e6f72672f77 128d01 LEAF1 1a0f KEY1 2248 \
+         ROOT1",
         "00000001 FIRST 00000048 ROOT1 00000000 00000000 00000000",
     ),
     ("", "00000000 00000000 00000000"),

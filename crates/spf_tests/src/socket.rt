@@ -1,7 +1,8 @@
 //! Links over real sockets, to server threads of the tests.
 
 use crate::fixtures::{first_item, octets};
-use spf_api::{ClientFault, GrpcStatusCode, LinkFault, Response};
+use spf_api::{ClientFault, GrpcStatusCode, LinkFault, Response, TransportError, WorkloadApiError};
+use spf_client::WorkloadApiClient;
 use spf_endpoint::Endpoint;
 use spf_io::Text;
 use spf_link::{Connector, Headers, Link, Request};
@@ -36,7 +37,8 @@ fn wait_for_end<T: Read>(stream: &mut T) {
     }
 }
 
-/// Answers one request after another on one connection; then it is closed, or nothing is said any more.
+/// Answers one request after another on one connection;
+/// then it is closed, or nothing is said any more.
 fn serve<T: Read + Write>(stream: &mut T, answers: &[Vec<u8>], closes: bool) {
     for octets in answers {
         if answer(stream, octets.as_slice()).is_err() {
@@ -210,5 +212,46 @@ fn nobody_is_reached(rt: HostRuntime) -> Result<(), Fail> {
     let environment = MemEnvironment::new(EnvValue::Missing);
     let connected = EnvConnector::new(&rt, alloc, environment).connect();
     assert!(rt; is_unreachable(&connected, "SPIFFE_ENDPOINT_SOCKET"));
+    Ok(())
+}
+
+#[test]
+fn client_over_a_socket(rt: HostRuntime) -> Result<(), Fail> {
+    let alloc = rt.alloc();
+    let listener = TcpListener::bind(&rt, "127.0.0.1:0")?;
+    let text = endpoint_of(alloc, &listener)?;
+    let answers = vec![in alloc; octets(alloc, "CN I1")?, octets(alloc, "CN I1")?]?;
+    let server = thread::spawn(&rt, move || serve_tcp(&listener, answers.as_slice()))?;
+    let environment = MemEnvironment::new(EnvValue::Found(Text::copy_of(alloc, text.as_str())?));
+    let Ok(mut client) = WorkloadApiClient::connect_env(&rt, alloc, &environment) else {
+        return Err(Fail::from("no client"));
+    };
+    let endpoint = Endpoint::parse(alloc, text.as_str()).ok();
+    assert!(rt; client.endpoint() == endpoint.as_ref());
+    for _ in 0..2 {
+        let svid = client.fetch_x509_svid(alloc);
+        assert!(rt; svid.is_ok_and(|svid| svid.spiffe_id().as_str() == "spiffe://example.org/w"));
+    }
+    drop(client);
+    server.join(&rt);
+    Ok(())
+}
+
+#[test]
+fn client_of_nobody(rt: HostRuntime) -> Result<(), Fail> {
+    let alloc = rt.alloc();
+    let endpoint = Endpoint::Unix(Text::copy_of(alloc, "/tmp/spf_tests-nobody.sock")?);
+    let refused = WorkloadApiClient::connect(&rt, alloc, endpoint).err();
+    let is_named = match &refused {
+        Some(WorkloadApiError::Transport(TransportError::Connect(e))) => {
+            let text = format!(in alloc; "{e}")?;
+            text.as_str().contains("/tmp/spf_tests-nobody.sock")
+        }
+        _ => false,
+    };
+    assert!(rt; is_named);
+    let environment = MemEnvironment::new(EnvValue::Missing);
+    let refused = WorkloadApiClient::connect_env(&rt, alloc, &environment).err();
+    assert!(rt; refused == Some(WorkloadApiError::MissingEndpointSocket));
     Ok(())
 }

@@ -8,7 +8,8 @@ use spf_wire::WireLink;
 use std::alloc::Global;
 use std::test::Fail;
 
-/// What a link over memory reads, `s` for each `start` and `n` for each `next`, and what they return, in order.
+/// What a link over memory reads, `s` for each `start` and
+/// `n` for each `next`, and what they return, in order.
 static CALLS: [(&str, &str, &str); 27] = [
     ("CN I1 07 00000000", "snn", "started item end "),
     ("0a", "s", "internal "),
