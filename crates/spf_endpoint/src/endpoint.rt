@@ -3,9 +3,9 @@
 ghost use Rattle.std.specs.Prelude.{◌≡◌, None, IfOk, string_bytes};
 ghost use Rattle.spf_io.specs.Rule.{Gives};
 ghost use Rattle.url.specs.Parser.{parse_url};
-ghost use Rattle.spf_endpoint.specs.Endpoint.{is_memory, parsed, rewritten as rewritten_text};
-ghost use Rattle.spf_endpoint.specs.Endpoint.{check_common as common_rule, unix_rule, ipv4_in};
+ghost use Rattle.spf_endpoint.specs.Endpoint.{is_memory, parsed, unix_rule, ipv4_in};
 ghost use Rattle.spf_endpoint.specs.Endpoint.{tcp_host_in, tcp_rule, scheme_rule, endpoint_rule};
+ghost use Rattle.spf_endpoint.specs.Endpoint as spec;
 
 use spf_api::{EndpointError, EndpointParseError};
 use spf_io::{OutOfMemory, Text};
@@ -34,7 +34,7 @@ pub enum Endpoint {
 
 /// The text with the slashes of its scheme, where they are left out.
 fn rewritten(alloc: Global, text: &str) -> Result<String, OutOfMemory>
-    ensures { IfOk result (λ s. string_bytes s ≡ rewritten_text text.now) }
+    ensures { IfOk result (λ s. string_bytes s ≡ spec.rewritten text.now) }
 {
     if !text.starts_with("unix://") {
         if let Some(rest) = text.strip_prefix("unix:/") {
@@ -61,7 +61,7 @@ fn url_of(alloc: Global, text: &str) -> Result<Url, EndpointError>
 
 /// The rules of every scheme.
 fn check_common(url: &Url) -> Result<(), EndpointError>
-    ensures { result ≡ common_rule url.now }
+    ensures { result ≡ spec.check_common url.now }
 {
     if !url.username().is_empty() || url.password().is_some() {
         return Err(EndpointError::HasUserInfo);

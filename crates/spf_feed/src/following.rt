@@ -14,10 +14,10 @@ ghost use Rattle.spf_feed.specs.declared.follow_error.FollowError.TheVariants as
 ghost use Rattle.spf_frame.specs.declared.error.FrameError.TheVariants as errors;
 ghost use Rattle.spf_feed.specs.Received.{received_moment, received_close};
 ghost use Rattle.spf_feed.specs.Run.{ask_of, stream, outputs, end_for};
-ghost use Rattle.spf_feed.specs.Following.{is_failure, FailuresHaveCauses};
-ghost use Rattle.spf_feed.specs.Following.{error_at as unread_error, OnlyAllowed, EventRead};
+ghost use Rattle.spf_feed.specs.Following.{is_failure, FailuresHaveCauses, OnlyAllowed, EventRead};
 ghost use Rattle.spf_feed.specs.Following.{HandsOn, IsShownAfter, IsTaken, change_of, is_changed};
 ghost use Rattle.spf_feed.specs.Following.{update_of, TurnTaken};
+ghost use Rattle.spf_feed.specs.Following as spec;
 
 use crate::follow_error::FollowError;
 use crate::frame::next_frame;
@@ -75,7 +75,7 @@ fn next_event<S: Source>(
 /// The error that a session ends with, where no event was read after `count` of them.
 fn error_at(count: u64, e: FrameError) -> FollowError
     requires { e ≡ errors.BadFrame → count < 2 ^ 64 - 1 }
-    ensures { result ≡ unread_error count e }
+    ensures { result ≡ spec.error_at count e }
 {
     match e {
         FrameError::TooLong => FollowError::SessionTooLong,

@@ -10,9 +10,9 @@ use spf_io::Source;
 use std::alloc::Global;
 
 impl Kinds for Phase {
-    ghost use Rattle.spf_feed.specs.Frames.{allows as allowed_by};
+    ghost use Rattle.spf_feed.specs.Frames as spec;
 
-    ghost allows = { allowed_by };
+    ghost allows = { spec.allows };
 
     fn allow(&self, kind: u8) -> bool {
         may_stand(*self, kind)

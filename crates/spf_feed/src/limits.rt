@@ -2,8 +2,8 @@
 
 ghost use Rattle.std.specs.Prelude.{◌≡◌, None};
 ghost use Rattle.spf_feed.specs.Names.{limit_kind_name};
-ghost use Rattle.spf_feed.specs.Limits.{within_limit, octets_in, within_bundles as bundles_rule};
-ghost use Rattle.spf_feed.specs.Limits.{within as limits_rule, default_limits};
+ghost use Rattle.spf_feed.specs.Limits.{within_limit, octets_in, default_limits};
+ghost use Rattle.spf_feed.specs.Limits as spec;
 
 use spf_io::Bytes;
 use spf_x509::{Certificate, X509BundleSet, X509Context};
@@ -149,7 +149,7 @@ fn certificate_octets(certificates: &[Certificate]) -> usize
 
 /// The octets of each bundle, in the order of the trust domains.
 fn within_bundles(set: &X509BundleSet, limit: Option<usize>) -> Result<(), LimitBroken>
-    ensures { result ≡ bundles_rule limit set.now }
+    ensures { result ≡ spec.within_bundles limit set.now }
 {
     for (_, bundle) in set.iter() {
         let octets = certificate_octets(bundle.authorities());
@@ -162,7 +162,7 @@ fn within_bundles(set: &X509BundleSet, limit: Option<usize>) -> Result<(), Limit
 /// domains, then the octets of the revocation lists.
 #[tactic(auto, unfolding(crate::specs::Limits::within))]
 pub fn validate_limits(ctx: &X509Context, limits: ResourceLimits) -> Result<(), LimitBroken>
-    ensures { result ≡ limits_rule limits ctx.now }
+    ensures { result ≡ spec.within limits ctx.now }
 {
     let bundles = ctx.bundle_set();
     within(LimitKind::MaxSvids, limits.max_svids, ctx.svids().len())?;

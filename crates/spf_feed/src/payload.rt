@@ -3,8 +3,8 @@
 ghost use Rattle.std.specs.Prelude.{◌≡◌, IfOk};
 ghost use Rattle.std.specs.Option.{option_map};
 ghost use Rattle.spf_feed.specs.Events.{failure_at, moment_at, event_at};
-ghost use Rattle.spf_feed.specs.Events.{when_empty as event_when_empty};
 ghost use Rattle.spf_feed.specs.Items.{item_at, IsReceived};
+ghost use Rattle.spf_feed.specs.Events as spec;
 
 use crate::event::SessionEvent;
 use spf_api::{ClientFault, WorkloadApiError, context_from_view_sharing, read_context_view};
@@ -83,7 +83,7 @@ fn item_in(
 
 /// The event, where the payload is empty.
 fn when_empty(payload: &[u8], event: Received) -> Option<Received>
-    ensures { result ≡ event_when_empty payload.now event }
+    ensures { result ≡ spec.when_empty payload.now event }
 {
     if payload.is_empty() {
         Some(event)

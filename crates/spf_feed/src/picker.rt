@@ -6,9 +6,8 @@ ghost use Rattle.std.specs.Option.{option_map, ForSome};
 ghost use Rattle.std.specs.declared.sync.Arc.{Arc};
 ghost use Rattle.std.specs.declared.alloc.Global.{Global};
 ghost use Rattle.spf_x509.specs.Svid.{Svid};
-ghost use Rattle.spf_feed.specs.Pick.{pick_of, first_index, choice_of, usable as usable_of};
-ghost use Rattle.spf_feed.specs.Pick.{has_hint as is_hinted, first_with_hint as first_hinted};
-ghost use Rattle.spf_feed.specs.Pick.{AnswersBy};
+ghost use Rattle.spf_feed.specs.Pick.{pick_of, first_index, choice_of, AnswersBy};
+ghost use Rattle.spf_feed.specs.Pick as spec;
 
 use spf_io::Text;
 use spf_x509::{X509Context, X509Svid};
@@ -78,14 +77,14 @@ pub struct HintPicker {
 
 impl HintPicker {
     pub fn new(hint: Text) -> HintPicker
-        ensures { ⟦<HintPicker as SvidPicker>⟧.picks result ≡ first_hinted hint }
+        ensures { ⟦<HintPicker as SvidPicker>⟧.picks result ≡ spec.first_with_hint hint }
     {
         HintPicker { hint }
     }
 }
 
 fn has_hint(svid: &X509Svid, hint: &Text) -> bool
-    ensures { result ≡ is_hinted hint.now svid.now }
+    ensures { result ≡ spec.has_hint hint.now svid.now }
 {
     match svid.hint() {
         Some(own) => own == hint.as_str(),
@@ -95,7 +94,7 @@ fn has_hint(svid: &X509Svid, hint: &Text) -> bool
 
 fn first_with_hint(svids: &[Arc<X509Svid>], hint: &Text) -> Option<usize>
     ensures { result
-        ≡ position (λ (a : Arc Svid Global). is_hinted hint.now (arc_value a)) svids.now }
+        ≡ position (λ (a : Arc Svid Global). spec.has_hint hint.now (arc_value a)) svids.now }
 {
     svids.iter().position(|svid| has_hint(svid, hint))
 }
@@ -166,7 +165,7 @@ pub(crate) fn chosen(context: &X509Context, choice: Option<usize>) -> Option<&Ar
 /// The chosen SVID, where there is a moment and its expiry is above it.
 pub(crate) fn usable(chosen: Option<&Arc<X509Svid>>, now: Option<i64>) -> Option<&Arc<X509Svid>>
     ensures { option_map (λ a. arc_value a.now) result
-        ≡ usable_of (option_map (λ a. arc_value a.now) chosen.entry) now }
+        ≡ spec.usable (option_map (λ a. arc_value a.now) chosen.entry) now }
 {
     match (chosen, now) {
         (Some(svid), Some(now)) if now < svid.expiry_unix() => Some(svid),

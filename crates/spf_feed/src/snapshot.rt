@@ -5,8 +5,8 @@ ghost use Rattle.std.specs.Option.{option_and_then};
 ghost use Rattle.spf_view.specs.Standing.{Stands, IsShowing, is_change, kept_next};
 ghost use Rattle.spf_feed.specs.Steps.{PlainStep, plain, is_accept, chosen_of, shown_by, held_in};
 ghost use Rattle.spf_feed.specs.Steps.{raised, same_material};
-ghost use Rattle.spf_feed.specs.Pick.{usable as usable_of};
 ghost use Rattle.spf_feed.specs.Standing.{view_in, IsKept};
+ghost use Rattle.spf_feed.specs.Pick as spec;
 
 use crate::prepared::Prepared;
 use crate::standing::Standing;
@@ -127,7 +127,7 @@ impl Snapshot {
     /// Whether a line shows the choice at the moment.
     pub(crate) fn shows_choice(&self, now: Option<i64>) -> bool
         ensures { result
-            ≡ is_some (usable_of (option_and_then chosen_of (held_in self.now.view)) now) }
+            ≡ is_some (spec.usable (option_and_then chosen_of (held_in self.now.view)) now) }
     {
         self.standing.is_usable(now)
     }

@@ -2,9 +2,9 @@
 
 ghost use Rattle.std.specs.Prelude.{◌≡◌, IfOk, is_some};
 ghost use Rattle.std.specs.Option.{option_and_then};
-ghost use Rattle.spf_feed.specs.Pick.{usable as usable_of};
 ghost use Rattle.spf_feed.specs.Standing.{view_in, IsKept};
 ghost use Rattle.spf_feed.specs.Steps.{chosen_of, held_in, shown_by};
+ghost use Rattle.spf_feed.specs.Pick as spec;
 
 use crate::picker::usable;
 use crate::prepared::Prepared;
@@ -46,7 +46,7 @@ impl Standing {
     /// Whether the choice is usable at the moment.
     pub(crate) fn is_usable(&self, now: Option<i64>) -> bool
         ensures { result
-            ≡ is_some (usable_of (option_and_then chosen_of (held_in (view_in self.now))) now) }
+            ≡ is_some (spec.usable (option_and_then chosen_of (held_in (view_in self.now))) now) }
     {
         match self {
             Standing::Permitted(held) => usable(held.chosen(), now).is_some(),

@@ -4,9 +4,9 @@ ghost use Rattle.std.specs.Prelude.{◌≡◌, is_some};
 ghost use Rattle.std.specs.Option.{option_map, option_and_then};
 ghost use Rattle.std.specs.Arc.{arc_value};
 ghost use Rattle.spf_feed.specs.Steps.{chosen_of, held_in, reason_of};
-ghost use Rattle.spf_feed.specs.Pick.{usable as usable_of};
 ghost use Rattle.spf_feed.specs.Standing.{view_in, IsKept};
 ghost use Rattle.spf_feed.specs.States.{ContextAnswer, SvidAnswer};
+ghost use Rattle.spf_feed.specs.Pick as spec;
 
 use crate::limits::LimitKind;
 use crate::picker::usable;
@@ -236,7 +236,7 @@ impl X509SourceState {
     /// Whether `svid` returns one, where memory does not run out.
     pub fn is_usable(&self, now: Option<i64>) -> bool
         ensures { result
-            ≡ is_some (usable_of (option_and_then chosen_of (held_in self.now.view)) now) }
+            ≡ is_some (spec.usable (option_and_then chosen_of (held_in self.now.view)) now) }
     {
         self.standing.is_usable(now)
     }

@@ -9,13 +9,14 @@ ghost use Rattle.spf_feed.specs.declared.limits.ResourceLimits.{ResourceLimits};
 ghost use Rattle.spf_feed.specs.declared.event.SessionEvent.TheVariants as events;
 ghost use Rattle.spf_feed.specs.declared.record.MetricsErrorKind.TheVariants as kinds;
 ghost use Rattle.spf_feed.specs.declared.turn.Terminal.TheVariants as terminal;
-ghost use Rattle.spf_feed.specs.Items.{rules_with, denial_in, may_sync as may_sync_by};
+ghost use Rattle.spf_feed.specs.Items.{rules_with, denial_in};
 ghost use Rattle.spf_feed.specs.Limits.{within};
-ghost use Rattle.spf_feed.specs.Run.{ended, over_limit, kept_out, limit_error as limit_error_of};
-ghost use Rattle.spf_feed.specs.Run.{connect_error as connect_error_of, rejected_or_unsupported};
+ghost use Rattle.spf_feed.specs.Run.{ended, over_limit, kept_out, rejected_or_unsupported};
 ghost use Rattle.spf_feed.specs.Run.{client_rejected, timed_out};
 ghost use Rattle.spf_feed.specs.Received.{received_refusal, received_outcome, received_records};
 ghost use Rattle.spf_feed.specs.Turns.{MayTake, IsTurn, listed, refusal_in, client_refusal_in};
+ghost use Rattle.spf_feed.specs.Items as items_spec;
+ghost use Rattle.spf_feed.specs.Run as run_spec;
 
 use crate::follow_error::FollowError;
 use crate::limits::{LimitKind, ResourceLimits, validate_limits};
@@ -84,7 +85,7 @@ impl Records {
 }
 
 fn limit_error(kind: LimitKind) -> MetricsErrorKind
-    ensures { result ≡ limit_error_of kind }
+    ensures { result ≡ run_spec.limit_error kind }
 {
     match kind {
         LimitKind::MaxSvids => MetricsErrorKind::LimitMaxSvids,
@@ -182,7 +183,7 @@ fn status_turn(synced: bool, answer: WorkloadApiError, error: Option<MetricsErro
 
 /// That no identity is issued is no error of the connection.
 fn connect_error(answer: &WorkloadApiError) -> Option<MetricsErrorKind>
-    ensures { result ≡ connect_error_of answer.now }
+    ensures { result ≡ run_spec.connect_error answer.now }
 {
     match answer {
         WorkloadApiError::NoIdentityIssued => None,
@@ -194,7 +195,7 @@ fn connect_turn(synced: bool, status: GrpcStatusError) -> Turn
     ensures may { (limits : ResourceLimits) → MayTake limits synced result }
     ensures turn { IsTurn (if synced then None else rejected_or_unsupported status)
         (denied_or_passed synced (denial_in (status_reading status)))
-        (ended synced (connect_error_of (status_reading status))) result }
+        (ended synced (run_spec.connect_error (status_reading status))) result }
 {
     let answer = WorkloadApiError::from_status(status);
     let error = connect_error(&answer);
@@ -268,7 +269,8 @@ fn close_turn(synced: bool) -> Turn
 
 /// Whether the first accepted item may be this one.
 fn may_sync(context: &X509Context, choice: Option<usize>, ready: Ready, now: Option<i64>) -> bool
-    ensures { result ≡ may_sync_by ready (record { context = context.now; choice = choice }) now }
+    ensures { result
+        ≡ items_spec.may_sync ready (record { context = context.now; choice = choice }) now }
 {
     match ready {
         Ready::Usable => usable(chosen(context, choice), now).is_some(),

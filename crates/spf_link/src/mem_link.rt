@@ -5,8 +5,8 @@ ghost use Rattle.std.specs.Option.{option_to_list};
 ghost use Rattle.spf_api.specs.Payload.{kind_of};
 ghost use Rattle.spf_link.specs.InMemory.{NextsInMemory, StartsInMemory, refusals_after};
 ghost use Rattle.spf_link.specs.Links.{HasLinkCause, StartAppends, Takes, is_kind, next_by};
-ghost use Rattle.spf_link.specs.Links.{started_by as start_by, unavailable as unavailable_status};
 ghost use Rattle.spf_link.specs.Request.{answered_by};
+ghost use Rattle.spf_link.specs.Links as spec;
 
 use crate::answer::Answer;
 use crate::headers::Headers;
@@ -50,20 +50,20 @@ impl Model for MemLink {
 
 /// UNAVAILABLE with an empty message.
 pub(crate) fn unavailable(alloc: Global) -> GrpcStatusError
-    ensures { result ≡ unavailable_status }
+    ensures { result ≡ spec.unavailable }
 {
     GrpcStatusError::new(GrpcStatusCode::Unavailable, Text::new(String::new(alloc)))
 }
 
 fn unfit(alloc: Global) -> LinkFault
-    ensures { result ≡ LinkFault.Status unavailable_status }
+    ensures { result ≡ LinkFault.Status spec.unavailable }
 {
     LinkFault::Status(unavailable(alloc))
 }
 
 /// What a `start` returns by an answer.
 fn started_by(alloc: Global, answer: Option<Answer>) -> Result<(), LinkFault>
-    ensures { result ≡ start_by (option_to_list answer) }
+    ensures { result ≡ spec.started_by (option_to_list answer) }
 {
     match answer {
         Some(Answer::Started) => Ok(()),

@@ -2,8 +2,8 @@
 
 ghost use Rattle.std.specs.Prelude.{◌≡◌, ◌*◌};
 ghost use Rattle.std.specs.Duration.{as_nanos};
-ghost use Rattle.spf_pace.specs.Backoff.{millis as millis_of, grown as grown_of};
 ghost use Rattle.spf_pace.specs.Backoff.{grown_without_identity, NANOS_PER_MILLI};
+ghost use Rattle.spf_pace.specs.Backoff as spec;
 
 use std::time::Duration;
 
@@ -15,14 +15,14 @@ const MAX_WITHOUT_IDENTITY: u64 = 10_000;
 
 /// A delay in whole milliseconds, at most `u64::MAX`.
 fn millis(delay: Duration) -> u64
-    ensures { result ≡ millis_of (as_nanos delay) }
+    ensures { result ≡ spec.millis (as_nanos delay) }
 {
     delay.as_millis().min(u64::MAX as u128) as u64
 }
 
 /// Twice the current delay, at most `max`, less a random part of a tenth.
 fn grown(current: u64, max: u64, word: u64) -> u64
-    ensures { result ≡ grown_of current max word }
+    ensures { result ≡ spec.grown current max word }
 {
     let base = current.saturating_mul(2).min(max);
     let jitter = base / 10;
@@ -34,7 +34,7 @@ fn grown(current: u64, max: u64, word: u64) -> u64
 /// `word` chooses.
 pub fn next_backoff(current: Duration, max: Duration, word: u64) -> Duration
     ensures { as_nanos result
-        ≡ grown_of (millis_of (as_nanos current)) (millis_of (as_nanos max)) word
+        ≡ spec.grown (spec.millis (as_nanos current)) (spec.millis (as_nanos max)) word
         * NANOS_PER_MILLI }
 {
     Duration::from_millis(grown(millis(current), millis(max), word))
@@ -43,7 +43,7 @@ pub fn next_backoff(current: Duration, max: Duration, word: u64) -> Duration
 /// The same while no identity is issued: from at least one second on, and up to at most ten.
 pub fn next_backoff_for_no_identity(current: Duration, max: Duration, word: u64) -> Duration
     ensures { as_nanos result
-        ≡ grown_without_identity (millis_of (as_nanos current)) (millis_of (as_nanos max)) word
+        ≡ grown_without_identity (spec.millis (as_nanos current)) (spec.millis (as_nanos max)) word
         * NANOS_PER_MILLI }
 {
     let current = millis(current).max(MIN_WITHOUT_IDENTITY);

@@ -34,9 +34,9 @@ impl Kinds for AtStart {
 pub(crate) struct InStream;
 
 impl Kinds for InStream {
-    ghost use Rattle.spf_wire.specs.Answers.{streams as of_stream};
+    ghost use Rattle.spf_wire.specs.Answers as spec;
 
-    ghost allows = { λ _. of_stream };
+    ghost allows = { λ _. spec.streams };
 
     fn allow(&self, kind: u8) -> bool {
         is_of_stream(kind)

@@ -6,8 +6,7 @@ ghost use Rattle.std.specs.Option.{option_map};
 ghost use Rattle.spf_api.specs.Layout.{field_text, list_text};
 ghost use Rattle.spf_view.specs.Frames.{raw_text};
 ghost use Rattle.spf_wire.specs.Requests.{asked_text, framed, header_text};
-ghost use Rattle.spf_wire.specs.Requests.{request_kind as kind_number};
-ghost use Rattle.spf_wire.specs.Requests.{request_payload as payload_text};
+ghost use Rattle.spf_wire.specs.Requests as spec;
 
 use spf_io::{OutOfMemory, Text};
 use spf_link::Request;
@@ -79,7 +78,7 @@ fn put_texts(out: &mut Vec<u8>, texts: &[Text]) -> Result<(), OutOfMemory>
 
 /// The kind octet of a request.
 fn request_kind(request: &Request) -> u8
-    ensures { result ≡ kind_number request.now }
+    ensures { result ≡ spec.request_kind request.now }
 {
     match request {
         Request::X509Svid => X509_SVID,
@@ -115,7 +114,7 @@ fn request_payload(
     headers: &[(Text, Text)],
     request: &Request,
 ) -> Result<Vec<u8>, OutOfMemory>
-    ensures { IfOk result (λ v. v.items ≡ payload_text headers.now request.now) }
+    ensures { IfOk result (λ v. v.items ≡ spec.request_payload headers.now request.now) }
 {
     let mut payload = Vec::new(alloc);
     put_headers(&mut payload, headers)?;

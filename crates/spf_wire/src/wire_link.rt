@@ -4,8 +4,8 @@ ghost use Rattle.std.specs.Prelude.{◌≡◌, None, Some, IfOk, IfSome, is_some
 ghost use Rattle.spf_api.specs.Payload.{kind_of};
 ghost use Rattle.spf_link.specs.Links.{HasLinkCause};
 ghost use Rattle.spf_link.specs.Request.{answered_by};
-ghost use Rattle.spf_wire.specs.Wire.{Ports, StartAsked, IsStreamRead, fault_of as link_fault};
-ghost use Rattle.spf_wire.specs.Wire.{refusal as refusal_of, result_of as link_result};
+ghost use Rattle.spf_wire.specs.Wire.{Ports, StartAsked, IsStreamRead};
+ghost use Rattle.spf_wire.specs.Wire as spec;
 
 use crate::answers::{Started, Streamed, read_in_stream, read_start};
 use crate::request::request_frame;
@@ -31,14 +31,14 @@ pub struct WireLink<S, K> {
 
 /// A refusal with an empty message.
 fn refusal(alloc: Global, code: GrpcStatusCode) -> LinkFault
-    ensures { result ≡ refusal_of code }
+    ensures { result ≡ spec.refusal code }
 {
     LinkFault::Status(GrpcStatusError::new(code, Text::new(String::new(alloc))))
 }
 
 /// The refusal by what stood in the way.
 fn fault_of(alloc: Global, fault: WireFault) -> LinkFault
-    ensures { result ≡ link_fault fault }
+    ensures { result ≡ spec.fault_of fault }
 {
     match fault {
         WireFault::RequestTooLong => refusal(alloc, GrpcStatusCode::ResourceExhausted),
@@ -57,7 +57,7 @@ fn result_of<T: Drop>(
     alloc: Global,
     answer: Result<Result<T, GrpcStatusError>, WireFault>,
 ) -> Result<T, LinkFault>
-    ensures { result ≡ link_result answer }
+    ensures { result ≡ spec.result_of answer }
 {
     match answer {
         Ok(Ok(said)) => Ok(said),

@@ -1,15 +1,14 @@
 //! Generated sessions: streams of updates of any length, the same for the same seed.
 
 ghost use Rattle.std.specs.Prelude.{◌≡◌, ℕ, ◌+◌, ◌<◌, ◌++◌, ◌%◌, [], IfOk, OnOk, OnErr, pos};
-ghost use Rattle.spiffe_watch.specs.MadeSession.{bundle_of, client_frames, entries as entries_of};
-ghost use Rattle.spiffe_watch.specs.MadeSession.{first_key as first_key_of, frames_by};
-ghost use Rattle.spiffe_watch.specs.MadeSession.{generation_by, identity as identity_of};
-ghost use Rattle.spiffe_watch.specs.MadeSession.{item as item_of, item_frame, leaf_spec};
+ghost use Rattle.spiffe_watch.specs.MadeSession.{bundle_of, client_frames, frames_by};
+ghost use Rattle.spiffe_watch.specs.MadeSession.{generation_by, item_frame, leaf_spec};
 ghost use Rattle.spiffe_watch.specs.MadeSession.{made_session, ordered, root_spec};
 ghost use Rattle.spiffe_watch.specs.MadeSession.{intermediate_spec};
 ghost use Rattle.spiffe_watch.specs.GeneratedParts.{AreParts, IsExpiry, Yields, IsWorkload};
 ghost use Rattle.spiffe_watch.specs.declared.generated.Variant.TheVariants as variants;
 ghost use Rattle.spiffe_watch.specs.Template.{IsTemplate, dated};
+ghost use Rattle.spiffe_watch.specs.MadeSession as spec;
 
 use crate::arguments::MakeArguments;
 use crate::template::Template;
@@ -119,7 +118,7 @@ fn intermediate(alloc: Global) -> Result<Template, OutOfMemory>
 }
 
 fn leaf(alloc: Global, serial: u8, identity: &str) -> Result<Template, OutOfMemory>
-    ensures { (index : ℕ) → serial ≡ 1 + index → identity.now ≡ identity_of index
+    ensures { (index : ℕ) → serial ≡ 1 + index → identity.now ≡ spec.identity index
         → IfOk result (IsTemplate (leaf_spec index 0)) }
 {
     let usage = KeyUsageBits {
@@ -134,7 +133,7 @@ fn leaf(alloc: Global, serial: u8, identity: &str) -> Result<Template, OutOfMemo
 }
 
 fn make_workload(alloc: Global, serial: u8, identity: &str) -> Result<Workload, OutOfMemory>
-    ensures { (index : ℕ) → serial ≡ 1 + index → identity.now ≡ identity_of index
+    ensures { (index : ℕ) → serial ≡ 1 + index → identity.now ≡ spec.identity index
         → IfOk result (IsWorkload index) }
 {
     Ok(Workload {
@@ -249,7 +248,7 @@ fn entry(
 
 /// The key of the first entry of an item.
 fn first_key(parts: &Parts, variant: Variant) -> &[u8]
-    ensures { AreParts parts.now → result.now ≡ first_key_of variant }
+    ensures { AreParts parts.now → result.now ≡ spec.first_key variant }
 {
     match variant {
         Variant::BadKey => BAD_KEY,
@@ -281,7 +280,7 @@ fn entries(
     expiry: &[u8],
 ) -> Result<Vec<SvidEntry>, OutOfMemory>
     ensures { AreParts parts.now → (generation : ℕ) → IsExpiry generation expiry.now
-        → IfOk result (λ v. v.items ≡ entries_of variant generation) }
+        → IfOk result (λ v. v.items ≡ spec.entries variant generation) }
 {
     let bundle = bundle(alloc, parts, variant, expiry)?;
     let bundle = bundle.as_slice();
@@ -322,7 +321,7 @@ fn item(
     variant: Variant,
     generation: u16,
 ) -> Result<ContextResponse, OutOfMemory>
-    ensures { AreParts parts.now → IfOk result (λ r. r ≡ item_of variant generation) }
+    ensures { AreParts parts.now → IfOk result (λ r. r ≡ spec.item variant generation) }
 {
     let expiry = expiry_octets(generation);
     let svids = entries(alloc, parts, variant, &expiry)?;

@@ -4,7 +4,7 @@ ghost use Rattle.std.specs.Prelude.{◌≡◌, ◌≤◌, ◌<◌, ◌-◌, ◌^
 ghost use Rattle.std.specs.Prelude.{OnErr};
 ghost use Rattle.spiffe_watch.specs.Tallied.{first_word, after_word, revision_in, withdrawn_in};
 ghost use Rattle.spiffe_watch.specs.Tallied.{tally_of};
-ghost use Rattle.spiffe_watch.specs.Arguments.{number_up_to as number_in_up_to};
+ghost use Rattle.spiffe_watch.specs.Arguments as spec;
 
 use crate::arguments::number_up_to;
 use crate::ghost_bytes::GhostBytes;
@@ -148,7 +148,7 @@ fn split_word(line: &[u8]) -> (&[u8], &[u8])
 
 /// The number that a word spells.
 fn number_in(word: &[u8]) -> Option<u64>
-    ensures { result ≡ number_in_up_to (2 ^ 64 - 1) word.now }
+    ensures { result ≡ spec.number_up_to (2 ^ 64 - 1) word.now }
 {
     number_up_to(u64::MAX, str::from_utf8(word).ok()?)
 }
