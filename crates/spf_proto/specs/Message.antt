@@ -58,8 +58,8 @@ is_text n f = not (has_number n f) || is_utf8 (octets_of f)
 abbrev pub is_svid_field : WireField → Bool
 is_svid_field f = is_delimited 5 f && (is_text 1 f && is_text 5 f)
 
-abbrev pub svid_of : List WireField → SvidEntry
-svid_of fs = record {
+abbrev pub svid_entry_from : List WireField → SvidEntry
+svid_entry_from fs = record {
   spiffe_id = last_of 1 fs;
   x509_svid = last_of 2 fs;
   x509_svid_key = last_of 3 fs;
@@ -70,19 +70,19 @@ svid_of fs = record {
 unfoldable pub svid_message : List ℕ → Option SvidEntry
 svid_message bytes = do
   fs ← fields_of bytes
-  if list_all is_svid_field fs then Some (svid_of fs) else None
+  if list_all is_svid_field fs then Some (svid_entry_from fs) else None
 
 -- an entry of the map of federated bundles: key 1, value 2
 abbrev pub is_bundle_field : WireField → Bool
 is_bundle_field f = is_delimited 2 f && is_text 1 f
 
-abbrev pub bundle_of : List WireField → BundleEntry
-bundle_of fs = record { name = last_of 1 fs; bundle = last_of 2 fs }
+abbrev pub bundle_entry_from : List WireField → BundleEntry
+bundle_entry_from fs = record { name = last_of 1 fs; bundle = last_of 2 fs }
 
 unfoldable pub bundle_message : List ℕ → Option BundleEntry
 bundle_message bytes = do
   fs ← fields_of bytes
-  if list_all is_bundle_field fs then Some (bundle_of fs) else None
+  if list_all is_bundle_field fs then Some (bundle_entry_from fs) else None
 
 -- what one of these makes of each, where it makes something of all
 abbrev pub each : {A B : Type 0} → (A → Option B) → List A → Option (List B)

@@ -20,7 +20,7 @@ later [] = []
 later (moment ∷ moments) = moments
 
 -- where the moments are known, the next one is given, and the others are left
-abbrev pub Gives : Option (List (Option ℤ)) → Option (List (Option ℤ)) → Option ℤ → Type 0
-Gives None new result = Unit {0}
-Gives (Some old) None result = ⊥
-Gives (Some old) (Some new) result = (result ≡ next_moment old) × (new ≡ later old)
+abbrev pub IsTime : Option (List (Option ℤ)) → Option (List (Option ℤ)) → Option ℤ → Type 0
+IsTime None new result = Unit {0}
+IsTime (Some old) None result = ⊥
+IsTime (Some old) (Some new) result = (result ≡ next_moment old) × (new ≡ later old)

@@ -1,7 +1,7 @@
 //! The time of day.
 
 ghost use Rattle.std.specs.Prelude.{◌≡◌, ◌≤ℤ◌, ℤ, pos, List, Option, Some, IfSome};
-ghost use Rattle.spf_system.specs.Clock.{Gives, later, moments_of, next_moment};
+ghost use Rattle.spf_system.specs.Clock.{IsTime, later, moments_of, next_moment};
 ghost use Rattle.spf_system.specs.Clock as spec;
 
 use std::marker::Model;
@@ -14,7 +14,7 @@ pub trait Clock {
 
     /// Unix seconds, from 0 on.
     fn now(&mut self) -> Option<i64>
-        ensures gives { Gives (moments self.old) (moments self.new) result }
+        ensures gives { IsTime (moments self.old) (moments self.new) result }
         ensures range { IfSome result (λ moment. pos 0 ≤ℤ moment) };
 }
 
@@ -58,7 +58,7 @@ impl Clock for MemClock {
     ghost moments = { λ c. Some c };
 
     fn now(&mut self) -> Option<i64>
-        ensures gives { Gives (Some self.old) (Some self.new) result }
+        ensures gives { IsTime (Some self.old) (Some self.new) result }
         ensures range { IfSome result (λ moment. pos 0 ≤ℤ moment) }
         ensures moment { result ≡ next_moment self.old }
         ensures later { self.new ≡ later self.old }

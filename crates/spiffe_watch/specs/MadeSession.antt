@@ -79,10 +79,10 @@ root serial generation =
 -- ---- items
 
 -- the two authorities of a bundle, which a reordered item has in the other order
-abbrev pub bundle_of : Variant → ℕ → List ℕ
-bundle_of variants.Plain generation = root 10 generation ++ root 11 generation
-bundle_of variants.Reordered generation = root 11 generation ++ root 10 generation
-bundle_of variants.BadKey generation = root 10 generation ++ root 11 generation
+abbrev pub roots_of : Variant → ℕ → List ℕ
+roots_of variants.Plain generation = root 10 generation ++ root 11 generation
+roots_of variants.Reordered generation = root 11 generation ++ root 10 generation
+roots_of variants.BadKey generation = root 10 generation ++ root 11 generation
 
 -- the key of the first entry, which a bad item spoils
 abbrev pub first_key : Variant → List ℕ
@@ -109,9 +109,9 @@ entry generation index key bundle = record {
 abbrev pub entries : Variant → ℕ → List SvidEntry
 entries variant generation =
     ordered variant
-    (entry generation 0 (first_key variant) (bundle_of variant generation))
-    (entry generation 1 (key_text 2) (bundle_of variant generation))
-    (entry generation 2 (key_text 3) (bundle_of variant generation))
+    (entry generation 0 (first_key variant) (roots_of variant generation))
+    (entry generation 1 (key_text 2) (roots_of variant generation))
+    (entry generation 2 (key_text 3) (roots_of variant generation))
 
 abbrev pub item : Variant → ℕ → ContextResponse
 item variant generation = record {

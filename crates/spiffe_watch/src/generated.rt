@@ -1,7 +1,7 @@
 //! Generated sessions: streams of updates of any length, the same for the same seed.
 
 ghost use Rattle.std.specs.Prelude.{◌≡◌, ℕ, ◌+◌, ◌<◌, ◌++◌, ◌%◌, [], IfOk, OnOk, OnErr, pos};
-ghost use Rattle.spiffe_watch.specs.MadeSession.{bundle_of, client_frames, frames_by};
+ghost use Rattle.spiffe_watch.specs.MadeSession.{roots_of, client_frames, frames_by};
 ghost use Rattle.spiffe_watch.specs.MadeSession.{generation_by, item_frame, leaf_spec};
 ghost use Rattle.spiffe_watch.specs.MadeSession.{made_session, ordered, root_spec};
 ghost use Rattle.spiffe_watch.specs.MadeSession.{intermediate_spec};
@@ -212,7 +212,7 @@ fn bundle(
     expiry: &[u8],
 ) -> Result<Bytes, OutOfMemory>
     ensures { AreParts parts.now → (generation : ℕ) → IsExpiry generation expiry.now
-        → IfOk result (λ b. b ≡ bundle_of variant generation) }
+        → IfOk result (λ b. b ≡ roots_of variant generation) }
 {
     match variant {
         Variant::Reordered => pair(alloc, &parts.root_b, &parts.root_a, expiry),
