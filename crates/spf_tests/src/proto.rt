@@ -1,7 +1,7 @@
 //! Messages of the Workload API in Protocol Buffers.
 
 use crate::fixtures::octets;
-use spf_api::read_context_view;
+use spf_api::{ContextView, read_context_view};
 use spf_proto::read_message;
 use std::alloc::Global;
 use std::test::Fail;
@@ -76,19 +76,32 @@ static REFUSED: [&str; 24] = [
     "1a07 0a02c328 0a0161",
 ];
 
+/// Whether two responses are there and the same.
+fn is_same(read: Option<ContextView<'_>>, wanted: Option<ContextView<'_>>) -> bool {
+    match (read, wanted) {
+        (Some(read), Some(wanted)) => read == wanted,
+        _ => false,
+    }
+}
+
 /// Whether a message is read as what the payload lays out.
-fn is_read_as(alloc: Global, message: &str, payload: &str) -> Result<bool, Fail> {
+fn is_read_as(alloc: Global, message: &[u8], payload: &[u8]) -> Result<bool, Fail> {
+    let read = read_message(alloc, message)?;
+    let wanted = read_context_view(alloc, payload)?;
+    Ok(is_same(read, wanted))
+}
+
+/// The same of octets in hexadecimal.
+fn is_written_as(alloc: Global, message: &str, payload: &str) -> Result<bool, Fail> {
     let message = octets(alloc, message)?;
     let payload = octets(alloc, payload)?;
-    let read = read_message(alloc, message.as_slice())?;
-    let wanted = read_context_view(alloc, payload.as_slice())?;
-    Ok(read.is_some() && read == wanted)
+    is_read_as(alloc, message.as_slice(), payload.as_slice())
 }
 
 #[test]
 fn messages(rt: HostRuntime) -> Result<(), Fail> {
     for (message, payload) in READ.iter() {
-        assert!(rt; is_read_as(rt.alloc(), *message, *payload)?);
+        assert!(rt; is_written_as(rt.alloc(), *message, *payload)?);
     }
     Ok(())
 }
