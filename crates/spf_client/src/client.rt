@@ -49,6 +49,17 @@ impl<L: Link, I: Interceptor> WorkloadApiClient<L, I> {
         }
     }
 
+    /// The same client, with the endpoint kept.
+    pub(crate) fn with_endpoint(self, endpoint: Endpoint) -> WorkloadApiClient<L, I>
+        ensures { result ≡ record self { endpoint = Some endpoint } }
+    {
+        WorkloadApiClient {
+            endpoint: Some(endpoint),
+            link: self.link,
+            metadata: self.metadata,
+        }
+    }
+
     /// The endpoint of the client, where it has one.
     pub fn endpoint(&self) -> Option<&Endpoint>
         ensures { option_copied result ≡ self.now.endpoint }

@@ -37,9 +37,9 @@ impl<L: Link> WorkloadApiClient<L, NoInterceptor> {
         ensures { ConnectsKeeping C.Connector L.answers connector.old endpoint result
             connector.new }
     {
-        match connector.connect() {
-            Ok(link) => Ok(WorkloadApiClient::new_with_link(Some(endpoint), link, NoInterceptor)),
-            Err(fault) => Err(client_fault_error(fault)),
+        match WorkloadApiClient::connect_over(connector) {
+            Ok(client) => Ok(client.with_endpoint(endpoint)),
+            Err(e) => Err(e),
         }
     }
 }
