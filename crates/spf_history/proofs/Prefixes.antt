@@ -1,0 +1,69 @@
+-- Beginnings of one list, and lists that end.
+use Rattle.std.proofs.Common.{◌≡◌, ◌≢◌, ℕ, ◌≤◌, ◌<◌, leb, Bool, true, false, List, [], ◌∷◌, ◌++◌}
+use Rattle.std.proofs.Common.{length, MatchBool, refl, sym, ap, ◌∙◌, subst, arith}
+use Rattle.std.proofs.lemmas.Bool.Decides.{nat_tests}
+use mathlib.Core.List.{IsPrefix}
+use Rattle.spf_history.specs.declared.entry.Entry.{Entry}
+use Rattle.spf_history.specs.declared.entry.Entry.TheVariants as entry
+use Rattle.spf_history.specs.Lists.{is_ended, EndsLast}
+
+-- of two beginnings of one list the shorter begins the longer
+pub shorter_begins : {A : Type 0} (xs ys zs : List A) → IsPrefix xs zs → IsPrefix ys zs
+    → length xs ≤ length ys → IsPrefix xs ys
+shorter_begins [] ys zs p q le = (ys, refl)
+shorter_begins (x ∷ xs) [] zs p q le = absurd (omega arith)
+shorter_begins (x ∷ xs) (y ∷ ys) [] p q le = absurd (cc (p.1))
+shorter_begins (x ∷ xs) (y ∷ ys) (z ∷ zs) p q le =
+    let rest = shorter_begins xs ys zs (p.0, cc (p.1)) (q.0, cc (q.1)) (omega arith) in
+    (rest.0, cc (p.1, q.1, rest.1))
+
+-- a beginning as long as the whole is the whole
+pub begins_whole : {A : Type 0} (xs ys : List A) → IsPrefix xs ys → length ys ≤ length xs → xs ≡ ys
+begins_whole [] [] p le = refl
+begins_whole [] (y ∷ ys) p le = absurd (omega arith)
+begins_whole (x ∷ xs) [] p le = absurd (cc (p.1))
+begins_whole (x ∷ xs) (y ∷ ys) p le =
+    let rest = begins_whole xs ys (p.0, cc (p.1)) (omega arith) in
+    cc (p.1, rest)
+
+pub begins_self : {A : Type 0} (xs : List A) → IsPrefix xs xs
+begins_self [] = ([], refl)
+begins_self (x ∷ xs) = let rest = begins_self xs in (rest.0, ap (λ l. x ∷ l) rest.1)
+
+pub begins_more : {A : Type 0} (xs ys : List A) → IsPrefix xs ys → xs ≢ [] → ys ≢ []
+begins_more [] ys p some none = some refl
+begins_more (x ∷ xs) [] p some none = cc (p.1)
+begins_more (x ∷ xs) (y ∷ ys) p some none = cc
+
+pub begins_by : {A : Type 0} (b : Bool) (n m : ℕ) (xs ys zs : List A)
+    → leb n m ≡ b → n ≡ length xs → m ≡ length ys → IsPrefix xs zs → IsPrefix ys zs
+    → MatchBool b (IsPrefix xs ys) (length ys < length xs)
+begins_by true n m xs ys zs is len len' p q =
+    let le : n ≤ m = grind (arith, nat_tests) in
+    shorter_begins xs ys zs p q (omega arith)
+begins_by false n m xs ys zs is len len' p q =
+    let lt : m < n = grind (arith, nat_tests) in
+    omega arith
+
+-- a list that has ended is the beginning of no longer one
+pub ended_stays : {S : Type 0} (old new : List (Entry S)) → IsPrefix old new → EndsLast new
+    → is_ended old ≡ true → new ≡ old
+unfolding is_ended EndsLast
+ended_stays [] new p ends ended = cc
+ended_stays (e ∷ old) [] p ends ended = cc (p.1)
+ended_stays (entry.Step s ∷ old) (entry.Step t ∷ new) p ends ended =
+    let rest = ended_stays old new (p.0, cc (p.1)) ends ended in
+    cc (p.1, rest)
+ended_stays (entry.Step s ∷ old) (entry.End ∷ new) p ends ended = cc (p.1)
+ended_stays (entry.End ∷ old) (entry.Step t ∷ new) p ends ended = cc (p.1)
+ended_stays (entry.End ∷ []) (entry.End ∷ new) p ends ended = ap (λ l. entry.End ∷ l) ends
+ended_stays (entry.End ∷ (f ∷ old)) (entry.End ∷ new) p ends ended = cc (p.1, ends)
+
+-- an entry behind a list that has not ended is its last
+pub ends_next : {S : Type 0} (list : List (Entry S)) (e : Entry S) → is_ended list ≡ false
+    → EndsLast (list ++ e ∷ [])
+unfolding is_ended EndsLast
+ends_next [] (entry.Step s) unended = tt
+ends_next [] entry.End unended = refl
+ends_next (entry.Step s ∷ list) e unended = ends_next list e unended
+ends_next (entry.End ∷ list) e unended = cc
