@@ -5,7 +5,7 @@ use Rattle.std.proofs.lemmas.Bool.Decides.{nat_tests}
 use mathlib.Core.List.{IsPrefix}
 use Rattle.spf_history.specs.declared.entry.Entry.{Entry}
 use Rattle.spf_history.specs.declared.entry.Entry.TheVariants as entry
-use Rattle.spf_history.specs.Lists.{is_ended, EndsLast}
+use Rattle.spf_history.specs.Lists.{steps_of, is_ended, EndsLast}
 
 -- of two beginnings of one list the shorter begins the longer
 pub shorter_begins : {A : Type 0} (xs ys zs : List A) → IsPrefix xs zs → IsPrefix ys zs
@@ -67,3 +67,17 @@ ends_next [] (entry.Step s) unended = tt
 ends_next [] entry.End unended = refl
 ends_next (entry.Step s ∷ list) e unended = ends_next list e unended
 ends_next (entry.End ∷ list) e unended = cc
+
+pub steps_more : {S : Type 0} (list : List (Entry S)) (s : S)
+    → steps_of (list ++ entry.Step s ∷ []) ≡ steps_of list ++ s ∷ []
+unfolding steps_of
+steps_more [] s = refl
+steps_more (entry.Step t ∷ list) s = ap (λ l. t ∷ l) (steps_more list s)
+steps_more (entry.End ∷ list) s = steps_more list s
+
+pub steps_end : {S : Type 0} (list : List (Entry S))
+    → steps_of (list ++ entry.End ∷ []) ≡ steps_of list
+unfolding steps_of
+steps_end [] = refl
+steps_end (entry.Step t ∷ list) = ap (λ l. t ∷ l) (steps_end list)
+steps_end (entry.End ∷ list) = steps_end list

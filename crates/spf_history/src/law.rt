@@ -1,17 +1,18 @@
 //! The rule of a history.
 
-use crate::entry::{Entry, Lawful};
+use crate::entry::{Entry, Kind};
 use logbook::{Gain, Plain, Play, Rule};
+use std::marker::PhantomData;
 
 /// The history is legal, and its word is its length.
-pub struct Law;
+pub struct Law<K>(PhantomData<K>);
 
-impl<S: Lawful> Rule<Entry<S>, u64> for Law {
+impl<K: Kind> Rule<Entry<K::Step>, u64> for Law<K> {
     ghost use Rattle.std.specs.Prelude.{[]};
     ghost use base.Fml.{ftrue};
     ghost use Rattle.spf_history.specs.Rules.{IsKept};
 
-    ghost holds = { λ cells log. IsKept S.legal cells log };
+    ghost holds = { λ cells log. IsKept K.legal cells log };
 
     ghost first = { [] };
 
@@ -27,25 +28,25 @@ impl<S: Lawful> Rule<Entry<S>, u64> for Law {
 /// A scribe trades nothing.
 pub(crate) struct Nothing;
 
-impl<S: Lawful> Gain<Entry<S>, u64> for Nothing {
+impl<S> Gain<Entry<S>, u64> for Nothing {
     ghost use base.Fml.{ftrue};
 
     ghost after = { λ names about answer. ftrue };
 }
 
 /// An entry is added.
-pub(crate) struct Adding;
+pub(crate) struct Adding<K>(PhantomData<K>);
 
-impl<S: Lawful> Play<Entry<S>, u64> for Adding {
+impl<K: Kind> Play<Entry<K::Step>, u64> for Adding<K> {
     ghost use Rattle.spf_history.specs.Rules.{Adds};
 
-    ghost then = { Adds S.legal };
+    ghost then = { Adds K.legal };
 }
 
 /// The entry of a step.
 pub(crate) struct StepOf;
 
-impl<S: Lawful> Plain<S, Entry<S>, u64> for StepOf {
+impl<S> Plain<S, Entry<S>, u64> for StepOf {
     ghost use Rattle.std.specs.Prelude.{None};
     ghost use Rattle.spf_history.specs.declared.entry.Entry.TheVariants as entry;
 
@@ -57,7 +58,7 @@ impl<S: Lawful> Plain<S, Entry<S>, u64> for StepOf {
 /// The end.
 pub(crate) struct EndOf;
 
-impl<S: Lawful> Plain<(), Entry<S>, u64> for EndOf {
+impl<S> Plain<(), Entry<S>, u64> for EndOf {
     ghost use Rattle.std.specs.Prelude.{None};
     ghost use Rattle.spf_history.specs.declared.entry.Entry.TheVariants as entry;
 

@@ -7,7 +7,7 @@ mod front;
 mod law;
 mod scribe;
 
-pub use entry::{Entry, Lawful};
+pub use entry::{Entry, Kind};
 pub use front::Front;
 pub use law::Law;
 pub use scribe::Scribe;

@@ -13,6 +13,6 @@ compare_exchange-found-requires g c =
       rw book pen.0,
       offer.0,
       rw (ap (λ w. w.key) h, pen.1, offer.1, offer.3, c.requires.plain)
-          (moves g.S.Lawful.legal c.args.seen.now.log _ c.args.number.now (sym c.requires.number)
+          (moves g.K.Kind.legal c.args.seen.now.log _ c.args.number.now (sym c.requires.number)
           c.requires.follows),
     )
