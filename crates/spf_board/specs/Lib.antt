@@ -1,2 +1,4 @@
 pub mod Board
+pub mod Desks
+pub mod Passes
 pub mod Posted

@@ -45,6 +45,6 @@ pub trait Look<S> {
     // What may be found in the snapshot.
     ghost finds: { Self → S → Self.Found → Type 0 };
 
-    fn look(self, snapshot: &S) -> Self::Found
-        ensures { finds self snapshot.now result };
+    fn look(&self, snapshot: &S) -> Self::Found
+        ensures { finds self.now snapshot.now result };
 }

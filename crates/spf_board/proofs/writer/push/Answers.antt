@@ -13,4 +13,4 @@ publish_as-writer-requires g c =
     pushes g.K.Replay.replays g.K.Replay.after g.met.K.Replay.replays_after
     (λ p. p.snapshot) (λ p. p.front) (λ p. p.change) (λ p. p.front)
     c.args.post _ (drop w.behind w.log.items) w.desk.place.id (view w.desk.place) w.desk.shown.value
-    c.requires.rested ? follows
+    c.requires.rested c.in-Ok.ensures.pending follows
