@@ -5,7 +5,7 @@ use Rattle.std.proofs.lemmas.Bool.Decides.{nat_tests}
 use mathlib.Core.List.{IsPrefix}
 use Rattle.spf_history.specs.declared.entry.Entry.{Entry}
 use Rattle.spf_history.specs.declared.entry.Entry.TheVariants as entry
-use Rattle.spf_history.specs.Lists.{steps_of, is_ended, EndsLast}
+use Rattle.spf_history.specs.Lists.{steps_of, is_ended, EndsLast, IsBoardList, MayFollow}
 
 -- of two beginnings of one list the shorter begins the longer
 pub shorter_begins : {A : Type 0} (xs ys zs : List A) → IsPrefix xs zs → IsPrefix ys zs
@@ -81,3 +81,42 @@ unfolding steps_of
 steps_end [] = refl
 steps_end (entry.Step t ∷ list) = ap (λ l. t ∷ l) (steps_end list)
 steps_end (entry.End ∷ list) = steps_end list
+
+pub begins_trans : {A : Type 0} (xs ys zs : List A) → IsPrefix xs ys → IsPrefix ys zs
+    → IsPrefix xs zs
+begins_trans [] ys zs p q = (zs, refl)
+begins_trans (x ∷ xs) [] zs p q = absurd (cc (p.1))
+begins_trans (x ∷ xs) (y ∷ ys) [] p q = absurd (cc (q.1))
+begins_trans (x ∷ xs) (y ∷ ys) (z ∷ zs) p q =
+    let rest = begins_trans xs ys zs (p.0, cc (p.1)) (q.0, cc (q.1)) in
+    (rest.0, cc (p.1, q.1, rest.1))
+
+-- ---- what may come next
+
+pub first_may : {S : Type 0} (legal : List S → Type 0) (s : S) → legal (s ∷ [])
+    → MayFollow legal [] (entry.Step s)
+unfolding steps_of is_ended
+first_may legal s h = record { steps = h; unended = refl }
+
+pub step_may : {S : Type 0} (legal : List S → Type 0) (list : List (Entry S)) (s t : S)
+    → t ≡ s → legal (steps_of list ++ s ∷ []) → is_ended list ≡ false
+    → MayFollow legal list (entry.Step t)
+step_may legal list s t same h unended =
+    let may : MayFollow legal list (entry.Step s) =
+        record { steps = subst legal (sym (steps_more list s)) h; unended = unended } in
+    subst (λ x. MayFollow legal list (entry.Step x)) (sym same) may
+
+pub end_may : {S : Type 0} (legal : List S → Type 0) (list : List (Entry S))
+    → IsBoardList legal list → is_ended list ≡ false → MayFollow legal list entry.End
+end_may legal list board unended =
+    record { steps = subst legal (sym (steps_end list)) board.steps; unended = unended }
+
+pub first_steps : {S : Type 0} (list : List (Entry S)) (s : S) → list ≡ entry.Step s ∷ []
+    → steps_of list ≡ s ∷ []
+unfolding steps_of
+first_steps list s one = ap steps_of one
+
+pub first_unended : {S : Type 0} (list : List (Entry S)) (s : S) → list ≡ entry.Step s ∷ []
+    → is_ended list ≡ false
+unfolding is_ended
+first_unended list s one = ap is_ended one
