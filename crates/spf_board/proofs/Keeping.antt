@@ -80,9 +80,9 @@ module _ {S X N : Type 0} (replays : List S → X → Type 0) (snap : N → X) (
       → Merges holds seat v other w (informed v w) unbound
   merges seat v other w x views keeps at apart there =
       let book : w.bound ≡ true → book_of w ≡ (front x).book = ⊎_elim
-          (λ (t : (other ≡ seat) × (informed v w ≡ w)). absurd (apart t.0))
-          (λ (t : (other ≢ seat) × (get_elem? views other ≡ some w)). keeps.bound other w t.1)
-          (at_set views seat other (informed v w) w there) in
+      (λ (t : (other ≡ seat) × (informed v w ≡ w)). absurd (apart t.0))
+      (λ (t : (other ≢ seat) × (get_elem? views other ≡ some w)). keeps.bound other w t.1)
+      (at_set views seat other (informed v w) w there) in
       stays x (set views seat (informed v w)) other unbound
       (stays x views seat (informed v w) keeps book) (none_bound (front x).book)
 
@@ -107,39 +107,39 @@ module _ {S X N : Type 0} (replays : List S → X → Type 0) (snap : N → X) (
       → TurnsAt holds seat v x next (λ v x y w. Posts replays (snap y) (front y) w)
   claims f pending seat v x none next to =
       let same : ◌≡◌ {A = X × Past S} (snap next, front next) (snap x, front x) =
-          to ∙ ap (λ l. fold f (snap x, front x) l) none in
+      to ∙ ap (λ l. fold f (snap x, front x) l) none in
       posts seat v x next (ap (λ s. s.1.book) same)
       (λ stands. subst (λ (s : X × Past S). replays (steps_of s.1.list) s.0) (sym same) stands)
 
 module _ {S X : Type 0} (replays : List S → X → Type 0) (after : X → S → X)
     (law : (steps : List S) (x : X) (s : S) → replays steps x → replays (steps ++ s ∷ []) (after x s))
-    where
-  stands_more : (c : Change S) (list : List (Entry S)) (x : X) → replays (steps_of list) x
-      → replays (steps_of (list ++ entry_of c ∷ [])) (changed after x c)
-  stands_more (change.Step twice) list x stands =
-      subst (λ l. replays l (after x twice.first)) (sym (steps_more list twice.first))
-      (law (steps_of list) x twice.first stands)
-  stands_more change.End list x stands =
-      subst (λ l. replays l x) (sym (steps_end list)) stands
+  where
+    stands_more : (c : Change S) (list : List (Entry S)) (x : X) → replays (steps_of list) x
+        → replays (steps_of (list ++ entry_of c ∷ [])) (changed after x c)
+    stands_more (change.Step twice) list x stands =
+        subst (λ l. replays l (after x twice.first)) (sym (steps_more list twice.first))
+        (law (steps_of list) x twice.first stands)
+    stands_more change.End list x stands =
+        subst (λ l. replays l x) (sym (steps_end list)) stands
 
-  -- one change is published
-  pub pushes : {N P : Type 0} (snap : N → X) (front : N → Past S) (change : P → Change S)
-      (given : P → Past S) (post : P) (before pending : List P) (seat : ℕ) (v : Place) (x : N)
-      → before ≡ [] → pending ≡ before ++ post ∷ []
-      → given post ≡ added (front x) (entry_of (change post)) → (next : N)
-      → ◌≡◌ {A = X × Past S} (snap next, front next)
-      (fold (λ s p. (changed after s.0 (change p), given p)) (snap x, front x) pending)
-      → TurnsAt (λ y views. Keeps replays (snap y) (front y) views) seat v x next
-      (λ v x y w. Posts replays (snap y) (front y) w)
-  pushes {N} {P} snap front change given post before pending seat v x none is follows next to =
-      let f : X × Past S → P → X × Past S =
-          λ s p. (changed after s.0 (change p), given p) in
-      let alone : pending ≡ post ∷ [] = is ∙ ap (λ l. l ++ post ∷ []) none in
-      let to' : ◌≡◌ {A = X × Past S} (snap next, front next)
-          (changed after (snap x) (change post), given post) =
-          to ∙ ap (λ l. fold f (snap x, front x) l) alone in
-      let front' : front next ≡ added (front x) (entry_of (change post)) =
-          ap (λ s. s.1) to' ∙ follows in
-      posts replays snap front seat v x next (ap (λ p. p.book) front')
-      (λ stands. rw (front', ap (λ s. s.0) to')
-      (stands_more (change post) (front x).list (snap x) stands))
+    -- one change is published
+    pub pushes : {N P : Type 0} (snap : N → X) (front : N → Past S) (change : P → Change S)
+        (given : P → Past S) (post : P) (before pending : List P) (seat : ℕ) (v : Place) (x : N)
+        → before ≡ [] → pending ≡ before ++ post ∷ []
+        → given post ≡ added (front x) (entry_of (change post)) → (next : N)
+        → ◌≡◌ {A = X × Past S} (snap next, front next)
+        (fold (λ s p. (changed after s.0 (change p), given p)) (snap x, front x) pending)
+        → TurnsAt (λ y views. Keeps replays (snap y) (front y) views) seat v x next
+        (λ v x y w. Posts replays (snap y) (front y) w)
+    pushes {N} {P} snap front change given post before pending seat v x none is follows next to =
+        let f : X × Past S → P → X × Past S =
+        λ s p. (changed after s.0 (change p), given p) in
+        let alone : pending ≡ post ∷ [] = is ∙ ap (λ l. l ++ post ∷ []) none in
+        let to' : ◌≡◌ {A = X × Past S} (snap next, front next)
+        (changed after (snap x) (change post), given post) =
+        to ∙ ap (λ l. fold f (snap x, front x) l) alone in
+        let front' : front next ≡ added (front x) (entry_of (change post)) =
+        ap (λ s. s.1) to' ∙ follows in
+        posts replays snap front seat v x next (ap (λ p. p.book) front')
+        (λ stands. rw (front', ap (λ s. s.0) to')
+        (stands_more (change post) (front x).list (snap x) stands))

@@ -25,7 +25,7 @@ module _ {S : Type 0} where
       → KeepsAll (remembered seen entered m) (remembered then now n)
   keeps_taken seen entered now then m n same one two p q =
       let longer : IsPrefix seen.list now.list =
-          begins_trans seen.list entered.list now.list p q in
+      begins_trans seen.list entered.list now.list p q in
       record {
         book = ap (λ s. s.book) same ∙ two ∙ one;
         seen = subst (λ s. IsPrefix seen.list s.list) (sym same) longer;
@@ -45,7 +45,7 @@ module _ {S : Type 0} (legal : List S → Type 0) where
       → Renews legal (passed (remembered seen entered m) v) (passed (remembered then now n) w)
   renews_in replays finds seen entered now then m n v w found same p q found_is once =
       let longer : IsPrefix seen.list now.list =
-          begins_trans seen.list entered.list now.list p q in
+      begins_trans seen.list entered.list now.list p q in
       let board = found_is.board in
       let list = ap (λ s. s.list) same in
       record {
@@ -83,10 +83,13 @@ module _ {S : Type 0} (legal : List S → Type 0) where
         (passed (remembered seen now n) w) found
     peeks_kept seen entered now m n v w kept found stands board rose_is found_is = record {
       seen = refl;
-      cause = inr (rose_is, record {
-        shown = kept;
-        stands = stands;
-        board = board;
-        is_found = found_is;
-      });
+      cause = inr (
+        rose_is,
+        record {
+          shown = kept;
+          stands = stands;
+          board = board;
+          is_found = found_is;
+        },
+      );
     }

@@ -5,7 +5,7 @@
 
 mod kind;
 mod memory;
-mod open;
+mod opening;
 mod places;
 mod posted;
 mod rule;
@@ -13,8 +13,8 @@ mod writer;
 
 pub use kind::{Look, Replay};
 pub use memory::Memory;
-pub use open::PLACES;
-pub use places::PlaceFault;
+pub use opening::{PLACES, open_board};
+pub use places::{BoardPlaces, PlaceFault, RefusingPlaces};
 pub use posted::{Change, Post, Posted, Twice};
 pub use rule::{Place, PostReader, PostWriter, Reads};
 pub use writer::{publish_end, publish_step};

@@ -103,7 +103,7 @@ pub step_may : {S : Type 0} (legal : List S → Type 0) (list : List (Entry S)) 
     → MayFollow legal list (entry.Step t)
 step_may legal list s t same h unended =
     let may : MayFollow legal list (entry.Step s) =
-        record { steps = subst legal (sym (steps_more list s)) h; unended = unended } in
+    record { steps = subst legal (sym (steps_more list s)) h; unended = unended } in
     subst (λ x. MayFollow legal list (entry.Step x)) (sym same) may
 
 pub end_may : {S : Type 0} (legal : List S → Type 0) (list : List (Entry S))

@@ -110,7 +110,13 @@ fn write<K: Kind, X, M: Plain<X, Entry<K::Step>, u64>>(
     let old = *number;
     let mut offer: Offer<Entry<K::Step>, u64, Law<K>, Nothing> = seen.plain::<Nothing, X, M>(about);
     let mut pen = seen.no_pen();
-    let found = head.compare_exchange::<Adding<K>, Nothing>(old, old + 1, seen, &mut offer, &mut pen);
+    let found = head.compare_exchange::<Adding<K>, Nothing>(
+        old,
+        old + 1,
+        seen,
+        &mut offer,
+        &mut pen,
+    );
     *number = if found == old { old + 1 } else { found };
     found == old
 }

@@ -5,6 +5,8 @@ ghost use Rattle.left_right.specs.Sides.{view};
 ghost use Rattle.spf_history.specs.declared.entry.Entry.TheVariants as entry;
 ghost use Rattle.spf_board.specs.Board.{IsBoundTo, Posts};
 ghost use Rattle.spf_board.specs.Desks.{IsRested};
+ghost use Rattle.spf_board.specs.Passes.{remembered};
+ghost use Rattle.spf_history.specs.Lists.{IsBoardList};
 
 use crate::kind::Replay;
 use crate::memory::Memory;
@@ -81,10 +83,7 @@ fn seats<K: Replay>(
 }
 
 // The writer of a board with one step on it.
-fn blank<K: Replay>(
-    alloc: Global,
-    step: K::Step,
-) -> Result<(PostWriter<K>, Scribe<K>), OutOfMemory>
+fn blank<K: Replay>(alloc: Global, step: K::Step) -> Result<(PostWriter<K>, Scribe<K>), OutOfMemory>
     requires { K.legal (step ∷ []) }
     ensures rested { IfOk result (λ r. drop r.0.behind r.0.log.items ≡ []) }
     ensures front { IfOk result (λ r. (r.0.desk.shown.value.front ≡ r.1)
@@ -114,10 +113,10 @@ fn first_pass<K: Replay>(
 ) -> Result<(Memory<K>, Vec<PostReader<K>>), OutOfMemory>
     requires { Posts K.replays writer.old.desk.shown.value.snapshot
         writer.old.desk.shown.value.front (view writer.old.desk.place) }
-    ensures memory { IfOk result (λ r. (r.0.book ≡ writer.old.desk.shown.value.front.book)
-        × (r.0.seen ≡ writer.old.desk.shown.value.front.list)
-        × (r.0.entered ≡ writer.old.desk.shown.value.front.list)
-        × (r.0.missed ≡ 0)) }
+    ensures memory { IfOk result (λ r. r.0 ≡ remembered writer.old.desk.shown.value.front
+        writer.old.desk.shown.value.front 0) }
+    ensures board { IfOk result (λ r.
+        IsBoardList K.legal writer.old.desk.shown.value.front.list) }
     ensures bound { IfOk result (λ r.
         All (λ r. IsBoundTo (view r.place) writer.old.desk.shown.value.front.book) r.1.items) }
     ensures kept { (view writer.new.desk.place ≡ view writer.old.desk.place)
@@ -129,4 +128,36 @@ fn first_pass<K: Replay>(
     let posted = writer.published();
     let kept = K::copy(&posted.snapshot)?;
     Ok((Memory::new(posted.front.again(), kept), readers))
+}
+
+/// A board with one step on it: its writer, and what the first pass
+/// remembers, with the reader of each place. It waits for nobody.
+pub fn open_board<K: Replay, R: Wait>(
+    alloc: Global,
+    rt: &R,
+    step: K::Step,
+) -> Result<(PostWriter<K>, Scribe<K>, Memory<K>, Vec<PostReader<K>>), OutOfMemory>
+    requires { K.legal (step ∷ []) }
+    ensures rested { IfOk result (λ r. IsRested K.legal K.replays
+        (drop r.0.behind r.0.log.items) (view r.0.desk.place) r.0.desk.shown.value.snapshot
+        r.0.desk.shown.value.front (Some r.1)) }
+    ensures step { IfOk result (λ r. r.0.desk.shown.value.front.list ≡ entry.Step step ∷ []) }
+    ensures memory { IfOk result (λ r. r.2
+        ≡ remembered r.0.desk.shown.value.front r.0.desk.shown.value.front 0) }
+    ensures bound { IfOk result (λ r.
+        All (λ reader. IsBoundTo (view reader.place) r.0.desk.shown.value.front.book) r.3.items) }
+{
+    let (writer, scribe) = blank(alloc, step)?;
+    let (mut writer, claimed) = claim(rt, writer);
+    if let Err(e) = claimed {
+        drop(writer.take(rt));
+        return Err(e);
+    }
+    match first_pass(alloc, &mut writer) {
+        Ok((memory, readers)) => Ok((writer, scribe, memory, readers)),
+        Err(e) => {
+            drop(writer.take(rt));
+            Err(e)
+        }
+    }
 }

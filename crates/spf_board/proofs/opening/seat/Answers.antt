@@ -1,6 +1,6 @@
 use Rattle.std.proofs.Common.{rules}
 use Rattle.spf_board.proofs.Keeping.{admits, forks, merges}
-use Rattle.spf_board.proofs.open.seat.Goals as goal
+use Rattle.spf_board.proofs.opening.seat.Goals as goal
 
 pub reader-requires : goal.reader-requires
 reader-requires g c = admits g.K.Replay.replays (λ p. p.snapshot) (λ p. p.front)

@@ -1,7 +1,7 @@
 use Rattle.std.proofs.Common.{◌≡◌, All}
 use Rattle.left_right.specs.Sides.{view}
 use Rattle.spf_board.specs.Board.{IsBoundTo}
-use Rattle.spf_board.proofs.open.seats.Given as goal
+use Rattle.spf_board.proofs.opening.seats.Given as goal
 
 abbrev pub invariant-loop : goal.invariant-loop
 invariant-loop g l = record {

@@ -1,7 +1,7 @@
 use Rattle.std.proofs.Common.{drop}
 use Rattle.left_right.specs.Sides.{view}
 use Rattle.spf_board.proofs.Keeping.{claims}
-use Rattle.spf_board.proofs.open.claim.Goals as goal
+use Rattle.spf_board.proofs.opening.claim.Goals as goal
 
 pub publish_as-writer-requires : goal.publish_as-writer-requires
 publish_as-writer-requires g c =
