@@ -89,6 +89,16 @@ impl Snapshot {
         }
     }
 
+    /// A copy, which shares what is held.
+    pub fn try_clone(&self) -> Result<Snapshot, OutOfMemory>
+        ensures { IfOk result (λ s. s ≡ self.now) }
+    {
+        Ok(Snapshot {
+            revision: self.revision,
+            standing: self.standing.try_clone()?,
+        })
+    }
+
     pub fn state(&self, closed: bool) -> Result<X509SourceState, OutOfMemory>
         ensures { IfOk result
             (λ s. s ≡ record {
@@ -124,8 +134,8 @@ impl Snapshot {
         &self.standing
     }
 
-    /// Whether a line shows the choice at the moment.
-    pub(crate) fn shows_choice(&self, now: Option<i64>) -> bool
+    /// Whether the choice is there and usable at the moment.
+    pub fn shows_choice(&self, now: Option<i64>) -> bool
         ensures { result
             ≡ is_some (spec.usable (option_and_then chosen_of (held_in self.now.view)) now) }
     {
