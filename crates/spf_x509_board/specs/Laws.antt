@@ -15,7 +15,7 @@ abbrev pub first : PlainStep → Kept Material Denial
 first step = record { revision = 0; view = shown_by step }
 
 pub first_accepts : (step : PlainStep) → Legal (step ∷ []) → IsTrue (is_accept step)
-first_accepts (Accept m l) legal = tt
+first_accepts (Accept m l) legal = refl
 first_accepts (Deny d) legal = absurd legal.begins
 
 pub replays_first : (step : PlainStep) → Legal (step ∷ []) → Replays (step ∷ []) (first step)
