@@ -1,6 +1,6 @@
 //! What counts the places that passes are refused.
 
-ghost use Rattle.std.specs.Prelude.{◌≡◌};
+ghost use Rattle.std.specs.Prelude.{◌≡◌, ◌≤◌};
 ghost use Rattle.spf_board.specs.Passes.{Rose};
 ghost use Rattle.spf_board.specs.declared.places.PlaceFault.TheVariants as fault;
 
@@ -37,6 +37,7 @@ impl BoardPlaces {
 
     /// Counts a refusal.
     pub fn refuse(&mut self) -> PlaceFault
+        ensures later { self.old ≤ self.new }
         ensures counted { Rose self.old self.new }
         ensures fault { result ≡ fault.Refused }
     {
@@ -68,6 +69,7 @@ impl RefusingPlaces {
 
     /// Counts a refusal.
     pub fn refuse(&mut self) -> PlaceFault
+        ensures later { self.old ≤ self.new }
         ensures counted { Rose self.old self.new }
         ensures fault { result ≡ fault.Refused }
     {

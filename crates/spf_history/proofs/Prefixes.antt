@@ -120,3 +120,16 @@ pub first_unended : {S : Type 0} (list : List (Entry S)) (s : S) → list ≡ en
     → is_ended list ≡ false
 unfolding is_ended
 first_unended list s one = ap is_ended one
+
+pub ended_end : {S : Type 0} (list : List (Entry S)) → is_ended (list ++ entry.End ∷ []) ≡ true
+unfolding is_ended
+ended_end [] = refl
+ended_end (entry.Step s ∷ list) = ended_end list
+ended_end (entry.End ∷ list) = refl
+
+pub unended_step : {S : Type 0} (list : List (Entry S)) (s : S)
+    → is_ended list ≡ false → is_ended (list ++ entry.Step s ∷ []) ≡ false
+unfolding is_ended
+unended_step [] s unended = refl
+unended_step (entry.Step t ∷ list) s unended = unended_step list s unended
+unended_step (entry.End ∷ list) s unended = cc

@@ -86,15 +86,15 @@ impl<R: Wait + Drop> Held<R> {
         (Held { writer, scribe, rt }, result)
     }
 
-    fn end(self) -> (Held<R>, Result<(), OutOfMemory>)
+    // Says whether the end was published.
+    fn end(self) -> (Held<R>, bool)
         requires { is_ended self.list ≡ false }
-        ensures ok { OnOk result.1 (result.0 ≡ added self entry.End) }
-        ensures err { OnErr result.1 (result.0 ≡ self) }
-        ensures board { IsBoardList Legal result.0.list }
+        ensures whole { result.1 ≡ is_ended result.0.list }
+        ensures ended { (result.0 ≡ added self entry.End) ⊎ (result.0 ≡ self) }
     {
         let Held { writer, scribe, rt } = self;
         let (writer, scribe, result) = publish_end(&rt, writer, scribe);
-        (Held { writer, scribe, rt }, result)
+        (Held { writer, scribe, rt }, result.is_ok())
     }
 }
 
@@ -174,11 +174,8 @@ impl<R: Wait + Drop> Desk<R> {
     {
         let Desk { held, alloc: _ } = self;
         let Some(held) = held else { unreachable!() };
-        let (held, result) = held.end();
-        Ended {
-            held,
-            whole: result.is_ok(),
-        }
+        let (held, whole) = held.end();
+        Ended { held, whole }
     }
 }
 
