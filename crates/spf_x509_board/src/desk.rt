@@ -159,6 +159,7 @@ impl<R: Wait + Drop> Desk<R> {
         requires { Legal (steps_of self.old.list ++ step ∷ []) }
         ensures ok { OnOk result (self.new ≡ added self.old (entry.Step step)) }
         ensures err { OnErr result (self.new ≡ self.old) }
+        ensures book { self.new.book ≡ self.old.book }
     {
         let Some(held) = self.held.take() else {
             unreachable!()
@@ -170,7 +171,8 @@ impl<R: Wait + Drop> Desk<R> {
 
     /// Publishes the end. Where that finds no memory there is an ended writer too, without an End.
     pub fn end(self) -> Ended<R>
-        ensures { (result ≡ added self entry.End) ⊎ (result ≡ self) }
+        ensures ended { (result ≡ added self entry.End) ⊎ (result ≡ self) }
+        ensures book { result.book ≡ self.book }
     {
         let Desk { held, alloc: _ } = self;
         let Some(held) = held else { unreachable!() };
@@ -180,12 +182,18 @@ impl<R: Wait + Drop> Desk<R> {
 }
 
 impl<R: Wait + Drop> Publisher for Desk<R> {
-    ghost use Rattle.std.specs.Prelude.{Some};
+    ghost use Rattle.std.specs.Prelude.{◌≡◌, Some};
     ghost use Rattle.spf_history.specs.Lists.{steps_of};
+    ghost use Rattle.spf_feed.specs.Records.{RecordAppends};
+    ghost use Rattle.spf_feed.specs.Steps.{plain};
 
     ghost steps = { λ d. Some (steps_of d.list) };
 
-    fn publish(&mut self, step: Step) -> Result<(), OutOfMemory> {
+    fn publish(&mut self, step: Step) -> Result<(), OutOfMemory>
+        ensures appends { RecordAppends (Some (steps_of self.old.list))
+            (Some (steps_of self.new.list)) result (plain step) }
+        ensures book { self.new.book ≡ self.old.book }
+    {
         let step = Prepared::new(self.alloc, step)?;
         self.put(step)
     }

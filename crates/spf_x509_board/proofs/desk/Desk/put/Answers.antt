@@ -5,7 +5,7 @@ use Rattle.spf_history.specs.Lists.{steps_of, is_ended, IsBoardList}
 use Rattle.spf_history.specs.Past.{added}
 use Rattle.spf_board.specs.Desks.{no_past}
 use Rattle.spf_x509_board.specs.Steps.{Legal}
-use Rattle.spf_x509_board.proofs.Publishing.{unended_by}
+use Rattle.spf_x509_board.proofs.Publishing.{unended_by, book_by}
 use Rattle.spf_x509_board.proofs.desk.Desk.put.Goals as goal
 
 pub put-held-requires-clause-legal : goal.put-held-requires-clause-legal
@@ -33,3 +33,12 @@ returns-clause-ok g c =
         ∙ ap (λ o. unwrap_or o no_past) (sym c.take.ensures.value ∙ c.in-Some.is) in
     subst (λ p. OnOk c.put-held.result.1
     (c.put-held.result.0 ≡ added p (entry.Step c.args.step))) (sym here) c.put-held.ensures.ok
+
+pub returns-clause-book : goal.returns-clause-book
+returns-clause-book g c =
+    let here : c.args.self.now ≡ c.in-Some.held =
+        sym c.self.view_is
+        ∙ ap (λ o. unwrap_or o no_past) (sym c.take.ensures.value ∙ c.in-Some.is) in
+    book_by c.put-held.result.1 c.in-Some.held c.put-held.result.0 c.args.step
+    c.put-held.ensures.ok c.put-held.ensures.err
+    ∙ ap (λ p. p.book) (sym here)
