@@ -185,11 +185,12 @@ impl<R: Wait + Drop> Publisher for Desk<R> {
     ghost use Rattle.std.specs.Prelude.{◌≡◌, Some};
     ghost use Rattle.spf_history.specs.Lists.{steps_of};
     ghost use Rattle.spf_feed.specs.Records.{RecordAppends};
-    ghost use Rattle.spf_feed.specs.Steps.{plain};
+    ghost use Rattle.spf_feed.specs.Steps.{plain, MayFollow};
 
     ghost steps = { λ d. Some (steps_of d.list) };
 
     fn publish(&mut self, step: Step) -> Result<(), OutOfMemory>
+        requires { MayFollow (Some (steps_of self.old.list)) (plain step) }
         ensures appends { RecordAppends (Some (steps_of self.old.list))
             (Some (steps_of self.new.list)) result (plain step) }
         ensures book { self.new.book ≡ self.old.book }

@@ -139,8 +139,8 @@ impl Pass {
         }
     }
 
-    /// Gives the place back to a giver of the same board. Where
-    /// that finds no memory, the place ends with this pass.
+    /// Gives its places to a giver of the same board, its spare ones only where the
+    /// giver has none. Where that finds no memory, the place ends with this pass.
     pub fn give_back(self, giver: &mut Pass)
         requires { self.book ≡ giver.old.book }
         ensures { giver.new ≡ giver.old }
@@ -148,9 +148,12 @@ impl Pass {
         let Pass {
             reader,
             memory: _memory,
-            spares: _spares,
+            spares,
             alloc: _,
         } = self;
+        if giver.spares.is_empty() {
+            giver.spares = spares;
+        }
         if let Some(reader) = reader {
             giver.take_back(reader);
         }

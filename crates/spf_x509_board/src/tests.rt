@@ -83,7 +83,12 @@ fn a_board_has_sixty_four_places(rt: HostRuntime) -> Result<(), Fail> {
         others.push(other)?;
     }
     assert!(rt; matches!(places.take(&mut pass), Err(PlaceFault::Refused)));
-    assert!(rt; matches!(RefusingPlaces::new().take(&mut pass), Err(PlaceFault::Refused)));
+    assert!(rt;
+        matches!(
+            RefusingPlaces::new().take(&mut pass),
+            Err(PlaceFault::Refused)
+        )
+    );
     assert!(rt; !pass.is_usable(Some(0)));
     Ok(())
 }

@@ -14,8 +14,8 @@ pub new-requires-2-clause-reader : goal.new-requires-2-clause-reader
 new-requires-2-clause-reader g c =
     let book = c.in_ok-writer.writer.desk.shown.value.front.book in
     let popped = All-pop (λ r. IsBoundTo (view r.place) book) c.in_ok-writer.readers.items
-        c.pop.new.self.items c.pop.result c.pop.ensures.items c.in_ok-writer.ensures.bound in
+    c.pop.new.self.items c.pop.result c.pop.ensures.items c.in_ok-writer.ensures.bound in
     let bound : IsBoundTo (view c.in-Some.reader.place) book =
-        subst (λ o. IfSome o (λ r. IsBoundTo (view r.place) book)) c.in-Some.is popped.1 in
+    subst (λ o. IfSome o (λ r. IsBoundTo (view r.place) book)) c.in-Some.is popped.1 in
     subst (λ b. IsBoundTo (view c.in-Some.reader.place) b)
     (ap (λ m. m.book) (sym c.in_ok-writer.ensures.memory)) bound
