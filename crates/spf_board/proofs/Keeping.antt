@@ -7,7 +7,6 @@ use Rattle.left_right.specs.Register.{Admits, TurnsAt, Turns, Forks, Merges}
 use Rattle.atomic_table.proofs.Lists.{at_set, at_snoc, set_again}
 use Rattle.logbook.specs.Pages.{Book}
 use Rattle.spf_history.specs.declared.entry.Entry.{Entry}
-use Rattle.spf_history.specs.declared.entry.Entry.TheVariants as entry
 use Rattle.spf_history.specs.Lists.{steps_of}
 use Rattle.spf_history.specs.Past.{Past, added}
 use Rattle.spf_history.proofs.Prefixes.{steps_more, steps_end}

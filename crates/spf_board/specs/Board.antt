@@ -1,11 +1,11 @@
 -- The rule of a board: the snapshot stands for its history,
 -- and whoever is bound is bound to that history.
-use Rattle.std.specs.Prelude.{◌≡◌, ℕ, ◌+◌, true, false, List, Option, IfSome, [], ◌≢◌}
+use Rattle.std.specs.Prelude.{◌≡◌, ℕ, ◌+◌, true, false, List}
 use mathlib.Core.Option.{some}
 use lib.ListN.{get_elem?}
 use Rattle.logbook.specs.Pages.{Book}
-use Rattle.spf_history.specs.Lists.{steps_of, IsBoardList}
-use Rattle.spf_history.specs.Past.{Past, past}
+use Rattle.spf_history.specs.Lists.{steps_of}
+use Rattle.spf_history.specs.Past.{Past}
 use Rattle.spf_board.specs.declared.rule.Place.{Place}
 
 abbrev pub unbound : Place

@@ -1,6 +1,5 @@
 -- What a writer holds between two calls.
 use Rattle.std.specs.Prelude.{◌≡◌, List, [], Option, IfSome}
-use Rattle.logbook.specs.Pages.{Book}
 use Rattle.spf_history.specs.Lists.{steps_of, IsBoardList}
 use Rattle.spf_history.specs.Past.{Past, past}
 use Rattle.spf_board.specs.declared.rule.Place.{Place}

@@ -1,6 +1,6 @@
 -- What a publish leaves.
-use Rattle.std.proofs.Common.{◌≡◌, ◌⊎◌, Bool, true, false, List, [], ◌∷◌, ◌++◌, Some, Result, Ok, Err}
-use Rattle.std.proofs.Common.{OnOk, OnErr, inl, inr, ⊎_elim, refl, sym, ap, ◌∙◌, subst}
+use Rattle.std.proofs.Common.{◌≡◌, ◌⊎◌, false, Some, Result, Ok, Err}
+use Rattle.std.proofs.Common.{OnOk, OnErr, inl, inr, ⊎_elim, sym, ap, ◌∙◌}
 use Rattle.std.specs.Result.{is_ok}
 use Rattle.spf_history.specs.declared.entry.Entry.{Entry}
 use Rattle.spf_history.specs.declared.entry.Entry.TheVariants as entry

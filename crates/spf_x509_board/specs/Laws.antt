@@ -1,6 +1,6 @@
 -- What a first step, and one more step, replay to.
-use Rattle.std.proofs.Common.{◌≡◌, Bool, true, false, cond, List, [], ◌∷◌, ◌++◌, IsTrue, refl, subst}
-use Rattle.spf_view.specs.Standing.{Kept, Stands, IsShowing, is_change, shown_by, kept_next, raised}
+use Rattle.std.proofs.Common.{◌≡◌, Bool, true, false, cond, List, [], ◌∷◌, ◌++◌, IsTrue, refl}
+use Rattle.spf_view.specs.Standing.{Kept, IsShowing, is_change, shown_by, kept_next, raised}
 use Rattle.spf_view.proofs.StandsLemmas.{stands_opening, stands_changed, stands_unchanged}
 use Rattle.spf_feed.proofs.Alike.{material_equiv}
 use Rattle.spf_feed.specs.declared.step.Denial.{Denial}

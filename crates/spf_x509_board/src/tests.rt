@@ -1,14 +1,15 @@
 //! A board that threads share, and its places.
 
-ghost use Rattle.std.specs.Prelude.{◌≡◌, Some, [], IfOk};
+ghost use Rattle.std.specs.Prelude.{◌≡◌, ◌≢◌, Some, [], IfOk};
+ghost use Rattle.spf_history.specs.Lists.{steps_of};
 ghost use Rattle.spf_feed.specs.Steps.{MayFollow};
 
-use crate::{BoardPlaces, PLACES, Pass, PlaceFault, Places, RefusingPlaces, open, settle};
+use crate::{BoardPlaces, Desk, PLACES, Pass, PlaceFault, Places, RefusingPlaces, open, settle};
 use spf_feed::{Denial, Prepared, Publisher, ResourceLimits, Step, validate_limits};
 use spf_io::OutOfMemory;
 use spf_x509::{X509BundleSet, X509Context};
 use std::alloc::Global;
-use std::sync::Arc;
+use std::sync::{Arc, Wait};
 use std::test::Fail;
 use std::thread;
 
@@ -32,10 +33,13 @@ fn accepted(alloc: Global) -> Result<Prepared, OutOfMemory>
     Prepared::new(alloc, step)
 }
 
-fn denied(alloc: Global) -> Result<Step, OutOfMemory> {
-    Ok(Step::Deny {
-        reason: Arc::new(alloc, Denial::NoIdentityIssued)?,
-    })
+// Publishes a denial.
+fn withdraw<R: Wait + Drop>(alloc: Global, desk: &mut Desk<R>) -> Result<(), OutOfMemory>
+    requires { steps_of desk.old.list ≢ [] }
+    ensures { desk.new.book ≡ desk.old.book }
+{
+    let reason = Arc::new(alloc, Denial::NoIdentityIssued)?;
+    desk.publish(Step::Deny { reason })
 }
 
 // Whether a revision is read within so many turns.
@@ -62,7 +66,7 @@ fn a_step_is_read_on_another_thread(rt: HostRuntime) -> Result<(), Fail> {
     let Ok(reader) = thread::spawn(&rt, move || reads(&mut other, 1)) else {
         return Err(OutOfMemory.into());
     };
-    let _published = desk.publish(denied(alloc)?)?;
+    withdraw(alloc, &mut desk)?;
     assert!(rt; reader.join(&rt));
     let _recorded = settle(desk.end(), &mut pass)?;
     let state = pass.state(true)?;

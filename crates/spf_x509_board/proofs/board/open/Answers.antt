@@ -1,4 +1,4 @@
-use Rattle.std.proofs.Common.{Some, IfSome, ap, ◌∙◌, sym, subst}
+use Rattle.std.proofs.Common.{IfSome, ap, ◌∙◌, sym, subst}
 use Rattle.std.proofs.lemmas.List.Elements.{All-pop}
 use Rattle.left_right.specs.Sides.{view}
 use Rattle.spf_history.proofs.Prefixes.{first_unended}

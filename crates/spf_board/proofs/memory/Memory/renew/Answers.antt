@@ -1,4 +1,3 @@
-use Rattle.std.proofs.Common.{sym}
 use Rattle.left_right.specs.Sides.{view}
 use Rattle.spf_board.proofs.Reading.{keeps_taken, renews_in}
 use Rattle.spf_board.proofs.memory.Memory.renew.Goals as goal

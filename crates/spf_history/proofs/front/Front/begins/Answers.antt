@@ -1,4 +1,4 @@
-use Rattle.std.proofs.Common.{List, ap, subst, refl}
+use Rattle.std.proofs.Common.{ap, subst, refl}
 use mathlib.Core.List.{IsPrefix}
 use Rattle.spf_history.proofs.Prefixes.{begins_by}
 use Rattle.spf_history.proofs.front.Front.begins.Goals as goal
