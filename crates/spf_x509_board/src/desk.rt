@@ -179,6 +179,15 @@ impl<R: Wait + Drop> Desk<R> {
         let (held, whole) = held.end();
         Ended { held, whole }
     }
+
+    /// Publishes nothing more, not even the end.
+    pub fn stop(self) -> Ended<R>
+        ensures { result ≡ self }
+    {
+        let Desk { held, alloc: _ } = self;
+        let Some(held) = held else { unreachable!() };
+        Ended { held, whole: false }
+    }
 }
 
 impl<R: Wait + Drop> Publisher for Desk<R> {
