@@ -1,9 +1,9 @@
 //! Starts nothing.
 
-ghost use Rattle.std.specs.Prelude.{◌≡◌, ◌+◌, ◌-◌, ◌^◌, min};
+ghost use Rattle.std.specs.Prelude.{◌≡◌};
 
 use crate::inline::Held;
-use crate::job::{Job, Spawner};
+use crate::job::{Job, Joins, Spawner};
 use spf_io::Failed;
 
 /// Refuses each job, and counts.
@@ -29,12 +29,15 @@ impl RefusingSpawner {
 
 impl<J: Job> Spawner<J> for RefusingSpawner {
     ghost use Rattle.std.specs.Prelude.{◌≡◌, ◌+◌, ◌-◌, ◌^◌, min, IsErr};
+    ghost use Rattle.spf_job.specs.Starts.{Starts};
 
     type Handle = Held<J>;
 
     ghost refusals = { λ s. s.refusals };
 
     fn start(&mut self, job: J) -> Result<Held<J>, Failed>
+        ensures starts { Starts (⟦<Held<J> as Joins<J>>⟧.job) self.old.refusals self.new.refusals job
+            result }
         ensures refused { IsErr result }
         ensures counted { self.new.refusals ≡ min (self.old.refusals + 1) (2 ^ 64 - 1) }
     {
