@@ -3,7 +3,7 @@ use Rattle.std.proofs.Common.{◌≡◌, Bool, true, List, [], ◌∷◌, Option
 use Rattle.std.proofs.Common.{refl, sym, ap, subst, arith, length, take_all}
 use Rattle.spf_view.specs.Sessions.{Grows, GrowsUpTo}
 use Rattle.spf_view.proofs.FollowLemmas.{grows_nil, grows_none}
-use Rattle.spf_feed.specs.Records.{RecordAppends}
+use Rattle.spf_feed.specs.Records.{RecordAppends, AppendsOnce}
 use Rattle.std.specs.Prelude.{IsErr}
 use Rattle.std.specs.Option.{option_to_list}
 use Rattle.spf_feed.specs.declared.record.MetricsRecord.{MetricsRecord}
@@ -32,6 +32,20 @@ one_more (Some before) None r x h = absurd h
 one_more (Some before) (Some after) (Ok done) x h = h
 one_more (Some before) (Some after) (Err e) x h =
     none_since (Some before) (Some after) (x ∷ []) (ap Some h)
+
+pub appends_once : {R T E : Type 0} (old new : Option (List R)) (r : Result (Unit {0}) E)
+    (result : Result T E) (x : R) → RecordAppends old new r x → (IsErr result → IsErr r)
+    → (IsErr r → IsErr result) → AppendsOnce old new result x
+appends_once None None (Ok done) (Ok y) x h bad worse = tt
+appends_once None None (Ok done) (Err e) x h bad worse = refl
+appends_once None None (Err e) (Ok y) x h bad worse = tt
+appends_once None None (Err e) (Err f) x h bad worse = refl
+appends_once None (Some after) r result x h bad worse = absurd h
+appends_once (Some before) None r result x h bad worse = absurd h
+appends_once (Some before) (Some after) (Ok done) (Ok y) x h bad worse = h
+appends_once (Some before) (Some after) (Err e) (Err f) x h bad worse = ap Some h
+appends_once (Some before) (Some after) (Ok done) (Err e) x h bad worse = absurd (bad tt)
+appends_once (Some before) (Some after) (Err e) (Ok y) x h bad worse = absurd (worse tt)
 
 -- a refused call handed on a beginning
 pub stopped_there : {X T E : Type 0} (old new : Option (List X)) (r : Result T E) (more : List X)

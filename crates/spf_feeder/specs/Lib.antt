@@ -1,0 +1,5 @@
+pub mod Asking
+pub mod Attempts
+pub mod Coming
+pub mod Fed
+pub mod Kept

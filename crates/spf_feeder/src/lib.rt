@@ -1,0 +1,14 @@
+//! The feeder of a live source: it asks a connector and its link, one ask a turn, and publishes the
+//! step of each event before it asks again.
+#![tactic(auto)]
+
+mod ask;
+mod attempt;
+mod feeder;
+mod received;
+mod session;
+#[cfg(test)]
+mod tests;
+
+pub use feeder::Feeder;
+pub use session::Stop;
