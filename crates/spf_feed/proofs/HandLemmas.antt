@@ -33,19 +33,18 @@ one_more (Some before) (Some after) (Ok done) x h = h
 one_more (Some before) (Some after) (Err e) x h =
     none_since (Some before) (Some after) (x ∷ []) (ap Some h)
 
-pub appends_once : {R T E : Type 0} (old new : Option (List R)) (r : Result (Unit {0}) E)
-    (result : Result T E) (x : R) → RecordAppends old new r x → (IsErr result → IsErr r)
-    → (IsErr r → IsErr result) → AppendsOnce old new result x
-appends_once None None (Ok done) (Ok y) x h bad worse = tt
-appends_once None None (Ok done) (Err e) x h bad worse = refl
-appends_once None None (Err e) (Ok y) x h bad worse = tt
-appends_once None None (Err e) (Err f) x h bad worse = refl
-appends_once None (Some after) r result x h bad worse = absurd h
-appends_once (Some before) None r result x h bad worse = absurd h
-appends_once (Some before) (Some after) (Ok done) (Ok y) x h bad worse = h
-appends_once (Some before) (Some after) (Err e) (Err f) x h bad worse = ap Some h
-appends_once (Some before) (Some after) (Ok done) (Err e) x h bad worse = absurd (bad tt)
-appends_once (Some before) (Some after) (Err e) (Ok y) x h bad worse = absurd (worse tt)
+-- a refused call leaves the list as it was
+pub refused_same : {R E : Type 0} (old new : Option (List R)) (e : E) (x : R)
+    → RecordAppends old new (Err e) x → new ≡ old
+refused_same None None e x h = refl
+refused_same None (Some after) e x h = absurd h
+refused_same (Some before) None e x h = absurd h
+refused_same (Some before) (Some after) e x h = ap Some h
+
+pub appends_none : {R T E : Type 0} (old new : Option (List R)) (r : Result T E) (x : R) → IsErr r
+    → new ≡ old → AppendsOnce old new r x
+appends_none old new (Ok done) x bad same = absurd cc
+appends_none old new (Err e) x bad same = same
 
 -- a refused call handed on a beginning
 pub stopped_there : {X T E : Type 0} (old new : Option (List X)) (r : Result T E) (more : List X)
