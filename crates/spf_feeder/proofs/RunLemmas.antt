@@ -1,8 +1,9 @@
 -- What one event more does to what is kept of a run.
 use Rattle.std.proofs.Common.{◌≡◌, Bool, true, false, cond, List, [], ◌∷◌, ◌++◌, reverse, Option}
-use Rattle.std.proofs.Common.{None, Some, Ok, Err, refl, sym, ap, ◌∙◌, subst}
+use Rattle.std.proofs.Common.{None, Some, Ok, Err, inl, refl, sym, ap, ◌∙◌, subst}
 use Rattle.std.specs.Prelude.{ℤ, is_some, IsTrue, IfSome}
-use Rattle.std.specs.Option.{option_or, option_to_list}
+use Rattle.std.specs.Borrow.{Bor}
+use Rattle.std.specs.Option.{option_or, option_map, option_to_list}
 use Rattle.std.proofs.lemmas.List.{append-nil}
 use Rattle.spf_view.specs.Views.{has_synced, outcome, outcome_with, Accepted, Denied, Passed}
 use Rattle.spf_view.specs.Keeping.{IsAt, kept_with_any}
@@ -24,10 +25,10 @@ use Rattle.spf_feed.specs.declared.turn.Turn.{Turn}
 use Rattle.spf_feed.specs.declared.turn.Turn.TheVariants as turns
 use Rattle.spf_feed.specs.Events.{map_item}
 use Rattle.spf_feed.specs.Following.{TurnState, TurnTaken, changes_any}
-use Rattle.spf_feed.specs.Items.{Event, Rules, context_in, moment_of, subject, subject_by}
+use Rattle.spf_feed.specs.Items.{Event, Received, Rules, context_in, subject}
 use Rattle.spf_feed.specs.Received.{received_ask, received_moment, received_outcome}
 use Rattle.spf_feed.specs.Received.{received_records, received_refusal}
-use Rattle.spf_feed.specs.Run.{ask_of, asked_by, outputs, refusal_by, records_by, stream}
+use Rattle.spf_feed.specs.Run.{ask_of, asked_by, outputs, records_by, stream}
 use Rattle.spf_feed.specs.Steps.{Accept, Deny, HasStep, Material, PlainStep, same_material}
 use Rattle.spf_feed.specs.Turns.{IsTurn, listed}
 use Rattle.spf_feed.proofs.Alike.{material_equiv}
@@ -35,7 +36,10 @@ use Rattle.spf_feed.proofs.Loop.{kept_after}
 use Rattle.spf_feed.proofs.Turned.{IsThrough, step_after, turn_at, went}
 use Rattle.spf_feed.proofs.TurnLemmas.{asked-map_item}
 use Rattle.spf_feeder.specs.Attempts.{attempt_end, end_with, gave_accepted, gave_with, is_accepted}
-use Rattle.spf_feeder.specs.Kept.{Going, Published, StepAppended, WentBy, accepts}
+use Rattle.spf_feeder.specs.declared.session.Stop.{Stop}
+use Rattle.spf_feeder.specs.declared.session.Stop.TheVariants as stops
+use Rattle.spf_feeder.specs.Kept.{Advanced, Advances, Core, Going, Published, PublishesTurn, StepAppended}
+use Rattle.spf_feeder.specs.Kept.{WentBy, accepts}
 
 -- ---- the step and the records of a turn
 
@@ -120,6 +124,30 @@ TurnOf rules kept now e turn =
     IsTurn (received_refusal rules.deadline (is_some kept) (map_item context_in e))
     (received_outcome rules (is_some kept) now (map_item context_in e))
     (received_records (is_some kept) rules.limits (map_item context_in e)) turn
+
+-- the picker that is lent picks as the one that is kept
+pub lent_picker : {A B : Type 0} (f : A → B) (lent : Option (Bor A)) (kept : Option A)
+    → option_map (λ p. p.now) lent ≡ kept → option_map (λ p. f p.now) lent ≡ option_map f kept
+lent_picker f None kept h = ap (option_map f) h
+lent_picker f (Some x) kept h = ap (option_map f) h
+
+pub turn_as : (rules lent : Rules) (kept : Option (Kept Material Denial)) (synced : Bool)
+    (now : Option ℤ) (e : Event) (received : Received) (turn : Turn) → lent ≡ rules
+    → synced ≡ is_some kept → received ≡ map_item context_in e
+    → IsTurn (received_refusal rules.deadline synced received)
+    (received_outcome lent synced now received) (received_records synced rules.limits received) turn
+    → TurnOf rules kept now e turn
+turn_as rules lent kept synced now e received turn p q r h =
+    subst (λ x.
+    IsTurn (received_refusal rules.deadline (is_some kept) x)
+    (received_outcome rules (is_some kept) now x)
+    (received_records (is_some kept) rules.limits x) turn) r
+    (subst (λ b.
+    IsTurn (received_refusal rules.deadline b received) (received_outcome rules b now received)
+    (received_records b rules.limits received) turn) q
+    (subst (λ s.
+    IsTurn (received_refusal rules.deadline synced received) (received_outcome s synced now received)
+    (received_records synced rules.limits received) turn) p h))
 
 pub turn_done : (rules : Rules) (run : List Event) (e : Event) (turn : Turn)
     (kept kept' : Option (Kept Material Denial)) (steps steps' : Option (List PlainStep))
@@ -248,3 +276,113 @@ end_is rules run e turn kept kept' steps steps' records now phase phase' gave en
     is ∙ sym (end-map_item context_in phase' gave e)
     ∙ (λ i. end_with (asks i) (sym g.gave_is i) e) in
     unless ∙ (λ i. cond (done.accepted i) None (with i))
+
+-- ---- all of it
+
+pub record AdvancedBy (rules : Rules) (run : List Event) (e : Event)
+    (kept : Option (Kept Material Denial)) (steps : Option (List PlainStep)) (records : Records)
+    (now : Option ℤ) (phase : Phase) (gave : Bool) (end : Option AttemptEnd) : Type 0 where
+  pub published : Published steps rules (run ++ e ∷ [])
+  pub going : Going rules (run ++ e ∷ []) steps kept now phase gave
+  pub none : (stream rules).refusal (reverse run) e ≡ None
+  pub records_are : listed records ≡ (outputs rules).records (reverse run) e
+  pub end_is : end ≡ attempt_end rules (reverse run) e
+
+pub advanced_by : (rules lent : Rules) (run : List Event) (e : Event) (received : Received)
+    (turn : Turn) (kept kept' : Option (Kept Material Denial)) (steps steps' : Option (List PlainStep))
+    (records : Records) (now now' : Option ℤ) (phase phase' : Phase)
+    (gave gave' synced accepted : Bool) (end end' : Option AttemptEnd) → Published steps rules run
+    → Going rules run steps kept now phase gave → lent ≡ rules → synced ≡ is_some kept
+    → received ≡ map_item context_in e
+    → IsTurn (received_refusal rules.deadline synced received)
+    (received_outcome lent synced now received) (received_records synced rules.limits received) turn
+    → WentBy rules.limits turn kept steps records kept' steps'
+    → now' ≡ option_or (received_moment received) now
+    → phase' ≡ received_ask phase synced received
+    → accepted ≡ accepts turn → gave' ≡ gave_with gave accepted e
+    → (IsTrue (is_some kept') → HasStep steps') → end ≡ end_with phase' gave received
+    → end' ≡ cond accepted None end
+    → AdvancedBy rules run e kept' steps' records now' phase' gave' end'
+advanced_by rules lent run e received turn kept kept' steps steps' records now now' phase phase' gave
+    gave' synced accepted end end' p g same is_synced is_received h w moment ask accepts_is gives
+    step ends unless =
+    let turned = turn_as rules lent kept synced now e received turn same is_synced is_received h in
+    let done = turn_done rules run e turn kept kept' steps steps' records now phase gave g turned w in
+    let asks : phase' ≡ received_ask phase (is_some kept) (map_item context_in e) =
+    ask ∙ (λ i. received_ask phase (is_synced i) (is_received i)) in
+    record {
+      published = published_more rules run e turn kept kept' steps steps' records done p;
+      going = going_more rules run e turn kept kept' steps steps' records now now' phase phase' gave
+          gave' g done (moment ∙ ap (λ r. option_or (received_moment r) now) is_received) asks
+          (gives ∙ ap (λ b. gave_with gave b e) accepts_is) step;
+      none = done.none;
+      records_are = done.records_are;
+      end_is = end_is rules run e turn kept kept' steps steps' records now phase phase' gave end end'
+          g done asks (ends ∙ ap (λ r. end_with phase' gave r) is_received)
+          (unless ∙ ap (λ b. cond b None end) accepts_is);
+    }
+
+-- a turn that was refused
+pub refused_by : {P M K : Type 0} (recorded : M → Option (List MetricsRecord)) (rules lent : Rules)
+    (run : List Event) (e : Event) (received : Received) (turn : Turn)
+    (kept kept' : Option (Kept Material Denial)) (steps steps' : Option (List PlainStep))
+    (now : Option ℤ) (phase : Phase) (gave synced : Bool) (stop : Stop) (old new : Core P M K)
+    → Going rules run steps kept now phase gave → lent ≡ rules → synced ≡ is_some kept
+    → received ≡ map_item context_in e
+    → IsTurn (received_refusal rules.deadline synced received)
+    (received_outcome lent synced now received) (received_records synced rules.limits received) turn
+    → PublishesTurn rules.limits turn kept steps (Err stop) kept' steps' → old.run ≡ run
+    → new.run ≡ run → new.stuck ≡ true → Advances recorded rules old e (Err stop) new
+refused_by recorded rules lent run e received turn kept kept' steps steps' now phase gave synced
+    (stops.Terminal end) old new g same is_synced is_received h p was is stuck =
+    let turned = turn_as rules lent kept synced now e received turn same is_synced is_received h in
+    let at = turn_at rules (reverse run) now kept e turn g.at turned in
+    let ended : IsTurn ((stream rules).refusal (reverse run) e)
+    (outcome (subject rules) e (reverse run))
+    (records_by context_in (has_synced (subject rules) (reverse run)) rules.limits e)
+    (turns.Terminal end) =
+    subst (λ t.
+    IsTurn ((stream rules).refusal (reverse run) e) (outcome (subject rules) e (reverse run))
+    (records_by context_in (has_synced (subject rules) (reverse run)) rules.limits e) t) p.0 at in
+    record {
+      run_is = is ∙ sym was;
+      stuck_is = stuck;
+      refused = subst (λ r. (stream rules).refusal (reverse r) e ≡ Some end) (sym was) ended;
+    }
+refused_by recorded rules lent run e received turn kept kept' steps steps' now phase gave synced
+    stops.OutOfMemory old new g same is_synced is_received h p was is stuck =
+    record { run_is = inl (is ∙ sym was); stuck_is = stuck }
+
+pub going_at : (rules : Rules) (run run' : List Event) (steps : Option (List PlainStep))
+    (kept : Option (Kept Material Denial)) (now : Option ℤ) (phase : Phase) (gave : Bool)
+    → run' ≡ run → Going rules run steps kept now phase gave
+    → Going rules run' steps kept now phase gave
+going_at rules run run' steps kept now phase gave same g =
+    subst (λ l. Going rules l steps kept now phase gave) (sym same) g
+
+-- the same of the core as contracts see it
+pub advanced_of : {P M K : Type 0} (recorded : M → Option (List MetricsRecord)) (rules seen : Rules)
+    (old before new : Core P M K) (e : Event) (kept : Option (Kept Material Denial))
+    (steps : Option (List PlainStep)) (records : Records) (now : Option ℤ) (phase : Phase)
+    (gave : Bool) (end : Option AttemptEnd) → rules ≡ seen → before ≡ old
+    → AdvancedBy rules before.run e kept steps records now phase gave end
+    → new.run ≡ before.run ++ e ∷ [] → new.stuck ≡ false
+    → Grows (recorded before.recorder) (recorded new.recorder) (listed records)
+    → Advanced recorded seen old e end new
+advanced_of {P} {M} {K} recorded rules seen old before new e kept steps records now phase gave end
+    same is done run goes grown =
+    subst (λ r. Advanced recorded r old e end new) same
+    (subst (λ (o : Core P M K). Advanced recorded rules o e end new) is (record {
+      run_is = run;
+      goes_on = goes;
+      unrefused = done.none;
+      end_is = done.end_is;
+      records_are = subst (Grows (recorded before.recorder) (recorded new.recorder))
+          done.records_are grown;
+    }))
+
+pub refused_of : {P M K : Type 0} (recorded : M → Option (List MetricsRecord)) (rules seen : Rules)
+    (old new : Core P M K) (e : Event) (stop : Stop) → rules ≡ seen
+    → Advances recorded rules old e (Err stop) new → Advances recorded seen old e (Err stop) new
+refused_of recorded rules seen old new e stop same h =
+    subst (λ r. Advances recorded r old e (Err stop) new) same h

@@ -20,6 +20,11 @@ use Rattle.spf_feeder.specs.Asking.{Asked, AsksOnce, told_by_connect, told_by_st
 use Rattle.spf_feeder.specs.Coming.{Coming, Holds, LinkHolds, answers_in, left_at, told_at}
 use Rattle.spf_feeder.specs.Fed.{IsReady}
 
+-- a fact of what a call that went through gave
+pub if_ok : {T E : Type 0} (q : Result T E) (P : T → Type 0) → ((x : T) → q ≡ Ok x → P x) → IfOk q P
+if_ok (Ok x) P f = f x refl
+if_ok (Err e) P f = tt
+
 -- what a `connect` tells, and what it leaves
 connect_told : {L : Type 0} (answers : L → Option (List Answer)) (members : List Member)
     (new : Option (List Member)) (answer : Result L ClientFault) (e : Event)
@@ -29,8 +34,8 @@ connect_told : {L : Type 0} (answers : L → Option (List Answer)) (members : Li
     × LinkHolds answers (answers_in (connected_by members)) (value_of answer)
 connect_told answers members new (Ok link) e c told = (
   c.0,
-  ap told_by_connect c.1.1.1 ∙ told,
-  c.1.1.0 ∙ ap (λ m. Some (answers_in m)) (sym c.1.1.1),
+  ap told_by_connect c.1.2 ∙ told,
+  c.1.1 ∙ ap (λ m. Some (answers_in m)) (sym c.1.2),
 )
 connect_told answers members new (Err client.OutOfMemory) e c told = absurd cc
 connect_told answers members new (Err (client.Status s)) e c told =

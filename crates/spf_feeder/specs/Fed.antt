@@ -21,14 +21,14 @@ use Rattle.spf_feeder.specs.Coming.{AllTold, Holds, left_after}
 use Rattle.spf_feeder.specs.Kept.{Advanced, Core, Stopped}
 
 -- What contracts see of a feeder.
-pub record Fed (S L P M : Type 0) : Type 0 where
+pub record Fed (S L P M K : Type 0) : Type 0 where
   -- the connector and its link
   pub asked : Asked S L
-  pub core : Core P M
+  pub core : Core P M K
   -- the connector as it was handed in
   pub first : S
 
-abbrev pub fed : {S L P M : Type 0} → S → Option L → Core P M → S → Fed S L P M
+abbrev pub fed : {S L P M K : Type 0} → S → Option L → Core P M K → S → Fed S L P M K
 fed connector link core first = record {
   asked = record { connector = connector; link = link };
   core = core;
@@ -51,27 +51,28 @@ pub record Tells {S L : Type 0} (members : S → Option (List Member))
   pub rest : Holds members answers (left_after rules first (reverse run)) asked.connector asked.link
 
 -- A turn that went through: one ask, one event more, which is published before the next turn.
-pub record TurnedOnce {S L P M : Type 0} (connector : connectors.Ghosts S L) (link : links.Ghosts L)
-    (records : M → Option (List MetricsRecord)) (old : Fed S L P M) (end : Option AttemptEnd)
-    (new : Fed S L P M) : Type 0 where
+pub record TurnedOnce {S L P M K : Type 0} (connector : connectors.Ghosts S L)
+    (link : links.Ghosts L) (records : M → Option (List MetricsRecord)) (rules : Rules)
+    (old : Fed S L P M K) (end : Option AttemptEnd) (new : Fed S L P M K) : Type 0 where
   pub event : Event
   pub asked : AsksOnce {E = OutOfMemory} connector link
-      (ask_of context_in old.core.rules (reverse old.core.run)) old.asked (Ok event) new.asked
-  pub advanced : Advanced records old.core event end new.core
+      (ask_of context_in rules (reverse old.core.run)) old.asked (Ok event) new.asked
+  pub advanced : Advanced records rules old.core event end new.core
 
 -- A turn that is refused: at most one ask, at most one event more, and no turn after it asks.
-pub record TurnedAway {S L P M : Type 0} (connector : connectors.Ghosts S L) (link : links.Ghosts L)
-    (old new : Fed S L P M) : Type 0 where
+pub record TurnedAway {S L P M K : Type 0} (connector : connectors.Ghosts S L)
+    (link : links.Ghosts L) (rules : Rules) (old new : Fed S L P M K) : Type 0 where
   pub event : Event
   pub answer : Result Event OutOfMemory
-  pub asked : AsksOnce connector link (ask_of context_in old.core.rules (reverse old.core.run))
+  pub asked : AsksOnce connector link (ask_of context_in rules (reverse old.core.run))
       old.asked answer new.asked ⊎ (new.asked ≡ old.asked)
   pub stopped : Stopped old.core event new.core
   pub idle : old.core.stuck ≡ true → (new.asked ≡ old.asked) × (new.core.run ≡ old.core.run)
 
 -- what a turn does
-abbrev pub Turns : {S L P M E : Type 0} → connectors.Ghosts S L → links.Ghosts L
-    → (M → Option (List MetricsRecord)) → Fed S L P M → Result (Option AttemptEnd) E → Fed S L P M
-    → Type 0
-Turns connector link records old (Ok end) new = TurnedOnce connector link records old end new
-Turns connector link records old (Err e) new = TurnedAway connector link old new
+abbrev pub Turns : {S L P M K E : Type 0} → connectors.Ghosts S L → links.Ghosts L
+    → (M → Option (List MetricsRecord)) → Rules → Fed S L P M K → Result (Option AttemptEnd) E
+    → Fed S L P M K → Type 0
+Turns connector link records rules old (Ok end) new =
+    TurnedOnce connector link records rules old end new
+Turns connector link records rules old (Err e) new = TurnedAway connector link rules old new

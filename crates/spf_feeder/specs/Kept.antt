@@ -1,6 +1,8 @@
 -- What is kept of a run: its events, oldest first, what it published, and where it stands.
-use Rattle.std.specs.Prelude.{◌≡◌, ℤ, Bool, true, false, IsTrue, is_some, List, ◌∷◌, [], ◌++◌}
+use Rattle.std.specs.Prelude.{◌≡◌, ℕ, ℤ, Bool, true, false, IsTrue, is_some, List, ◌∷◌, [], ◌++◌}
 use Rattle.std.specs.Prelude.{reverse, Option, None, Some, Result, Ok, Err, ◌⊎◌, IfSome}
+use Rattle.std.specs.Option.{option_map}
+use Rattle.spf_x509.specs.Svid.{Svid}
 use Rattle.spf_pace.specs.declared.pacer.AttemptEnd.{AttemptEnd}
 use Rattle.spf_view.specs.Keeping.{IsAt, kept_with_any}
 use Rattle.spf_view.specs.Sessions.{Grows}
@@ -9,7 +11,8 @@ use Rattle.spf_view.specs.Steps.{steps_of}
 use Rattle.spf_feed.specs.declared.phase.Phase.{Phase}
 use Rattle.spf_feed.specs.declared.record.MetricsRecord.{MetricsRecord}
 use Rattle.spf_feed.specs.declared.step.Denial.{Denial}
-use Rattle.spf_feed.specs.Items.{Event, Rules, subject, context_in}
+use Rattle.spf_feed.specs.declared.turn.SessionRules.{SessionRules}
+use Rattle.spf_feed.specs.Items.{Event, Rules, rules_with, subject, context_in}
 use Rattle.spf_feed.specs.Run.{ask_of, stream, outputs}
 use Rattle.spf_feed.specs.Steps.{Accept, Deny, HasStep, Material, PlainStep, same_material}
 use Rattle.spf_feed.specs.declared.limits.ResourceLimits.{ResourceLimits}
@@ -29,22 +32,30 @@ abbrev pub Published : Option (List PlainStep) → Rules → List Event → Type
 Published steps rules run = IfSome steps (λ s. s ≡ steps_of (subject rules) run)
 
 -- what contracts see of the core of a feeder
-pub record Core (P M : Type 0) : Type 0 where
+pub record Core (P M K : Type 0) : Type 0 where
   pub publisher : P
   pub recorder : M
-  pub rules : Rules
+  pub settings : SessionRules
+  pub picker : Option K
   pub run : List Event
   -- memory ran out, or a terminal event was told: nothing more is taken
   pub stuck : Bool
 
-abbrev pub core_of : {P M : Type 0} → P → M → Rules → List Event → Bool → Core P M
-core_of publisher recorder rules run stuck = record {
+abbrev pub core_of : {P M K : Type 0} → P → M → SessionRules → Option K → List Event → Bool
+    → Core P M K
+core_of publisher recorder settings picker run stuck = record {
   publisher = publisher;
   recorder = recorder;
-  rules = rules;
+  settings = settings;
+  picker = picker;
   run = run;
   stuck = stuck;
 }
+
+-- the rules of a session, where `picks` is what pickers pick
+abbrev pub rules_by : {K : Type 0} → (K → List Svid → Option ℕ) → SessionRules → Option K → Rules
+rules_by picks settings picker =
+    rules_with settings.limits settings.deadline settings.ready (option_map picks picker)
 
 -- what is kept in place stands for the events so far
 pub record Going (rules : Rules) (run : List Event) (steps : Option (List PlainStep))
@@ -56,32 +67,33 @@ pub record Going (rules : Rules) (run : List Event) (steps : Option (List PlainS
   pub synced : IsTrue (is_some kept) → HasStep steps
 
 -- One event more went through: its step was published and its records were recorded.
-pub record Advanced {P M : Type 0} (records : M → Option (List MetricsRecord)) (old : Core P M)
-    (e : Event) (end : Option AttemptEnd) (new : Core P M) : Type 0 where
+pub record Advanced {P M K : Type 0} (records : M → Option (List MetricsRecord)) (rules : Rules)
+    (old : Core P M K) (e : Event) (end : Option AttemptEnd) (new : Core P M K) : Type 0 where
   pub run_is : new.run ≡ old.run ++ e ∷ []
   pub goes_on : new.stuck ≡ false
-  pub unrefused : (stream old.rules).refusal (reverse old.run) e ≡ None
-  pub end_is : end ≡ attempt_end old.rules (reverse old.run) e
+  pub unrefused : (stream rules).refusal (reverse old.run) e ≡ None
+  pub end_is : end ≡ attempt_end rules (reverse old.run) e
   pub records_are : Grows (records old.recorder) (records new.recorder)
-      ((outputs old.rules).records (reverse old.run) e)
+      ((outputs rules).records (reverse old.run) e)
 
 -- The event is terminal: it is no event of the run.
-pub record Ended {P M : Type 0} (old : Core P M) (e : Event) (end : Terminal)
-    (new : Core P M) : Type 0 where
+pub record Ended {P M K : Type 0} (rules : Rules) (old : Core P M K) (e : Event) (end : Terminal)
+    (new : Core P M K) : Type 0 where
   pub run_is : new.run ≡ old.run
   pub stuck_is : new.stuck ≡ true
-  pub refused : (stream old.rules).refusal (reverse old.run) e ≡ Some end
+  pub refused : (stream rules).refusal (reverse old.run) e ≡ Some end
 
 -- Memory ran out: the event is in the run exactly where its step, if it has one, was published.
-pub record Stopped {P M : Type 0} (old : Core P M) (e : Event) (new : Core P M) : Type 0 where
+pub record Stopped {P M K : Type 0} (old : Core P M K) (e : Event) (new : Core P M K) :
+    Type 0 where
   pub run_is : (new.run ≡ old.run) ⊎ (new.run ≡ old.run ++ e ∷ [])
   pub stuck_is : new.stuck ≡ true
 
-abbrev pub Advances : {P M : Type 0} → (M → Option (List MetricsRecord)) → Core P M → Event
-    → Result (Option AttemptEnd) Stop → Core P M → Type 0
-Advances records old e (Ok end) new = Advanced records old e end new
-Advances records old e (Err (stops.Terminal end)) new = Ended old e end new
-Advances records old e (Err stops.OutOfMemory) new = Stopped old e new
+abbrev pub Advances : {P M K : Type 0} → (M → Option (List MetricsRecord)) → Rules → Core P M K
+    → Event → Result (Option AttemptEnd) Stop → Core P M K → Type 0
+Advances records rules old e (Ok end) new = Advanced records rules old e end new
+Advances records rules old e (Err (stops.Terminal end)) new = Ended rules old e end new
+Advances records rules old e (Err stops.OutOfMemory) new = Stopped old e new
 
 -- ---- one turn
 

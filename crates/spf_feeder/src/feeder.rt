@@ -1,10 +1,9 @@
 //! The feeder. Its fields are private to this module: nothing else asks its connector or its link.
 
 ghost use Rattle.std.specs.Prelude.{◌≡◌, [], false, IfSome};
-ghost use Rattle.std.specs.Option.{ForSome, option_map};
-ghost use Rattle.spf_feed.specs.Items.{rules_with};
+ghost use Rattle.std.specs.Option.{ForSome};
 ghost use Rattle.spf_feeder.specs.Fed.{Turns};
-ghost use Rattle.spf_feeder.specs.Kept.{Published, core_of};
+ghost use Rattle.spf_feeder.specs.Kept.{Published, core_of, rules_by};
 
 use crate::ask::ask;
 use crate::session::{Session, Stop};
@@ -49,17 +48,20 @@ where
     ghost use Rattle.spf_feed.specs.Items.{context_in};
     ghost use Rattle.spf_feed.specs.Run.{ask_of};
     ghost use Rattle.spf_feeder.specs.Fed.{Fed, fed, IsReady, Tells};
-    ghost use Rattle.spf_feeder.specs.Kept.{Published};
+    ghost use Rattle.spf_feeder.specs.Kept.{Published, rules_by};
 
-    ghost Value = { Fed C C.Link P M };
+    ghost Value = { Fed C C.Link P M K };
 
     ghost view = { λ f. fed f.connector f.link f.session f.first.value };
 
-    ghost invariant = { λ f. Published (P.steps f.session.publisher) f.session.rules f.session.run
-        × (f.session.stuck ≡ false
-        → IsReady C.Link.kind (ask_of context_in f.session.rules (reverse f.session.run)) f.link)
+    ghost invariant = { λ f. Published (P.steps f.session.publisher)
+        (rules_by K.picks f.session.settings f.session.picker) f.session.run
+        × (f.session.stuck ≡ false → IsReady C.Link.kind
+        (ask_of context_in (rules_by K.picks f.session.settings f.session.picker)
+        (reverse f.session.run)) f.link)
         × (f.session.stuck ≡ false → IfSome (C.members f.first.value)
-        (λ first. Tells C.members C.Link.answers f.session.rules f.session.run
+        (λ first. Tells C.members C.Link.answers
+        (rules_by K.picks f.session.settings f.session.picker) f.session.run
         (record { connector = f.connector; link = f.link }) first)) };
 }
 
@@ -83,9 +85,7 @@ where
     ) -> Feeder<C, P, M, K>
         requires picker { ForSome picker K.can_pick }
         requires unused { IfSome (P.steps publisher) (λ steps. steps ≡ []) }
-        ensures core { result.core ≡ core_of publisher recorder
-            (rules_with rules.limits rules.deadline rules.ready (option_map K.picks picker)) []
-            false }
+        ensures core { result.core ≡ core_of publisher recorder rules picker [] false }
         ensures first { result.first ≡ connector }
     {
         let first = snapshot::Snapshot::of(&connector);
@@ -107,11 +107,13 @@ where
 
     /// Asks once, publishes the step of the event that was told, and records it.
     pub(crate) fn ask_once(&mut self) -> Result<Option<AttemptEnd>, Stop>
-        ensures rules { self.new.core.rules ≡ self.old.core.rules }
+        ensures settings { self.new.core.settings ≡ self.old.core.settings }
+        ensures picker { self.new.core.picker ≡ self.old.core.picker }
         ensures first { self.new.first ≡ self.old.first }
-        ensures published { Published (P.steps self.new.core.publisher) self.new.core.rules
-            self.new.core.run }
-        ensures turn { Turns C.Connector C.Link.Link M.records self.old result self.new }
+        ensures published { Published (P.steps self.new.core.publisher)
+            (rules_by K.picks self.new.core.settings self.new.core.picker) self.new.core.run }
+        ensures turn { Turns C.Connector C.Link.Link M.records
+            (rules_by K.picks self.old.core.settings self.old.core.picker) self.old result self.new }
     {
         if self.session.is_stuck() {
             return Err(Stop::OutOfMemory);
@@ -129,11 +131,13 @@ where
     /// One turn: asks once, and publishes the step of the event that was told. Once a turn was
     /// refused, each later one is refused and asks nothing.
     pub fn turn(&mut self) -> Result<Option<AttemptEnd>, OutOfMemory>
-        ensures rules { self.new.core.rules ≡ self.old.core.rules }
+        ensures settings { self.new.core.settings ≡ self.old.core.settings }
+        ensures picker { self.new.core.picker ≡ self.old.core.picker }
         ensures first { self.new.first ≡ self.old.first }
-        ensures published { Published (P.steps self.new.core.publisher) self.new.core.rules
-            self.new.core.run }
-        ensures turn { Turns C.Connector C.Link.Link M.records self.old result self.new }
+        ensures published { Published (P.steps self.new.core.publisher)
+            (rules_by K.picks self.new.core.settings self.new.core.picker) self.new.core.run }
+        ensures turn { Turns C.Connector C.Link.Link M.records
+            (rules_by K.picks self.old.core.settings self.old.core.picker) self.old result self.new }
     {
         match self.ask_once() {
             Ok(end) => Ok(end),

@@ -3,14 +3,15 @@
 ghost use Rattle.std.specs.Prelude.{◌≡◌, ◌∷◌, [], true, false, None, Some, IsTrue, IfOk, OnOk};
 ghost use Rattle.std.specs.Prelude.{IfSome, reverse, is_some, if◌then◌else◌};
 ghost use Rattle.std.specs.Arc.{arc_value};
-ghost use Rattle.std.specs.Option.{ForSome, option_map};
+ghost use Rattle.std.specs.Option.{ForSome};
 ghost use Rattle.spf_view.specs.Views.{has_synced};
-ghost use Rattle.spf_feed.specs.Items.{context_in, rules_with, subject};
+ghost use Rattle.spf_feed.specs.Items.{context_in, subject};
 ghost use Rattle.spf_feed.specs.Run.{ask_of};
 ghost use Rattle.spf_feed.specs.Following.{update_of};
 ghost use Rattle.spf_feed.specs.Steps.{HasStep};
 ghost use Rattle.spf_feed.specs.Turns.{MayTake, listed};
 ghost use Rattle.spf_feeder.specs.Kept.{Advances, Published, PublishesTurn, accepts, core_of};
+ghost use Rattle.spf_feeder.specs.Kept.{rules_by};
 
 use crate::attempt::{end_of, gave_after};
 use crate::received::received_of;
@@ -35,8 +36,9 @@ pub enum Stop {
 
 impl From<OutOfMemory> for Stop {
     ghost use Rattle.std.specs.Prelude.{◌≡◌};
+    ghost use Rattle.spf_feeder.specs.declared.session.Stop.TheVariants as stops;
 
-    ghost from_gives = { λ _ s. s ≡ Stop.OutOfMemory };
+    ghost from_gives = { λ _ s. s ≡ stops.OutOfMemory };
 
     fn from(_e: OutOfMemory) -> Stop {
         Stop::OutOfMemory
@@ -114,7 +116,7 @@ pub(crate) struct Session<P: Publisher + Drop, M: MetricsRecorder + Drop, K: Svi
     rules: SessionRules,
     events: Vec<Event>,
     snapshot: Option<Snapshot>,
-    now: Option<i64>,
+    moment: Option<i64>,
     phase: Phase,
     gave_accepted: bool,
     stuck: bool,
@@ -123,23 +125,16 @@ pub(crate) struct Session<P: Publisher + Drop, M: MetricsRecorder + Drop, K: Svi
 impl<P: Publisher + Drop, M: MetricsRecorder + Drop, K: SvidPicker + Drop> Model
     for Session<P, M, K> {
     ghost use Rattle.std.specs.Prelude.{◌≡◌, false};
-    ghost use Rattle.std.specs.Option.{ForSome, option_map};
-    ghost use Rattle.spf_feed.specs.Items.{rules_with};
-    ghost use Rattle.spf_feeder.specs.Kept.{Core, core_of, Published, Going};
+    ghost use Rattle.std.specs.Option.{ForSome};
+    ghost use Rattle.spf_feeder.specs.Kept.{Core, core_of, Published, Going, rules_by};
 
-    ghost Value = { Core P M };
+    ghost Value = { Core P M K };
 
-    ghost view = { λ s. core_of s.publisher s.recorder
-        (rules_with s.rules.limits s.rules.deadline s.rules.ready (option_map K.picks s.picker))
-        s.events.items s.stuck };
+    ghost view = { λ s. core_of s.publisher s.recorder s.rules s.picker s.events.items s.stuck };
 
     ghost invariant = { λ s. ForSome s.picker K.can_pick
-        × Published (P.steps s.publisher)
-        (rules_with s.rules.limits s.rules.deadline s.rules.ready (option_map K.picks s.picker))
-        s.events.items
-        × (s.stuck ≡ false → Going
-        (rules_with s.rules.limits s.rules.deadline s.rules.ready (option_map K.picks s.picker))
-        s.events.items (P.steps s.publisher) s.snapshot s.now s.phase s.gave_accepted) };
+        × Published (P.steps s.publisher) (rules_by K.picks s.rules s.picker) s.events.items
+        × (s.stuck ≡ false → Going (rules_by K.picks s.rules s.picker) s.events.items (P.steps s.publisher) s.snapshot s.moment s.phase s.gave_accepted) };
 }
 
 impl<P: Publisher + Drop, M: MetricsRecorder + Drop, K: SvidPicker + Drop> Session<P, M, K> {
@@ -153,9 +148,7 @@ impl<P: Publisher + Drop, M: MetricsRecorder + Drop, K: SvidPicker + Drop> Sessi
     ) -> Session<P, M, K>
         requires picker { ForSome picker K.can_pick }
         requires unused { IfSome (P.steps publisher) (λ steps. steps ≡ []) }
-        ensures { result ≡ core_of publisher recorder
-            (rules_with rules.limits rules.deadline rules.ready (option_map K.picks picker)) []
-            false }
+        ensures { result ≡ core_of publisher recorder rules picker [] false }
     {
         Session {
             alloc,
@@ -165,7 +158,7 @@ impl<P: Publisher + Drop, M: MetricsRecorder + Drop, K: SvidPicker + Drop> Sessi
             rules,
             events: Vec::new(alloc),
             snapshot: None,
-            now: None,
+            moment: None,
             phase: Phase::Client,
             gave_accepted: false,
             stuck: false,
@@ -181,14 +174,16 @@ impl<P: Publisher + Drop, M: MetricsRecorder + Drop, K: SvidPicker + Drop> Sessi
     /// What is asked next.
     pub(crate) fn phase(&self) -> Phase
         requires { self.now.stuck ≡ false }
-        ensures { result ≡ ask_of context_in self.now.rules (reverse self.now.run) }
+        ensures { result ≡ ask_of context_in (rules_by K.picks self.now.settings self.now.picker)
+            (reverse self.now.run) }
     {
         self.phase
     }
 
     pub(crate) fn is_synced(&self) -> bool
         requires { self.now.stuck ≡ false }
-        ensures { result ≡ has_synced (subject self.now.rules) (reverse self.now.run) }
+        ensures { result ≡ has_synced
+            (subject (rules_by K.picks self.now.settings self.now.picker)) (reverse self.now.run) }
     {
         self.snapshot.is_some()
     }
@@ -203,7 +198,8 @@ impl<P: Publisher + Drop, M: MetricsRecorder + Drop, K: SvidPicker + Drop> Sessi
     /// Takes no further event.
     pub(crate) fn stop(&mut self)
         ensures unchanged { self.new ≡ record self.old { stuck = true } }
-        ensures published { Published (P.steps self.new.publisher) self.new.rules self.new.run }
+        ensures published { Published (P.steps self.new.publisher)
+            (rules_by K.picks self.new.settings self.new.picker) self.new.run }
     {
         self.stuck = true;
     }
@@ -212,9 +208,12 @@ impl<P: Publisher + Drop, M: MetricsRecorder + Drop, K: SvidPicker + Drop> Sessi
     /// recorded.
     pub(crate) fn advance(&mut self, event: Event) -> Result<Option<AttemptEnd>, Stop>
         requires going { self.old.stuck ≡ false }
-        ensures rules { self.new.rules ≡ self.old.rules }
-        ensures published { Published (P.steps self.new.publisher) self.new.rules self.new.run }
-        ensures advances { Advances M.records self.old event result self.new }
+        ensures settings { self.new.settings ≡ self.old.settings }
+        ensures picker { self.new.picker ≡ self.old.picker }
+        ensures published { Published (P.steps self.new.publisher)
+            (rules_by K.picks self.new.settings self.new.picker) self.new.run }
+        ensures advances { Advances M.records
+            (rules_by K.picks self.old.settings self.old.picker) self.old event result self.new }
     {
         self.stuck = true;
         if self.events.reserve(1).is_err() {
@@ -224,8 +223,8 @@ impl<P: Publisher + Drop, M: MetricsRecorder + Drop, K: SvidPicker + Drop> Sessi
         let received = received_of(self.alloc, &event)?;
         let next = phase_after(self.phase, synced, &received);
         let end = end_of(self.alloc, next, self.gave_accepted, &received)?;
-        let moment = moment_after(self.now, &received);
-        let turn = turn_of(self.rules, self.picker.as_ref(), synced, self.now, received);
+        let after = moment_after(self.moment, &received);
+        let turn = turn_of(self.rules, self.picker.as_ref(), synced, self.moment, received);
         let is_accepted = is_accepted(&turn);
         let limits = self.rules.limits;
         let records =
@@ -233,7 +232,7 @@ impl<P: Publisher + Drop, M: MetricsRecorder + Drop, K: SvidPicker + Drop> Sessi
         self.gave_accepted = gave_after(self.gave_accepted, is_accepted, &event);
         self.events.push_reserved(event);
         self.phase = next;
-        self.now = moment;
+        self.moment = after;
         record_all(&mut self.recorder, records)?;
         self.stuck = false;
         Ok(unless(is_accepted, end))
