@@ -59,15 +59,26 @@ pub record TurnedOnce {S L P M K : Type 0} (connector : connectors.Ghosts S L)
       (ask_of context_in rules (reverse old.core.run)) old.asked (Ok event) new.asked
   pub advanced : Advanced records rules old.core event end new.core
 
--- A turn that is refused: at most one ask, at most one event more, and no turn after it asks.
+-- nothing was asked, and no event was added
+pub record IsIdle {S L P M K : Type 0} (old new : Fed S L P M K) : Type 0 where
+  pub asked : new.asked ≡ old.asked
+  pub run_is : new.core.run ≡ old.core.run
+
+-- one ask, and at most the event that it told
+pub record AsksInVain {S L P M K : Type 0} (connector : connectors.Ghosts S L)
+    (link : links.Ghosts L) (rules : Rules) (old new : Fed S L P M K) : Type 0 where
+  pub answer : Result Event OutOfMemory
+  pub asked : AsksOnce connector link (ask_of context_in rules (reverse old.core.run)) old.asked
+      answer new.asked
+  pub run_is : (new.core.run ≡ old.core.run)
+      ⊎ ((e : Event) × (answer ≡ Ok e) × (new.core.run ≡ old.core.run ++ e ∷ []))
+
+-- A turn that is refused: at most one ask, and no turn after it asks.
 pub record TurnedAway {S L P M K : Type 0} (connector : connectors.Ghosts S L)
     (link : links.Ghosts L) (rules : Rules) (old new : Fed S L P M K) : Type 0 where
-  pub event : Event
-  pub answer : Result Event OutOfMemory
-  pub asked : AsksOnce connector link (ask_of context_in rules (reverse old.core.run))
-      old.asked answer new.asked ⊎ (new.asked ≡ old.asked)
-  pub stopped : Stopped old.core event new.core
-  pub idle : old.core.stuck ≡ true → (new.asked ≡ old.asked) × (new.core.run ≡ old.core.run)
+  pub how : IsIdle old new ⊎ AsksInVain connector link rules old new
+  pub stuck_is : new.core.stuck ≡ true
+  pub idle : old.core.stuck ≡ true → IsIdle old new
 
 -- what a turn does
 abbrev pub Turns : {S L P M K E : Type 0} → connectors.Ghosts S L → links.Ghosts L
