@@ -3,3 +3,5 @@ pub mod Attempts
 pub mod Coming
 pub mod Fed
 pub mod Kept
+pub mod Pacing
+pub mod Times

@@ -5,10 +5,12 @@
 mod ask;
 mod attempt;
 mod feeder;
+mod pace;
 mod received;
 mod session;
 #[cfg(test)]
 mod tests;
 
 pub use feeder::Feeder;
+pub use pace::Pace;
 pub use session::Stop;
