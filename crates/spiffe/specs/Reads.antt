@@ -1,0 +1,68 @@
+-- What the calls of a source return, and what they do to the pass that they are lent.
+use Rattle.std.specs.Prelude.{◌≡◌, ◌⊎◌, ℕ, ℤ, Bool, true, false, List, Option, Some, None, Result}
+use Rattle.std.specs.Prelude.{Ok, Err}
+use Rattle.std.specs.Option.{option_map}
+use Rattle.std.specs.Arc.{arc_value}
+use Rattle.std.specs.declared.alloc.Global.{Global}
+use Rattle.std.specs.declared.sync.Arc.{Arc}
+use mathlib.Core.List.{IsPrefix}
+use Rattle.spf_x509.specs.Bundle.{Bundle, find_entry}
+use Rattle.spf_feed.specs.declared.state.X509SourceError.{X509SourceError}
+use Rattle.spf_feed.specs.declared.state.X509SourceError.TheVariants as errors
+use Rattle.spf_feed.specs.declared.step.Denial.{Denial}
+use Rattle.spf_feed.specs.Steps.{PlainStep, StateView, View, Material, held_in, reason_of}
+use Rattle.spf_board.specs.Passes.{Passed, Renews}
+use Rattle.spf_x509_board.specs.Steps.{Legal}
+use Rattle.spf_x509_board.specs.States.{IsStateOf}
+
+-- the bundles of a set, by the names of their trust domains
+abbrev pub Bundles : Type 0
+Bundles = List (List ℕ × Bundle)
+
+-- an error that says nothing of what is published
+abbrev pub is_unread : X509SourceError → Bool
+is_unread errors.Closed = true
+is_unread errors.OutOfMemory = true
+is_unread _ = false
+
+-- a pass that has seen no less than before, of the same board
+pub record SeesNoLess (old new : Passed PlainStep) : Type 0 where
+  pub book : new.book ≡ old.book
+  pub seen : IsPrefix old.seen new.seen
+  pub entered : IsPrefix old.entered new.entered
+
+-- something is so of a state that the pass has read
+pub record Reads (old new : Passed PlainStep) (holds : View Material Denial → Type 0) : Type 0 where
+  pub state : StateView
+  pub read : IsStateOf new.seen state.closed state
+  pub renews : Renews Legal old new
+  pub is_so : holds state.view
+
+-- What a getter returns: what the getter of a state returns that the pass has read. Where the
+-- source is closed, nothing is read.
+abbrev pub Gets : {T : Type 0} → (View Material Denial → Result T X509SourceError → Type 0)
+    → Passed PlainStep → Passed PlainStep → Result T X509SourceError → Type 0
+Gets answer old new (Err errors.Closed) = new ≡ old
+Gets answer old new (Err errors.OutOfMemory) = Unit {0}
+Gets answer old new (Err e) = Reads old new (λ view. answer view (Err e))
+Gets answer old new (Ok x) = Reads old new (λ view. answer view (Ok x))
+
+-- What a try form returns: the value of the getter, and none where there is none.
+abbrev pub Tries : {T E : Type 0} → (View Material Denial → Result T X509SourceError → Type 0)
+    → Passed PlainStep → Passed PlainStep → Result (Option T) E → Type 0
+Tries answer old new (Ok (Some x)) = Gets answer old new (Ok x)
+Tries answer old new (Ok None) =
+    (e : X509SourceError) × (e ≢' errors.OutOfMemory) × Gets answer old new (Err e)
+  where
+    abbrev ◌≢'◌ : X509SourceError → X509SourceError → Type 0
+    x ≢' y = x ≡ y → ⊥
+Tries answer old new (Err e) = Unit {0}
+
+-- the bundles of the held context, or the reason of the withdrawal
+abbrev pub BundlesAnswer : View Material Denial → Result (Arc Bundles Global) X509SourceError
+    → Type 0
+BundlesAnswer view (Ok bundles) =
+    option_map (λ (m : Material). m.context.bundles) (held_in view) ≡ Some (arc_value bundles)
+BundlesAnswer view (Err (errors.Withdrawn reason)) = reason_of view ≡ Some (arc_value reason)
+BundlesAnswer view (Err errors.OutOfMemory) = Unit {0}
+BundlesAnswer view (Err _) = ⊥
