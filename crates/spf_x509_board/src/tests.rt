@@ -109,6 +109,10 @@ fn a_board_has_sixty_four_places(rt: HostRuntime) -> Result<(), Fail> {
     let alloc = rt.alloc();
     let (_desk, mut pass) = open(alloc, rt, accepted(alloc)?)?;
     let mut places = BoardPlaces::new();
+    let Ok(other) = places.take(&mut pass) else {
+        return Err(OutOfMemory.into());
+    };
+    other.give_back(&mut pass);
     let mut others = Vec::new(alloc);
     for _ in 1..PLACES {
         let Ok(other) = places.take(&mut pass) else {
@@ -124,5 +128,15 @@ fn a_board_has_sixty_four_places(rt: HostRuntime) -> Result<(), Fail> {
         )
     );
     assert!(rt; !pass.is_usable(Some(0)));
+    Ok(())
+}
+
+#[test]
+fn a_pass_reads_on_after_the_writer(rt: HostRuntime) -> Result<(), Fail> {
+    let alloc = rt.alloc();
+    let (desk, mut pass) = open(alloc, rt, accepted(alloc)?)?;
+    assert!(rt; settle(desk.stop(), &mut pass).is_err());
+    let state = pass.state(false)?;
+    assert!(rt; state.revision() == 0 && !state.is_closed() && state.withdrawal().is_none());
     Ok(())
 }
