@@ -1,0 +1,19 @@
+//! The board of an X.509 source: one writer publishes the steps of the
+//! supervisor, and up to 64 passes read what they replay to, without a lock.
+#![tactic(auto)]
+
+mod board;
+mod desk;
+mod kind;
+mod pass;
+mod places;
+#[cfg(test)]
+mod tests;
+
+pub use board::{open, settle};
+pub use desk::{Desk, Ended};
+pub use kind::{UsableAt, X509};
+pub use pass::Pass;
+pub use places::Places;
+pub use spf_board::{BoardPlaces, PLACES, PlaceFault, RefusingPlaces};
+pub use spf_history::Front;
