@@ -1,8 +1,10 @@
 //! The feeder. Its fields are private to this module: nothing else asks its connector or its link.
 
-ghost use Rattle.std.specs.Prelude.{◌≡◌, [], false, IfSome};
+ghost use Rattle.std.specs.Prelude.{◌≡◌, [], false, IfSome, reverse};
 ghost use Rattle.std.specs.Option.{ForSome};
-ghost use Rattle.spf_feeder.specs.Fed.{Turns};
+ghost use Rattle.spf_view.specs.Views.{has_synced};
+ghost use Rattle.spf_feed.specs.Items.{subject};
+ghost use Rattle.spf_feeder.specs.Fed.{Tells, Turns};
 ghost use Rattle.spf_feeder.specs.Kept.{Published, core_of, rules_by};
 
 use crate::ask::ask;
@@ -105,6 +107,16 @@ where
         self.session.events()
     }
 
+    /// Whether an item was accepted.
+    pub(crate) fn is_synced(&self) -> bool
+        requires { self.now.core.stuck ≡ false }
+        ensures { result ≡ has_synced
+            (subject (rules_by K.picks self.now.core.settings self.now.core.picker))
+            (reverse self.now.core.run) }
+    {
+        self.session.is_synced()
+    }
+
     /// Asks once, publishes the step of the event that was told, and records it.
     pub(crate) fn ask_once(&mut self) -> Result<Option<AttemptEnd>, Stop>
         ensures settings { self.new.core.settings ≡ self.old.core.settings }
@@ -136,10 +148,16 @@ where
         ensures first { self.new.first ≡ self.old.first }
         ensures published { Published (P.steps self.new.core.publisher)
             (rules_by K.picks self.new.core.settings self.new.core.picker) self.new.core.run }
+        ensures tells { self.new.core.stuck ≡ false → IfSome (C.members self.new.first)
+            (Tells C.members C.Link.answers
+            (rules_by K.picks self.new.core.settings self.new.core.picker) self.new.core.run
+            self.new.asked) }
         ensures turn { Turns C.Connector C.Link.Link M.records
             (rules_by K.picks self.old.core.settings self.old.core.picker) self.old result self.new }
     {
-        match self.ask_once() {
+        let asked = self.ask_once();
+        let _ = &self.alloc;
+        match asked {
             Ok(end) => Ok(end),
             Err(_) => Err(OutOfMemory),
         }

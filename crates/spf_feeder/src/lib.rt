@@ -8,9 +8,11 @@ mod feeder;
 mod pace;
 mod received;
 mod session;
+mod supervisor;
 #[cfg(test)]
 mod tests;
 
 pub use feeder::Feeder;
 pub use pace::Pace;
 pub use session::Stop;
+pub use supervisor::supervise;
