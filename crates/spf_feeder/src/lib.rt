@@ -9,6 +9,7 @@ mod pace;
 mod received;
 mod session;
 mod supervisor;
+mod synchronisation;
 #[cfg(test)]
 mod tests;
 
@@ -16,3 +17,4 @@ pub use feeder::Feeder;
 pub use pace::Pace;
 pub use session::Stop;
 pub use supervisor::supervise;
+pub use synchronisation::{deadline_after, next_moment, synchronise};

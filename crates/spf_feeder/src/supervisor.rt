@@ -1,8 +1,7 @@
 //! The loop of a supervisor: asks with pauses between them, until a caller closes the source.
 
-ghost use Rattle.std.specs.Prelude.{◌≡◌, false, true, IfNone, IfSome, OnOk, reverse};
-ghost use Rattle.spf_view.specs.Views.{has_synced};
-ghost use Rattle.spf_feed.specs.Items.{subject};
+ghost use Rattle.std.specs.Prelude.{◌≡◌, false, IfErr, IfNone, IfSome, OnOk};
+ghost use Rattle.spf_feeder.specs.Fed.{StopsBy};
 ghost use Rattle.spf_feeder.specs.Kept.{rules_by};
 ghost use Rattle.spf_feeder.specs.Pacing.{Halted, KeepsPace, PacesOn};
 
@@ -39,6 +38,8 @@ where
     ensures going { OnOk result (feeder.new.core.stuck ≡ false) }
     ensures paces { PacesOn (rules_by K.picks feeder.old.core.settings feeder.old.core.picker)
         feeder.old.core.run pace.old result feeder.new.core.run pace.new }
+    ensures ended { IfErr result (StopsBy
+            (rules_by K.picks feeder.old.core.settings feeder.old.core.picker) feeder.new.core.run) }
 {
     let was_synced = feeder.is_synced();
     match feeder.ask_once()? {
