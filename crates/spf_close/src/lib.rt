@@ -1,0 +1,11 @@
+//! A cell that is closed once, by a caller or by the supervisor. It takes the memory of a mark when
+//! a `Closer` is made, so closing takes none. A reader looks without a lock.
+#![tactic(auto)]
+
+mod cell;
+mod maker;
+#[cfg(test)]
+mod tests;
+
+pub use cell::{Closed, Closer, Watch, closed_cell};
+pub use maker::Maker;

@@ -1,0 +1,4 @@
+pub mod FeedLemmas
+pub mod PaceLemmas
+pub mod RunLemmas
+pub mod TellLemmas

@@ -1,0 +1,73 @@
+-- What a connector, where it tells, and its link have still to tell, and what the asks take of it.
+use Rattle.std.specs.Prelude.{◌≡◌, List, [], ◌∷◌, Option, None, Some, Result, Ok, Err}
+use Rattle.spf_api.specs.declared.link.ClientFault.{ClientFault}
+use Rattle.spf_api.specs.declared.response.ResponseKind.TheVariants as kind
+use Rattle.spf_link.specs.Connecting.{Member, connected_by}
+use Rattle.spf_link.specs.Links.{rest_of, started_by, next_by}
+use Rattle.spf_link.specs.declared.answer.Answer.{Answer}
+use Rattle.spf_feed.specs.declared.event.SessionEvent.TheVariants as events
+use Rattle.spf_feed.specs.declared.phase.Phase.{Phase}
+use Rattle.spf_feed.specs.declared.phase.Phase.TheVariants as phases
+use Rattle.spf_feed.specs.Items.{Event, Rules, context_in}
+use Rattle.spf_feed.specs.Run.{ask_of}
+use Rattle.spf_feeder.specs.Asking.{told_by_connect, told_by_start, told_by_next}
+
+-- what each `connect` to come gives, and the answers to come of the link in use
+pub record Coming : Type 0 where
+  pub members : List Member
+  pub answers : List Answer
+
+-- the event that an ask tells
+abbrev pub told_at : Phase → Coming → Option Event
+told_at phases.Client coming = told_by_connect (connected_by coming.members)
+told_at phases.Connect coming = told_by_start (started_by coming.answers)
+told_at phases.Next coming = told_by_next (next_by (Some kind.Context) coming.answers)
+
+-- the answers of a link that was made; a connection that failed leaves none
+abbrev pub answers_in : Member → List Answer
+answers_in (Ok answers) = answers
+answers_in (Err f) = []
+
+-- what an ask leaves: a link that is dropped takes its answers with it
+abbrev pub left_at : Phase → Coming → Coming
+left_at phases.Client coming = record {
+  members = rest_of coming.members;
+  answers = answers_in (connected_by coming.members);
+}
+left_at phases.Connect coming = record coming { answers = rest_of coming.answers }
+left_at phases.Next coming = record coming { answers = rest_of coming.answers }
+
+-- no link yet
+abbrev pub at_first : List Member → Coming
+at_first members = record { members = members; answers = [] }
+
+-- what is left after a history; a moment and a close ask nothing
+abbrev pub left_after : Rules → List Member → List Event → Coming
+left_after rules members [] = at_first members
+left_after rules members (events.Moment m ∷ past) = left_after rules members past
+left_after rules members (events.Close ∷ past) = left_after rules members past
+left_after rules members (e ∷ past) =
+    left_at (ask_of context_in rules past) (left_after rules members past)
+
+-- an event is what the ask before it takes, where it is neither a moment nor a close
+abbrev pub IsTold : Rules → List Member → List Event → Event → Type 0
+IsTold rules members past (events.Moment m) = Unit {0}
+IsTold rules members past events.Close = Unit {0}
+IsTold rules members past e =
+    told_at (ask_of context_in rules past) (left_after rules members past) ≡ Some e
+
+-- the events other than moments are what the asks by `ask_of`, in order, take of the members
+abbrev pub AllTold : Rules → List Member → List Event → Type 0
+AllTold rules members [] = Unit {0}
+AllTold rules members (e ∷ past) = IsTold rules members past e × AllTold rules members past
+
+-- a connector and its link have this still to tell
+abbrev pub LinkHolds : {L : Type 0} → (L → Option (List Answer)) → List Answer → Option L → Type 0
+LinkHolds answers coming None = coming ≡ []
+LinkHolds answers coming (Some link) = answers link ≡ Some coming
+
+pub record Holds {S L : Type 0} (members : S → Option (List Member))
+    (answers : L → Option (List Answer)) (coming : Coming) (connector : S)
+    (link : Option L) : Type 0 where
+  pub members_are : members connector ≡ Some coming.members
+  pub answers_are : LinkHolds answers coming.answers link

@@ -1,0 +1,7 @@
+pub mod Asking
+pub mod Attempts
+pub mod Coming
+pub mod Fed
+pub mod Kept
+pub mod Pacing
+pub mod Times

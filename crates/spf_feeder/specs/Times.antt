@@ -1,0 +1,32 @@
+-- The moments of an initial synchronisation, and its deadline.
+use Rattle.std.specs.Prelude.{◌≡◌, ℕ, ◌+◌, ◌-◌, ◌/◌, ◌^◌, min, ℤ, pos, nat_abs, List, [], ◌∷◌}
+use Rattle.std.specs.Prelude.{Option, None, Some}
+use Rattle.std.specs.Option.{option_map}
+use Rattle.std.specs.Duration.{as_nanos}
+use Rattle.std.specs.declared.time.Duration.{Duration}
+
+-- a clock that gives none is asked again
+abbrev pub at_moment : List (Option ℤ) → List (Option ℤ)
+at_moment [] = []
+at_moment (None ∷ moments) = at_moment moments
+at_moment (Some moment ∷ moments) = Some moment ∷ moments
+
+-- the first moment that is there is taken, where the moments are known
+abbrev pub TakesMoment : Option (List (Option ℤ)) → Option (List (Option ℤ)) → ℤ → Type 0
+TakesMoment None new moment = Unit {0}
+TakesMoment (Some old) None moment = ⊥
+TakesMoment (Some old) (Some new) moment = at_moment old ≡ Some moment ∷ new
+
+-- a duration in whole seconds, rounded up
+abbrev pub seconds_of : Duration → ℕ
+seconds_of d = (as_nanos d + 999_999_999) / 1_000_000_000
+
+-- the first moment, from 0 on, and the timeout behind it, which stops at the end of its type
+abbrev pub deadline_after : ℤ → Duration → ℤ
+deadline_after first timeout = pos (min (nat_abs first + seconds_of timeout) (2 ^ 63 - 1))
+
+-- nothing but none was given so far
+abbrev pub AsksOn : Option (List (Option ℤ)) → Option (List (Option ℤ)) → Type 0
+AsksOn None new = Unit {0}
+AsksOn (Some old) None = ⊥
+AsksOn (Some old) (Some new) = at_moment old ≡ at_moment new

@@ -1,0 +1,20 @@
+//! The feeder of a live source: it asks a connector and its link, one ask a turn, and publishes the
+//! step of each event before it asks again.
+#![tactic(auto)]
+
+mod ask;
+mod attempt;
+mod feeder;
+mod pace;
+mod received;
+mod session;
+mod supervisor;
+mod synchronisation;
+#[cfg(test)]
+mod tests;
+
+pub use feeder::Feeder;
+pub use pace::Pace;
+pub use session::Stop;
+pub use supervisor::supervise;
+pub use synchronisation::{deadline_after, next_moment, synchronise};

@@ -1,0 +1,83 @@
+//! An event as it is received: its item is read down to its context.
+
+ghost use Rattle.std.specs.Prelude.{◌≡◌, IfOk};
+ghost use Rattle.std.specs.Option.{option_map};
+ghost use Rattle.spf_feed.specs.Events.{map_item};
+ghost use Rattle.spf_feed.specs.Items.{IsReceived, context_in};
+
+use spf_api::{
+    ClientFault, ContextResponse, GrpcStatusError, WorkloadApiError, context_from,
+};
+use spf_feed::{Event, Received};
+use spf_io::{OutOfMemory, Text};
+use spf_x509::X509Context;
+use std::alloc::Global;
+
+pub(crate) fn copy_of_status(
+    alloc: Global,
+    status: &GrpcStatusError,
+) -> Result<GrpcStatusError, OutOfMemory>
+    ensures { IfOk result (λ s. s ≡ status.now) }
+{
+    let message = Text::copy_of(alloc, status.message())?;
+    match status.source_text() {
+        Some(source) => Ok(GrpcStatusError::with_source(
+            status.code(),
+            message,
+            Text::copy_of(alloc, source)?,
+        )),
+        None => Ok(GrpcStatusError::new(status.code(), message)),
+    }
+}
+
+fn copy_of_fault(alloc: Global, fault: &ClientFault) -> Result<ClientFault, OutOfMemory>
+    ensures { IfOk result (λ f. f ≡ fault.now) }
+{
+    match fault {
+        ClientFault::Status(status) => Ok(ClientFault::Status(copy_of_status(alloc, status)?)),
+        ClientFault::Unreachable(text) => Ok(ClientFault::Unreachable(text.try_clone(alloc)?)),
+        ClientFault::OutOfMemory => Ok(ClientFault::OutOfMemory),
+    }
+}
+
+/// The context that was read, none where a rule is broken.
+fn received(
+    parsed: Result<X509Context, WorkloadApiError>,
+) -> Result<Option<X509Context>, OutOfMemory>
+    ensures { IsReceived parsed result }
+{
+    match parsed {
+        Ok(context) => Ok(Some(context)),
+        Err(WorkloadApiError::OutOfMemory) => Err(OutOfMemory),
+        Err(_) => Ok(None),
+    }
+}
+
+/// The context of a response, none where it breaks a rule.
+fn context_of(
+    alloc: Global,
+    response: &ContextResponse,
+) -> Result<Option<X509Context>, OutOfMemory>
+    ensures { IfOk result (λ o. o ≡ context_in response.now) }
+{
+    received(context_from(alloc, response))
+}
+
+/// The event as it is received.
+pub(crate) fn received_of(alloc: Global, event: &Event) -> Result<Received, OutOfMemory>
+    ensures { IfOk result (λ r. r ≡ map_item context_in event.now) }
+{
+    match event {
+        Event::ClientMade => Ok(Received::ClientMade),
+        Event::ClientFailed(fault) => Ok(Received::ClientFailed(copy_of_fault(alloc, fault)?)),
+        Event::Connected => Ok(Received::Connected),
+        Event::ConnectStatus(status) => {
+            Ok(Received::ConnectStatus(copy_of_status(alloc, status)?))
+        }
+        Event::Item(response) => Ok(Received::Item(context_of(alloc, response)?)),
+        Event::ItemStatus(status) => Ok(Received::ItemStatus(copy_of_status(alloc, status)?)),
+        Event::StreamEnd => Ok(Received::StreamEnd),
+        Event::Moment(moment) => Ok(Received::Moment(*moment)),
+        Event::Close => Ok(Received::Close),
+    }
+}

@@ -1,0 +1,247 @@
+//! The core of a feeder: the events so far, what they published, and where they stand.
+
+ghost use Rattle.std.specs.Prelude.{◌≡◌, ◌∷◌, [], true, false, None, Some, IsTrue, IfOk, OnOk};
+ghost use Rattle.std.specs.Prelude.{IfSome, reverse, is_some, if◌then◌else◌};
+ghost use Rattle.std.specs.Arc.{arc_value};
+ghost use Rattle.std.specs.Option.{ForSome};
+ghost use Rattle.spf_view.specs.Views.{has_synced};
+ghost use Rattle.spf_feed.specs.Items.{context_in, subject};
+ghost use Rattle.spf_feed.specs.Run.{ask_of};
+ghost use Rattle.spf_feed.specs.Following.{update_of};
+ghost use Rattle.spf_feed.specs.Steps.{HasStep};
+ghost use Rattle.spf_feed.specs.Turns.{MayTake, listed};
+ghost use Rattle.spf_feeder.specs.Kept.{Advances, Published, PublishesTurn, accepts, core_of};
+ghost use Rattle.spf_feeder.specs.Kept.{rules_by};
+
+use crate::attempt::{end_of, gave_after};
+use crate::received::received_of;
+use spf_feed::{
+    Change, Event, MetricsRecord, MetricsRecorder, Phase, Publisher, Records, ResourceLimits,
+    SessionRules, Snapshot, Step, SvidPicker, Terminal, Turn, moment_after, phase_after, publish, record_all,
+    turn_of,
+};
+use spf_io::OutOfMemory;
+use spf_pace::AttemptEnd;
+use std::alloc::Global;
+use std::marker::Model;
+use std::sync::Arc;
+
+/// Why a run goes no further.
+#[derive(Debug, PartialEq, Eq, Drop)]
+pub enum Stop {
+    /// A terminal event was told before anything was accepted.
+    Terminal(Terminal),
+    OutOfMemory,
+}
+
+impl From<OutOfMemory> for Stop {
+    ghost use Rattle.std.specs.Prelude.{◌≡◌};
+    ghost use Rattle.spf_feeder.specs.declared.session.Stop.TheVariants as stops;
+
+    ghost from_gives = { λ _ s. s ≡ stops.OutOfMemory };
+
+    fn from(_e: OutOfMemory) -> Stop {
+        Stop::OutOfMemory
+    }
+}
+
+/// The records of an accepted item, by what its step changed.
+fn records_of(change: Change) -> Records
+    ensures { listed result ≡ update_of change }
+{
+    match change {
+        Change::Changed => Records {
+            error: None,
+            end: Some(MetricsRecord::Update),
+        },
+        Change::Opened | Change::Unchanged => Records::none(),
+    }
+}
+
+fn shared<T: Drop>(alloc: Global, value: T) -> Result<Arc<T>, OutOfMemory>
+    ensures { IfOk result (λ a. arc_value a ≡ value) }
+{
+    Ok(Arc::new(alloc, value)?)
+}
+
+/// Publishes the step of a turn, where it has one, and returns the records of the turn.
+fn publish_turn<P: Publisher>(
+    alloc: Global,
+    publisher: &mut P,
+    snapshot: &mut Option<Snapshot>,
+    limits: ResourceLimits,
+    turn: Turn,
+) -> Result<Records, Stop>
+    requires turn { MayTake limits (is_some snapshot.old) turn }
+    requires synced { IsTrue (is_some snapshot.old) → HasStep (P.steps publisher.old) }
+    ensures synced { OnOk result (IsTrue (is_some snapshot.new) → HasStep (P.steps publisher.new)) }
+    ensures published { PublishesTurn limits turn snapshot.old (P.steps publisher.old) result
+        snapshot.new (P.steps publisher.new) }
+{
+    match turn {
+        Turn::Terminal(terminal) => Err(Stop::Terminal(terminal)),
+        Turn::Passed(records) => Ok(records),
+        Turn::Denied { reason, records } => {
+            let step = Step::Deny {
+                reason: shared(alloc, reason)?,
+            };
+            publish(alloc, publisher, snapshot, step)?;
+            Ok(records)
+        }
+        Turn::Accepted { context, choice } => {
+            let step = Step::Accept {
+                context: shared(alloc, context)?,
+                limits,
+                choice,
+            };
+            Ok(records_of(publish(alloc, publisher, snapshot, step)?))
+        }
+    }
+}
+
+fn is_accepted(turn: &Turn) -> bool
+    ensures { result ≡ accepts turn.now }
+{
+    matches!(turn, Turn::Accepted { .. })
+}
+
+/// The events so far, with all that they publish and record. Once a turn was refused it takes no
+/// further event.
+#[derive(Drop)]
+pub(crate) struct Session<P: Publisher + Drop, M: MetricsRecorder + Drop, K: SvidPicker + Drop> {
+    alloc: Global,
+    publisher: P,
+    recorder: M,
+    picker: Option<K>,
+    rules: SessionRules,
+    events: Vec<Event>,
+    snapshot: Option<Snapshot>,
+    moment: Option<i64>,
+    phase: Phase,
+    gave_accepted: bool,
+    stuck: bool,
+}
+
+impl<P: Publisher + Drop, M: MetricsRecorder + Drop, K: SvidPicker + Drop> Model
+    for Session<P, M, K> {
+    ghost use Rattle.std.specs.Prelude.{◌≡◌, false};
+    ghost use Rattle.std.specs.Option.{ForSome};
+    ghost use Rattle.spf_feeder.specs.Kept.{Core, core_of, Published, Going, rules_by};
+
+    ghost Value = { Core P M K };
+
+    ghost view = { λ s. core_of s.publisher s.recorder s.rules s.picker s.events.items s.stuck };
+
+    ghost invariant = { λ s. ForSome s.picker K.can_pick
+        × Published (P.steps s.publisher) (rules_by K.picks s.rules s.picker) s.events.items
+        × (s.stuck ≡ false → Going (rules_by K.picks s.rules s.picker) s.events.items (P.steps s.publisher) s.snapshot s.moment s.phase s.gave_accepted) };
+}
+
+impl<P: Publisher + Drop, M: MetricsRecorder + Drop, K: SvidPicker + Drop> Session<P, M, K> {
+    /// A session of no events yet, whose publisher has no steps.
+    pub(crate) fn new(
+        alloc: Global,
+        publisher: P,
+        recorder: M,
+        picker: Option<K>,
+        rules: SessionRules,
+    ) -> Session<P, M, K>
+        requires picker { ForSome picker K.can_pick }
+        requires unused { IfSome (P.steps publisher) (λ steps. steps ≡ []) }
+        ensures { result ≡ core_of publisher recorder rules picker [] false }
+    {
+        Session {
+            alloc,
+            publisher,
+            recorder,
+            picker,
+            rules,
+            events: Vec::new(alloc),
+            snapshot: None,
+            moment: None,
+            phase: Phase::Client,
+            gave_accepted: false,
+            stuck: false,
+        }
+    }
+
+    pub(crate) fn is_stuck(&self) -> bool
+        ensures { result ≡ self.now.stuck }
+    {
+        self.stuck
+    }
+
+    /// What is asked next.
+    pub(crate) fn phase(&self) -> Phase
+        requires { self.now.stuck ≡ false }
+        ensures { result ≡ ask_of context_in (rules_by K.picks self.now.settings self.now.picker)
+            (reverse self.now.run) }
+    {
+        self.phase
+    }
+
+    pub(crate) fn is_synced(&self) -> bool
+        requires { self.now.stuck ≡ false }
+        ensures { result ≡ has_synced
+            (subject (rules_by K.picks self.now.settings self.now.picker)) (reverse self.now.run) }
+    {
+        self.snapshot.is_some()
+    }
+
+    /// The events so far, oldest first.
+    pub(crate) fn events(&self) -> &[Event]
+        ensures { result.now ≡ self.now.run }
+    {
+        self.events.as_slice()
+    }
+
+    /// Takes no further event.
+    pub(crate) fn stop(&mut self)
+        ensures unchanged { self.new ≡ record self.old { stuck = true } }
+        ensures published { Published (P.steps self.new.publisher)
+            (rules_by K.picks self.new.settings self.new.picker) self.new.run }
+    {
+        self.stuck = true;
+    }
+
+    /// One event more: its step is published, then it stands among the events, then its records are
+    /// recorded.
+    pub(crate) fn advance(&mut self, event: Event) -> Result<Option<AttemptEnd>, Stop>
+        requires going { self.old.stuck ≡ false }
+        ensures settings { self.new.settings ≡ self.old.settings }
+        ensures picker { self.new.picker ≡ self.old.picker }
+        ensures published { Published (P.steps self.new.publisher)
+            (rules_by K.picks self.new.settings self.new.picker) self.new.run }
+        ensures advances { Advances M.records
+            (rules_by K.picks self.old.settings self.old.picker) self.old event result self.new }
+    {
+        self.stuck = true;
+        if self.events.reserve(1).is_err() {
+            return Err(Stop::OutOfMemory);
+        }
+        let synced = self.snapshot.is_some();
+        let received = received_of(self.alloc, &event)?;
+        let next = phase_after(self.phase, synced, &received);
+        let end = end_of(self.alloc, next, self.gave_accepted, &received)?;
+        let after = moment_after(self.moment, &received);
+        let turn = turn_of(self.rules, self.picker.as_ref(), synced, self.moment, received);
+        let is_accepted = is_accepted(&turn);
+        let limits = self.rules.limits;
+        let records =
+            publish_turn(self.alloc, &mut self.publisher, &mut self.snapshot, limits, turn)?;
+        self.gave_accepted = gave_after(self.gave_accepted, is_accepted, &event);
+        self.events.push_reserved(event);
+        self.phase = next;
+        self.moment = after;
+        record_all(&mut self.recorder, records)?;
+        self.stuck = false;
+        Ok(unless(is_accepted, end))
+    }
+}
+
+/// An accepted item ends no attempt.
+fn unless(is_accepted: bool, end: Option<AttemptEnd>) -> Option<AttemptEnd>
+    ensures { result ≡ (if is_accepted then None else end) }
+{
+    if is_accepted { None } else { end }
+}

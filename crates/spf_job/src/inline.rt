@@ -1,0 +1,33 @@
+//! Runs a job where it is joined.
+
+use crate::job::{Job, Joins, Spawner};
+use spf_io::Failed;
+
+/// A job that runs at `join`.
+#[derive(Drop)]
+pub struct Held<J: Job> {
+    job: J,
+}
+
+impl<J: Job> Joins<J> for Held<J> {
+    ghost job = { λ h. h.job };
+
+    fn join(self) -> J::Done {
+        let Held { job } = self;
+        job.run()
+    }
+}
+
+/// Runs each job on the thread that joins it.
+#[derive(Clone, Copy, Debug)]
+pub struct InlineSpawner;
+
+impl<J: Job> Spawner<J> for InlineSpawner {
+    type Handle = Held<J>;
+
+    ghost refusals = { λ _. 0 };
+
+    fn start(&mut self, job: J) -> Result<Held<J>, Failed> {
+        Ok(Held { job })
+    }
+}

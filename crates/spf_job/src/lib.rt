@@ -1,0 +1,16 @@
+//! Jobs, what starts and joins them, and plain random words for their pauses.
+#![tactic(auto)]
+
+mod inline;
+mod job;
+mod refusing;
+mod step_words;
+#[cfg(test)]
+mod tests;
+mod threads;
+
+pub use inline::{Held, InlineSpawner};
+pub use job::{Job, Joins, Spawner};
+pub use refusing::RefusingSpawner;
+pub use step_words::StepWords;
+pub use threads::{Gives, Running, start_thread};

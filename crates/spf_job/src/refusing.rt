@@ -1,0 +1,47 @@
+//! Starts nothing.
+
+ghost use Rattle.std.specs.Prelude.{◌≡◌};
+
+use crate::inline::Held;
+use crate::job::{Job, Joins, Spawner};
+use spf_io::Failed;
+
+/// Refuses each job, and counts.
+#[derive(Debug, Drop)]
+pub struct RefusingSpawner {
+    refusals: u64,
+}
+
+impl RefusingSpawner {
+    pub fn new() -> RefusingSpawner
+        ensures { result.refusals ≡ 0 }
+    {
+        RefusingSpawner { refusals: 0 }
+    }
+
+    /// How often it has refused.
+    pub fn refusals(&self) -> u64
+        ensures { result ≡ self.now.refusals }
+    {
+        self.refusals
+    }
+}
+
+impl<J: Job> Spawner<J> for RefusingSpawner {
+    ghost use Rattle.std.specs.Prelude.{◌≡◌, ◌+◌, ◌-◌, ◌^◌, min, IsErr};
+    ghost use Rattle.spf_job.specs.Starts.{Starts};
+
+    type Handle = Held<J>;
+
+    ghost refusals = { λ s. s.refusals };
+
+    fn start(&mut self, job: J) -> Result<Held<J>, Failed>
+        ensures starts { Starts (⟦<Held<J> as Joins<J>>⟧.job) self.old.refusals self.new.refusals job
+            result }
+        ensures refused { IsErr result }
+        ensures counted { self.new.refusals ≡ min (self.old.refusals + 1) (2 ^ 64 - 1) }
+    {
+        self.refusals = self.refusals.saturating_add(1);
+        Err(Failed)
+    }
+}
