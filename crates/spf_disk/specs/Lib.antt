@@ -1,0 +1,5 @@
+pub mod Crash
+pub mod Format
+pub mod Image
+pub mod Slots
+pub mod Standing

@@ -1,0 +1,13 @@
+//! Three files on a disk that may crash, and the entries that they hold: the format of an entry,
+//! what a reader finds, and how an entry is replaced so that a crash leaves the old or the new one.
+#![tactic(auto)]
+
+mod disk;
+mod generation;
+mod open_error;
+mod slot;
+
+pub use disk::{Disk, DiskFailed, HelperFile};
+pub use generation::{AuthorityList, Entry, Generation};
+pub use open_error::OpenError;
+pub use slot::Slot;
