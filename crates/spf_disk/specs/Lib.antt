@@ -2,4 +2,5 @@ pub mod Crash
 pub mod Format
 pub mod Image
 pub mod Slots
+pub mod Replacing
 pub mod Standing

@@ -5,9 +5,11 @@
 mod disk;
 mod generation;
 mod open_error;
+mod replace;
 mod slot;
 
 pub use disk::{Disk, DiskFailed, HelperFile};
 pub use generation::{AuthorityList, Entry, Generation};
 pub use open_error::OpenError;
+pub use replace::replace_entry;
 pub use slot::Slot;
