@@ -1,3 +1,4 @@
+pub mod Again
 pub mod Files
 pub mod Moments
 pub mod Octets

@@ -1,11 +1,29 @@
 -- What a crash may leave, at one moment and at each moment of a call.
-use Rattle.std.specs.Prelude.{◌≡◌, ℕ, ◌≤◌, ◌⊎◌}
+use Rattle.std.specs.Prelude.{◌≡◌, ℕ, ◌≤◌, ◌<◌, ◌⊎◌, max, length, slice_get, Some}
 use Rattle.spf_disk.specs.declared.disk.HelperFile.{HelperFile}
-use Rattle.spf_disk.specs.Image.{Image, bytes_of}
+use Rattle.spf_disk.specs.Image.{Image, SameOthers, bytes_of}
 
--- each new outcome of a crash is an old one after a step
-abbrev pub Follows : (Image → Image → Type 0) → (Image → Type 0) → (Image → Type 0) → Type 0
-Follows step old new = (c : Image) → new c → (d : Image) × old d × step d c
+-- An outcome of a crash after a change of a file, or after one that failed. Where the file is not
+-- touched it has each octet that every crash left there before. Elsewhere there may be any octets
+-- or, at the end of the file, none. It is not longer than every crash could leave it before, or
+-- than the end of what was written. The other files are as a crash left them before.
+pub record Torn (file : HelperFile) (untouched : ℕ → Type 0) (end : ℕ) (old : Image → Type 0)
+    (c : Image) : Type 0 where
+  pub stays : (i octet : ℕ) → untouched i
+      → ((d : Image) → old d → slice_get (bytes_of d file) i ≡ Some octet)
+      → slice_get (bytes_of c file) i ≡ Some octet
+  pub no_longer : (size : ℕ) → ((d : Image) → old d → length (bytes_of d file) ≤ size)
+      → length (bytes_of c file) ≤ max size end
+  pub others : (d : Image) × old d × SameOthers file d c
+
+-- each outcome after a write of the range
+abbrev pub TornByWrite : HelperFile → ℕ → ℕ → (Image → Type 0) → (Image → Type 0) → Type 0
+TornByWrite file from end old new = (c : Image) → new c
+    → Torn file (λ i. (i < from) ⊎ (end ≤ i)) end old c
+
+-- each outcome after a cut
+abbrev pub TornByCut : HelperFile → ℕ → (Image → Type 0) → (Image → Type 0) → Type 0
+TornByCut file count old new = (c : Image) → new c → Torn file (λ i. i < count) 0 old c
 
 -- a crash leaves no other outcome than before
 abbrev pub NoMore : (Image → Type 0) → (Image → Type 0) → Type 0

@@ -1,11 +1,11 @@
 -- The format of an entry: eight octets of its number, one octet of its kind, 0 withdrawn or 1
 -- accepted, and for 1 the chain, the key and the authorities. Lengths and counts have eight octets.
-use Rattle.std.specs.Prelude.{◌≡◌, ℕ, zero, suc, ◌+◌, ◌^◌, ◌<◌, ◌==◌, nat_lt, if◌then◌else◌}
+use Rattle.std.specs.Prelude.{ℕ, ◌^◌, ◌<◌, ◌==◌, nat_lt, if◌then◌else◌}
 use Rattle.std.specs.Prelude.{List, [], ◌∷◌, ◌++◌, length, take, drop, Option, Some, None}
 use Rattle.std.specs.List.{flat_map, All}
 use Rattle.std.specs.Int.{w64, to_be_bytes, from_be_bytes}
 use Rattle.std.specs.Str.{IsUtf8, is_utf8}
-use Rattle.spf_io.specs.Option.{◌>>=◌}
+use Rattle.spf_api.specs.Reading.{◌>>=◌, counted}
 use Rattle.spf_disk.specs.declared.generation.AuthorityList.{AuthorityList}
 use Rattle.spf_disk.specs.declared.generation.Generation.{Generation}
 use Rattle.spf_disk.specs.declared.generation.Entry.{Entry}
@@ -75,13 +75,7 @@ text_at bytes = do
   t ← field_at bytes
   if is_utf8 t.0 then Some (t.0, t.1) else None
 
--- so many members
-abbrev pub counted : {A : Type 0} → (List ℕ → Option (A × List ℕ)) → ℕ → List ℕ
-    → Option (List A × List ℕ)
-counted one zero bytes = Some ([], bytes)
-counted one (suc n) bytes =
-    one bytes >>= λ x. counted one n x.1 >>= λ others. Some (x.0 ∷ others.0, others.1)
-
+-- a count, and so many members
 abbrev pub list_at : {A : Type 0} → (List ℕ → Option (A × List ℕ)) → List ℕ
     → Option (List A × List ℕ)
 list_at one bytes = number_at bytes >>= λ n. counted one n.0 n.1

@@ -1,6 +1,5 @@
 -- Three files, and what a call changes in them.
-use Rattle.std.specs.Prelude.{◌≡◌, ℕ, ◌+◌, ◌≤◌, ◌<◌, ◌⊎◌, max, List, ◌++◌, length, take, drop}
-use Rattle.std.specs.Prelude.{slice_get}
+use Rattle.std.specs.Prelude.{◌≡◌, ℕ, ◌+◌, ◌≤◌, ◌<◌, List, ◌++◌, length, take, drop}
 use Rattle.spf_disk.specs.declared.disk.HelperFile.{HelperFile}
 use Rattle.spf_disk.specs.declared.disk.HelperFile.TheVariants.{Gates, First, Second}
 
@@ -34,18 +33,6 @@ Written at piece old new = new ≡ take at old ++ (piece ++ drop (at + length pi
 -- the first octets are kept
 abbrev pub Kept : ℕ → List ℕ → List ℕ → Type 0
 Kept count old new = new ≡ take count old
-
--- A crash after a write of the range, or after one that failed: in the range there may be any
--- octets or, at the end of the file, none. Other octets stay.
-pub record Torn (from to : ℕ) (old new : List ℕ) : Type 0 where
-  pub stays : (i : ℕ) → (i < from) ⊎ (to ≤ i) → i < length old
-      → slice_get new i ≡ slice_get old i
-  pub no_longer : length new ≤ max (length old) to
-
--- A crash after a cut: behind what is kept there may be any octets, or none.
-pub record TornBehind (count : ℕ) (old new : List ℕ) : Type 0 where
-  pub stays : (i : ℕ) → i < count → slice_get new i ≡ slice_get old i
-  pub no_longer : length new ≤ length old
 
 -- a read of `count` octets into a buffer: the first of those left, and at least one where one is
 -- left and the buffer has room

@@ -2,9 +2,9 @@
 
 ghost use Rattle.std.specs.Prelude.{◌≡◌, ◌≤◌, ◌<◌, ◌+◌, ℕ, IfOk, OnOk, length, take, drop};
 ghost use Rattle.spf_io.specs.Outside.{HasCause};
-ghost use Rattle.spf_disk.specs.Image.{Image, OnFile, Written, Kept, Torn, TornBehind};
+ghost use Rattle.spf_disk.specs.Image.{Image, OnFile, Written, Kept};
 ghost use Rattle.spf_disk.specs.Image.{IsRead, bytes_of};
-ghost use Rattle.spf_disk.specs.Crash.{Elapses, Follows, NoMore, IsSynced};
+ghost use Rattle.spf_disk.specs.Crash.{Elapses, NoMore, IsSynced, TornByWrite, TornByCut};
 
 use thiserror::Error;
 
@@ -58,8 +58,8 @@ pub trait Disk {
         requires { at ≤ length (bytes_of (seen self.old) file) }
         ensures written { OnOk result
             (OnFile file (Written at bytes.now) (seen self.old) (seen self.new)) }
-        ensures crash { Follows (OnFile file (Torn at (at + length bytes.now)))
-            (may_leave self.old) (may_leave self.new) }
+        ensures crash { TornByWrite file at (at + length bytes.now) (may_leave self.old)
+            (may_leave self.new) }
         ensures time { Elapses (moment self.old) (moment self.new) (left_since self.old)
             (left_since self.new) (may_leave self.new) }
         ensures cause { HasCause (failures self.old) (failures self.new) result };
@@ -69,8 +69,7 @@ pub trait Disk {
         requires { count ≤ length (bytes_of (seen self.old) file) }
         ensures kept { OnOk result
             (OnFile file (Kept count) (seen self.old) (seen self.new)) }
-        ensures crash { Follows (OnFile file (TornBehind count)) (may_leave self.old)
-            (may_leave self.new) }
+        ensures crash { TornByCut file count (may_leave self.old) (may_leave self.new) }
         ensures time { Elapses (moment self.old) (moment self.new) (left_since self.old)
             (left_since self.new) (may_leave self.new) }
         ensures cause { HasCause (failures self.old) (failures self.new) result };

@@ -5,11 +5,15 @@
 mod disk;
 mod generation;
 mod open_error;
+mod reader;
 mod replace;
 mod slot;
+mod writer;
 
 pub use disk::{Disk, DiskFailed, HelperFile};
 pub use generation::{AuthorityList, Entry, Generation};
 pub use open_error::OpenError;
+pub use reader::read_entry;
 pub use replace::replace_entry;
 pub use slot::Slot;
+pub use writer::write_entry;
