@@ -1,4 +1,5 @@
 pub mod Again
 pub mod Files
+pub mod Looking
 pub mod Moments
 pub mod Octets

@@ -27,9 +27,12 @@ torn_other : (s : Slot) (m c : Image) (old : Image → Type 0) → HasRoom s m �
 torn_other slot.First m c old room only torn = ⊎_elim
     (octet_stays (λ i. (i < 0) ⊎ (1 ≤ i)) 1 1 m c old only torn (inr (omega arith)))
     (λ past.
-    let short : length c.gates ≤ 1 = omega (arith, torn.no_longer 1 (λ d left.
-    let same : length d.gates ≡ length m.gates = ap (λ (e : Image). length e.gates) (only d left) in
-    omega (arith, past, same))) in
+    let short : length c.gates ≤ 1 = omega (
+      arith,
+      torn.no_longer 1 (λ d left.
+          let same : length d.gates ≡ length m.gates = ap (λ (e : Image). length e.gates) (only d left) in
+          omega (arith, past, same)),
+    ) in
     slice_get_past c.gates 1 short ∙ sym (slice_get_past m.gates 1 past))
     (cases_lt 1 (length m.gates))
 torn_other slot.Second m c old room only torn =

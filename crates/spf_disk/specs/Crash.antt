@@ -53,3 +53,11 @@ pub record LeavesOnly {D : Type 0} (moment : D → ℕ) (left_since : D → ℕ 
   -- for a run that began earlier
   pub before : (t : ℕ) (c : Image) → t ≤ moment old → left_since new t c
       → left_since old t c ⊎ P c
+
+-- Calls that only look, or sync: what a read gives is as before, and
+-- a crash at any moment leaves no other outcome than before.
+pub record Looks {D : Type 0} (seen : D → Image) (may_leave : D → Image → Type 0) (moment : D → ℕ)
+    (left_since : D → ℕ → Image → Type 0) (old new : D) : Type 0 where
+  pub same : seen new ≡ seen old
+  pub no_more : NoMore (may_leave old) (may_leave new)
+  pub any_moment : LeavesOnly moment left_since old new (may_leave old)

@@ -7,6 +7,7 @@ mod generation;
 mod open_error;
 mod reader;
 mod replace;
+mod scanning;
 mod slot;
 mod writer;
 
@@ -15,5 +16,6 @@ pub use generation::{AuthorityList, Entry, Generation};
 pub use open_error::OpenError;
 pub use reader::read_entry;
 pub use replace::replace_entry;
+pub use scanning::{Scanned, read_generation, scan};
 pub use slot::Slot;
 pub use writer::write_entry;
