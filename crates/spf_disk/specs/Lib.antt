@@ -3,5 +3,7 @@ pub mod Format
 pub mod Image
 pub mod Scanning
 pub mod Slots
+pub mod Memory
+pub mod MemoryDisk
 pub mod Replacing
 pub mod Standing

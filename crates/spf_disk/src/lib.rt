@@ -4,6 +4,8 @@
 
 mod disk;
 mod generation;
+mod mem_disk;
+mod mem_file;
 mod open_error;
 mod reader;
 mod replace;
@@ -13,6 +15,7 @@ mod writer;
 
 pub use disk::{Disk, DiskFailed, HelperFile};
 pub use generation::{AuthorityList, Entry, Generation};
+pub use mem_disk::MemDisk;
 pub use open_error::OpenError;
 pub use reader::read_entry;
 pub use replace::replace_entry;
