@@ -22,6 +22,8 @@ pub record IsUnsettled (from end size : ℕ) (old new : List Bool) : Type 0 wher
   pub size_is : length new ≡ size
   pub settled : (i : ℕ) → slice_get new i ≡ Some true
       → (slice_get old i ≡ Some true) × ((i < from) ⊎ (end ≤ i))
+  pub still : (i : ℕ) → i < size → slice_get old i ≡ Some true → (i < from) ⊎ (end ≤ i)
+      → slice_get new i ≡ Some true
 
 -- an outcome up to a position, with `fill` where a crash may leave anything
 pub record IsFilledTo (fill size : ℕ) (f : FileState) (bytes : List ℕ) : Type 0 where

@@ -36,9 +36,17 @@ fn unsettled(
 {
     let mut left = Vec::new(alloc);
     for i in 0..size {
-        left.push(is_set(settled, i) && (i < from || i >= end))?;
+        left.push(stays(settled, i, from, end))?;
     }
     Ok(left)
+}
+
+/// Whether the position is settled, and not in the range.
+fn stays(settled: &[bool], i: usize, from: usize, end: usize) -> bool
+    ensures { IsTrue result
+        ↔ ((slice_get settled.now i ≡ Some true) × ((i < from) ⊎ (end ≤ i))) }
+{
+    is_set(settled, i) && (i < from || i >= end)
 }
 
 fn is_set(settled: &[bool], i: usize) -> bool
@@ -130,11 +138,15 @@ impl MemFile {
         Ok(MemFile { bytes, settled })
     }
 
-    /// The bytes that a crash leaves, with `fill` wherever it may leave anything.
-    pub(crate) fn filled(&self, alloc: Global, fill: u8) -> Result<Vec<u8>, OutOfMemory>
-        ensures { IfOk result (λ v. IsFilled fill self.now v.items) }
+    /// The file after a crash, with `fill` wherever a crash may leave anything.
+    pub(crate) fn filled(&self, alloc: Global, fill: u8) -> Result<MemFile, OutOfMemory>
+        ensures filled { IfOk result (λ f. IsFilled fill self.now f.bytes) }
+        ensures settled { IfOk result
+            (λ f. f.settled ≡ replicate (length f.bytes) true) }
     {
-        filled(alloc, self.bytes.as_slice(), self.settled.as_slice(), fill)
+        let bytes = filled(alloc, self.bytes.as_slice(), self.settled.as_slice(), fill)?;
+        let settled = vec![in alloc; true; bytes.len()]?;
+        Ok(MemFile { bytes, settled })
     }
 }
 
