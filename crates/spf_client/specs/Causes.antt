@@ -1,5 +1,7 @@
 -- What refusals have for a cause.
-use Rattle.std.specs.Prelude.{◌≡◌, ◌⊎◌, Bool, true, false, IsTrue, Option, Some, Result, Err}
+use Rattle.std.specs.Prelude.{◌≡◌, ◌⊎◌, List, Bool, true, false, IsTrue, Option, Some, Result, Err}
+use Rattle.std.specs.declared.alloc.Global.{Global}
+use Rattle.std.specs.declared.vec.Vec.{Vec}
 use Rattle.spf_io.specs.Outside.{Rose}
 use Rattle.spf_api.specs.Errors.{status_reading}
 use Rattle.spf_api.specs.Refused.{Refused}
@@ -17,6 +19,10 @@ is_refusal api.NoIdentityIssued = true
 is_refusal (api.PermissionDenied message) = true
 is_refusal (api.Transport e) = true
 is_refusal _ = false
+
+-- what a vector holds
+abbrev pub vec_items : {T : Type 0} → Vec T Global → List T
+vec_items v = v.items
 
 -- the interceptor refused with the status that the error stands for
 pub record IsOfInterceptor (refusal : Option Refused) (e : WorkloadApiError) : Type 0 where

@@ -4,8 +4,8 @@ ghost use Rattle.std.specs.Prelude.{List, ℕ};
 ghost use Rattle.spf_x509.specs.Bundle.{Bundle};
 ghost use Rattle.spf_x509.specs.Context.{Context};
 ghost use Rattle.spf_x509.specs.Svid.{Svid};
-ghost use Rattle.spf_api.specs.Parsed.{bundle_set_of, first_svid_of, parsed_of};
-ghost use Rattle.spf_client.specs.Causes.{RefusalsHaveCauses};
+ghost use Rattle.spf_api.specs.Parsed.{bundle_set_of, first_svid_of, parsed_of, svids_of};
+ghost use Rattle.spf_client.specs.Causes.{RefusalsHaveCauses, vec_items};
 
 use spf_api::Response;
 use spf_link::Link;
@@ -15,6 +15,7 @@ use spf_link::Link;
 /// the link rose.
 pub fn refusals_have_causes<L: Link>()
     ensures contexts { RefusalsHaveCauses L.Link Response.Context parsed_of (λ (c : Context). c) }
+    ensures all_svids { RefusalsHaveCauses L.Link Response.Context svids_of vec_items }
     ensures svids { RefusalsHaveCauses L.Link Response.Context first_svid_of (λ (s : Svid). s) }
     ensures bundles { RefusalsHaveCauses L.Link Response.Bundles bundle_set_of
         (λ (b : List (List ℕ × Bundle)). b) }

@@ -15,6 +15,9 @@ use std::alloc::Global;
 /// The max length of a payload.
 const MAX_PAYLOAD: u32 = 1 << 24;
 
+/// Octets for which a buffer is made before any of a payload has come.
+const PIECE: usize = 1 << 16;
+
 /// A frame with its payload unread.
 #[derive(Debug, Drop)]
 pub struct RawFrame {
@@ -65,7 +68,8 @@ fn read_length<S: Source>(source: &mut S) -> Result<u32, FrameError>
     Ok(length)
 }
 
-/// A payload of this length, in place of what the buffer held.
+/// A payload of this length, in place of what the buffer held. The buffer grows with what came: at
+/// most to twice the octets that were read, or to [`PIECE`].
 fn read_octets<S: Source>(
     source: &mut S,
     payload: &mut Vec<u8>,
@@ -75,17 +79,24 @@ fn read_octets<S: Source>(
         (S.left source.new) result payload.new.items }
     ensures cause { FailureHasCause (S.failures source.old) (S.failures source.new) result }
 {
-    match payload.resize(length as usize, 0) {
-        Ok(()) => {}
-        Err(_) => return Err(FrameError::OutOfMemory),
-    }
-    match fill(source, payload.as_mut_slice()) {
-        Ok(at) => {
-            if at < payload.len() {
-                return Err(FrameError::BadFrame);
-            }
+    let total = length as usize;
+    payload.truncate(total);
+    let mut filled = 0;
+    while filled < total {
+        let end = total.min(payload.len().max(PIECE).max(2 * filled));
+        match payload.resize(end, 0) {
+            Ok(()) => {}
+            Err(_) => return Err(FrameError::OutOfMemory),
         }
-        Err(_) => return Err(FrameError::ReadFault),
+        match fill(source, &mut payload[filled..]) {
+            Ok(more) => {
+                if more < end - filled {
+                    return Err(FrameError::BadFrame);
+                }
+            }
+            Err(_) => return Err(FrameError::ReadFault),
+        }
+        filled = end;
     }
     Ok(())
 }

@@ -15,7 +15,6 @@ ghost use Rattle.spf_link.specs.declared.request.Start.{Start};
 use crate::headers::Headers;
 use crate::request::Request;
 use spf_api::{LinkFault, Response};
-use spf_system::StopFlag;
 
 /// A connection that carries one request after another. It counts how often it refused a call.
 pub trait Link {
@@ -50,12 +49,4 @@ pub trait Link {
         ensures same_kind { kind self.new ≡ kind self.old }
         ensures answers { Takes (answers self.old) (answers self.new) (next_by (kind self.old))
             result };
-
-    /// From here on a wait of the link ends soon once the mark is set, where it can.
-    fn heed(&mut self, stop: StopFlag)
-        ensures refusals { refusals self.new ≡ refusals self.old }
-        ensures starts { starts self.new ≡ starts self.old }
-        ensures kind { kind self.new ≡ kind self.old }
-        ensures answers { answers self.new ≡ answers self.old }
-    {}
 }

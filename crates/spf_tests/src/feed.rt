@@ -5,11 +5,11 @@ ghost use Rattle.std.specs.Option.{ForSome};
 mod texts;
 mod values;
 
-use crate::fixtures::{is_written, octets};
 use spf_feed::{
     FnPicker, FollowError, HintPicker, MemPublisher, MemRecorder, MetricsRecord, NoPicker,
     PickFunction, Ready, ResourceLimits, Step, SvidPicker, follow_x509,
 };
+use spf_fixtures::{is_written, octets};
 use spf_io::{MemSink, MemSource, Text};
 use spf_x509::X509Svid;
 use std::alloc::Global;

@@ -1,4 +1,5 @@
-//! The tests that need only public calls of the crates below, a module for each crate.
+//! Tests of what is built of the types, which need only public calls: the Workload API, sessions,
+//! clients and their links.
 #![tactic(auto)]
 
 #[cfg(test)]
@@ -6,25 +7,17 @@ mod api;
 #[cfg(test)]
 mod client;
 #[cfg(test)]
-mod der;
-#[cfg(test)]
 mod endpoint;
 #[cfg(test)]
 mod feed;
-#[cfg(test)]
-mod fixtures;
-#[cfg(test)]
-mod id;
-#[cfg(test)]
-mod io;
 #[cfg(test)]
 mod link;
 #[cfg(test)]
 mod link_doubles;
 #[cfg(test)]
-mod pace;
-#[cfg(test)]
 mod proto;
+#[cfg(test)]
+mod responses;
 #[cfg(test)]
 mod socket;
 #[cfg(test)]
@@ -33,7 +26,3 @@ mod system;
 mod uses;
 #[cfg(test)]
 mod wire;
-#[cfg(test)]
-mod x509;
-#[cfg(test)]
-mod x509_texts;

@@ -1,6 +1,6 @@
 //! Links and connectors of memory, whose answers are spelled by words.
 
-use crate::fixtures::{SvidRow, bundle_entries, context};
+use crate::responses::{FIRST, SvidRow, bundle_entries, context};
 use spf_api::{
     BundlesResponse, ClientFault, GrpcStatusCode, GrpcStatusError, LinkFault, Response,
     TransportConnectError,
@@ -47,7 +47,7 @@ fn answer(alloc: Global, word: &str) -> Result<Answer, Fail> {
             Ok(Answer::Item(Response::Context(response)))
         }
         _ => {
-            let response = context(alloc, &[crate::fixtures::FIRST], &[])?;
+            let response = context(alloc, &[FIRST], &[])?;
             Ok(Answer::Item(Response::Context(response)))
         }
     }

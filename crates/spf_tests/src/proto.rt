@@ -1,7 +1,7 @@
 //! Messages of the Workload API in Protocol Buffers.
 
-use crate::fixtures::octets;
 use spf_api::{ContextView, read_context_view};
+use spf_fixtures::octets;
 use spf_proto::read_message;
 use std::alloc::Global;
 use std::test::Fail;

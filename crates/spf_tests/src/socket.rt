@@ -1,9 +1,10 @@
 //! Links over real sockets, to server threads of the tests.
 
-use crate::fixtures::{first_item, octets};
+use crate::responses::first_item;
 use spf_api::{ClientFault, GrpcStatusCode, LinkFault, Response, TransportError, WorkloadApiError};
 use spf_client::WorkloadApiClient;
 use spf_endpoint::Endpoint;
+use spf_fixtures::octets;
 use spf_io::Text;
 use spf_link::{Connector, Headers, Link, Request};
 use spf_system::{EnvValue, MemEnvironment, StopFlag};
@@ -17,7 +18,7 @@ use std::time::{Duration, Instant};
 use std::{fs, thread};
 
 /// How many seconds a wait that is ended may take, with room for a machine that is busy.
-const SOON: u64 = 5;
+const SOON: u64 = 1;
 
 /// Reads a request, and answers it with these octets.
 fn answer<T: Read + Write>(stream: &mut T, octets: &[u8]) -> io::Result<()> {

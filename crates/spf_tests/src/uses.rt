@@ -3,8 +3,8 @@
 ghost use Rattle.std.specs.Prelude.{IsTrue, IfOk};
 ghost use Rattle.spf_feed.specs.Steps.{plain, is_accept};
 
-use crate::fixtures::octets;
 use spf_feed::{Denial, Prepared, ResourceLimits, Step};
+use spf_fixtures::octets;
 use spf_id::TrustDomain;
 use spf_io::{MemSink, MemSource};
 use spf_uses::{StepCounter, authorities_for, follow, is_member, is_valid_at, revision_after};

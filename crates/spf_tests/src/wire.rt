@@ -1,7 +1,8 @@
 //! The wire over memory.
 
-use crate::fixtures::{first_item, octets};
+use crate::responses::first_item;
 use spf_api::{LinkFault, Response};
+use spf_fixtures::octets;
 use spf_io::{MemSink, MemSource, Text};
 use spf_link::{Headers, Link, Request};
 use spf_wire::WireLink;

@@ -9,7 +9,7 @@ use std::os::unix::net::UnixStream;
 use std::time::Duration;
 
 /// How many milliseconds the system waits at once, at most, before the mark is looked at again.
-pub(crate) const PIECE_MILLIS: u64 = 200;
+const PIECE_MILLIS: u64 = 100;
 
 /// Whether a wait that has lasted for so many milliseconds is to end.
 pub(crate) fn is_over(stop: &Option<StopFlag>, waited_millis: u64) -> bool {

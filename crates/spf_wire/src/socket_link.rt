@@ -1,6 +1,6 @@
 //! Links over sockets, and how an endpoint is reached.
 
-use crate::socket::{PIECE_MILLIS, Socket, SocketEnd, is_over};
+use crate::socket::{Socket, SocketEnd, is_over};
 use crate::wire_link::WireLink;
 use spf_api::ClientFault;
 use spf_endpoint::{Endpoint, EndpointHost};
@@ -11,6 +11,9 @@ use std::io::{self, ErrorKind};
 use std::net::{IpAddr, Ipv4Addr, Ipv6Addr, Net, SocketAddr, TcpStream};
 use std::os::unix::net::UnixStream;
 use std::time::Duration;
+
+/// For how many milliseconds the system tries to connect, at most, before the mark is looked at.
+const TRY_MILLIS: u64 = 200;
 
 /// A link over the wire of a Unix or TCP socket.
 pub type SocketLink = WireLink<StdSource<SocketEnd>, StdSink<SocketEnd>>;
@@ -23,7 +26,7 @@ fn address_of(host: EndpointHost, port: u16) -> SocketAddr {
     SocketAddr::new(ip, port)
 }
 
-/// Connects as the system does; with a mark in tries that each last for at most a piece.
+/// Connects as the system does; with a mark in tries of at most `TRY_MILLIS` each.
 fn connect_tcp<R: Net<Stream = TcpStream>>(
     net: &R,
     address: SocketAddr,
@@ -37,7 +40,7 @@ fn connect_tcp<R: Net<Stream = TcpStream>>(
         if is_over(stop, waited_millis) {
             break;
         }
-        match net.connect_timeout(address, Duration::from_millis(PIECE_MILLIS)) {
+        match net.connect_timeout(address, Duration::from_millis(TRY_MILLIS)) {
             Ok(stream) => return Ok(stream),
             Err(e) => {
                 if e.kind() != ErrorKind::TimedOut {
@@ -45,7 +48,7 @@ fn connect_tcp<R: Net<Stream = TcpStream>>(
                 }
             }
         }
-        waited_millis = waited_millis.saturating_add(PIECE_MILLIS);
+        waited_millis = waited_millis.saturating_add(TRY_MILLIS);
     }
     Err(io::Error::from(ErrorKind::TimedOut))
 }

@@ -1,10 +1,11 @@
 //! Sessions and arguments, with the lines, the status and the line on standard error of each.
 
 mod failing;
-mod fixtures;
 mod made_session;
+mod running;
 
-use fixtures::{octets, run, slow_source, source_of, written_out};
+use running::{run, slow_source, source_of};
+use spf_fixtures::{octets, written_out};
 use spf_io::MemSource;
 use std::alloc::Global;
 use std::process::Abort;

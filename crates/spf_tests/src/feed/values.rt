@@ -3,12 +3,12 @@
 ghost use Rattle.std.specs.Prelude.{IsTrue, IfOk};
 ghost use Rattle.spf_feed.specs.Steps.{is_accept};
 
-use crate::fixtures::{is_written, octets};
 use spf_api::{context_from_view, read_context_view};
 use spf_feed::{
     Denial, FrameError, LimitBroken, LimitKind, Phase, Prepared, RawFrame, ResourceLimits,
     Snapshot, Step, X509SourceState, read_frame, state_line, validate_limits,
 };
+use spf_fixtures::{is_written, octets};
 use spf_id::TrustDomain;
 use spf_io::MemSource;
 use spf_x509::X509Context;

@@ -1,7 +1,8 @@
 //! Reads and puts that fail.
 
 use super::ROWS;
-use super::fixtures::{octets, run, slow_source, source_of, written_out};
+use super::running::{run, slow_source, source_of};
+use spf_fixtures::{octets, written_out};
 use std::alloc::Global;
 use std::test::Fail;
 

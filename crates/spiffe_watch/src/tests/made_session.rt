@@ -1,6 +1,6 @@
 //! Generated sessions, and their summaries.
 
-use super::fixtures::{run, source_of};
+use super::running::{run, source_of};
 use std::alloc::Global;
 use std::test::Fail;
 

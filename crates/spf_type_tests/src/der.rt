@@ -1,12 +1,12 @@
 //! DER: certificates, extensions and keys, as they are read and written.
 
-use crate::fixtures::octets;
 use spf_der::{
     BASIC_CONSTRAINTS, CertReadError, CertSpec, KEY_USAGE, KeyUsageBits, Pkcs8DecodeError,
     SUBJECT_ALT_NAME, X509ParseError, X509ParseKind, extension_unique, read_basic_constraints,
     read_certificate, read_certificate_view, read_key, read_key_usage, read_san_uri_views,
     read_san_uris, write_certificate, write_key,
 };
+use spf_fixtures::octets;
 use spf_io::{List, OutOfMemory, Text};
 use std::alloc::Global;
 use std::test::Fail;

@@ -1,11 +1,10 @@
-//! What the rows are written in: names, each for octets
-//! in hexadecimal or for a text that holds such octets.
+//! What the rows of tests are written in: names, each for octets in hexadecimal or for a text that
+//! holds such octets.
 //!
 //! ROOT1, ROOT2 and ROOT3 are authorities that differ in their serial, INTER1
 //! is an intermediate, LEAF1 and LEAF2 are leaves of `spiffe://example.org/w`
 //! and of `spiffe://example.org/v`; all expire at 1000.
 
-use spf_io::{MemSink, MemSource};
 use std::alloc::Global;
 use std::test::Fail;
 
@@ -157,7 +156,7 @@ static NAMES: [(&str, &str); 46] = [
 ];
 
 /// The text with each name replaced by what it stands for.
-pub(super) fn written_out(alloc: Global, text: &str) -> Result<String, Fail> {
+pub fn written_out(alloc: Global, text: &str) -> Result<String, Fail> {
     let mut text = String::from_str(alloc, text)?;
     for (name, meaning) in NAMES.iter() {
         text = text.replace(alloc, *name, meaning)?;
@@ -166,51 +165,12 @@ pub(super) fn written_out(alloc: Global, text: &str) -> Result<String, Fail> {
 }
 
 /// The octets that the text spells, in hexadecimal and by names; spaces are ignored.
-pub(super) fn octets(alloc: Global, text: &str) -> Result<Vec<u8>, Fail> {
+pub fn octets(alloc: Global, text: &str) -> Result<Vec<u8>, Fail> {
     let digits = written_out(alloc, text)?.replace(alloc, " ", "")?;
     Ok(hex::decode(alloc, digits.as_str())?)
 }
 
-/// The status of a run, and what it wrote.
-#[derive(Drop)]
-pub(super) struct Outcome {
-    pub(super) status: u8,
-    pub(super) out: MemSink,
-    pub(super) errors: MemSink,
-}
-
-/// Runs the program with arguments, between spaces, over a source, with the listed puts failing.
-pub(super) fn run(
-    alloc: Global,
-    arguments: &str,
-    mut source: MemSource,
-    failing_puts: Vec<u64>,
-) -> Result<Outcome, Fail> {
-    let mut texts = Vec::new(alloc);
-    for argument in arguments.split_whitespace() {
-        texts.push(String::from_str(alloc, argument)?)?;
-    }
-    let mut out = MemSink::new(alloc, 1 << 24, failing_puts)?;
-    let mut errors = MemSink::new(alloc, 1 << 10, Vec::new(alloc))?;
-    let status = crate::watch(alloc, texts.as_slice(), &mut source, &mut out, &mut errors);
-    Ok(Outcome {
-        status,
-        out,
-        errors,
-    })
-}
-
-/// Octets that are read as they stand.
-pub(super) fn source_of(alloc: Global, octets: Vec<u8>) -> MemSource {
-    MemSource::new(octets, Vec::new(alloc), Vec::new(alloc))
-}
-
-/// Octets that are read one by one, with the listed reads failing.
-pub(super) fn slow_source(
-    alloc: Global,
-    octets: Vec<u8>,
-    failing_reads: Vec<u64>,
-) -> Result<MemSource, Fail> {
-    let ones = vec![in alloc; 1; octets.len()]?;
-    Ok(MemSource::new(octets, ones, failing_reads))
+/// Whether `text` is `wanted` with its names replaced by what they stand for.
+pub fn is_written(alloc: Global, text: String, wanted: &str) -> Result<bool, Fail> {
+    Ok(text.as_str() == written_out(alloc, wanted)?.as_str())
 }
