@@ -1,0 +1,7 @@
+//! `spf_helper` follows a stream of SPIFFE Workload API updates and keeps the latest accepted
+//! identity in three files, so that another program can read it after any crash.
+#![tactic(auto)]
+
+mod generations;
+
+fn main(_rt: HostRuntime) {}
