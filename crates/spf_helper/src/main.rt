@@ -3,5 +3,6 @@
 #![tactic(auto)]
 
 mod generations;
+mod publisher;
 
 fn main(_rt: HostRuntime) {}
