@@ -5,3 +5,4 @@ pub mod MemDiskLemmas
 pub mod MemoryLemmas
 pub mod Moments
 pub mod Octets
+pub mod Opens

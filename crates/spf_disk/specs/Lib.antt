@@ -5,5 +5,6 @@ pub mod Scanning
 pub mod Slots
 pub mod Memory
 pub mod MemoryDisk
+pub mod Opening
 pub mod Replacing
 pub mod Standing

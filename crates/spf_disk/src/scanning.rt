@@ -43,13 +43,13 @@ fn file_bytes<D: Disk>(alloc: Global, disk: &mut D, file: HelperFile) -> Result<
 
 /// The gates of the two slots.
 #[derive(Clone, Copy, Debug, PartialEq, Eq)]
-struct GatesRead {
-    first: bool,
-    second: bool,
+pub(crate) struct GatesRead {
+    pub(crate) first: bool,
+    pub(crate) second: bool,
 }
 
 /// Which gates are open.
-fn open_gates<D: Disk>(alloc: Global, disk: &mut D) -> Result<GatesRead, OpenError>
+pub(crate) fn open_gates<D: Disk>(alloc: Global, disk: &mut D) -> Result<GatesRead, OpenError>
     ensures first { IfOk result
         (λ r. r.first ≡ is_open (gate_of (D.seen disk.old) Slot.First)) }
     ensures second { IfOk result
@@ -98,13 +98,13 @@ fn slot_entry<D: Disk>(
 
 /// The latest entry, and the slot that does not hold it, where the next one goes.
 #[derive(Debug, Drop)]
-pub struct Scanned {
+pub(crate) struct Scanned {
     pub entry: Option<Entry>,
     pub next: Slot,
 }
 
 /// The number of an entry.
-fn number_in(entry: &Entry) -> u64
+pub(crate) fn number_in(entry: &Entry) -> u64
     ensures { result ≡ number_of entry.now }
 {
     match entry {
@@ -155,17 +155,32 @@ fn choose(first: Option<Entry>, second: Option<Entry>) -> Result<Scanned, OpenEr
     }
 }
 
-/// Reads the three files: the latest entry, and where the next one goes.
-pub fn scan<D: Disk>(alloc: Global, disk: &mut D) -> Result<Scanned, OpenError>
+/// The latest entry by the gates, and where the next one goes.
+pub(crate) fn scan_by<D: Disk>(
+    alloc: Global,
+    disk: &mut D,
+    gates: GatesRead,
+) -> Result<Scanned, OpenError>
+    requires first { gates.first ≡ is_open (gate_of (D.seen disk.old) Slot.First) }
+    requires second { gates.second ≡ is_open (gate_of (D.seen disk.old) Slot.Second) }
     ensures latest { Gives is_free (λ s. s.entry) result (latest (D.seen disk.old)) }
     ensures next { IfOk result (λ s. IsNext s.next s.entry (D.seen disk.old)) }
     ensures looks { Looks D.seen D.may_leave D.moment D.left_since disk.old disk.new }
     ensures cause { FaultHasCause (D.failures disk.old) (D.failures disk.new) result }
 {
-    let gates = open_gates(alloc, disk)?;
     let first = slot_entry(alloc, disk, Slot::First, gates.first)?;
     let second = slot_entry(alloc, disk, Slot::Second, gates.second)?;
     choose(first, second)
+}
+
+/// Reads the three files: the latest entry, and where the next one goes.
+fn scan<D: Disk>(alloc: Global, disk: &mut D) -> Result<Scanned, OpenError>
+    ensures latest { Gives is_free (λ s. s.entry) result (latest (D.seen disk.old)) }
+    ensures looks { Looks D.seen D.may_leave D.moment D.left_since disk.old disk.new }
+    ensures cause { FaultHasCause (D.failures disk.old) (D.failures disk.new) result }
+{
+    let gates = open_gates(alloc, disk)?;
+    scan_by(alloc, disk, gates)
 }
 
 /// What a reader takes from an entry.
