@@ -1,5 +1,6 @@
 -- The three parts in which an entry is replaced.
 use Rattle.std.specs.Prelude.{◌≡◌, ℕ, ◌≤◌, ◌<◌, ◌⊎◌, false, List, length, Option, Some, None, Ok}
+use Rattle.std.specs.Option.{option_map_or}
 use Rattle.spf_disk.specs.declared.generation.Entry.{Entry}
 use Rattle.spf_disk.specs.declared.slot.Slot.{Slot}
 use Rattle.spf_disk.specs.Format.{entry_at}
@@ -42,6 +43,7 @@ IsClosed s image = is_open (gate_of image s) ≡ false
 
 -- The slot is closed, and what the other holds is as it was.
 pub record IsShut (s : Slot) (old new : Image) : Type 0 where
+  pub other_gate : gate_of new (other_slot s) ≡ gate_of old (other_slot s)
   pub shut : IsClosed s new
   pub other : standing new (other_slot s) ≡ standing old (other_slot s)
   pub room : HasRoom s new
@@ -55,6 +57,8 @@ pub record IsStored (s : Slot) (bytes : List ℕ) (old new : Image) : Type 0 whe
 pub record IsReplaced (s : Slot) (entry : Option Entry) (old new : Image) : Type 0 where
   pub latest : latest new ≡ Ok entry
   pub other : standing new (other_slot s) ≡ standing old (other_slot s)
+  pub other_gate : gate_of new (other_slot s) ≡ gate_of old (other_slot s)
+  pub holds : standing new s ≡ option_map_or Holds entry Broken
   pub open_gate : gate_of new s ≡ Some 1
   pub no_shorter : gate_number s < length new.gates
 

@@ -13,6 +13,15 @@ pub enum Slot {
 }
 
 impl Slot {
+    pub fn other(self) -> Slot
+        ensures { result ≡ other_slot self }
+    {
+        match self {
+            Slot::First => Slot::Second,
+            Slot::Second => Slot::First,
+        }
+    }
+
     pub fn file(self) -> HelperFile
         ensures { result ≡ file_of_slot self }
     {
