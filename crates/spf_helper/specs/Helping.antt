@@ -1,6 +1,9 @@
 -- A publisher over a disk: what contracts see of it, and what holds of it.
 use Rattle.std.specs.Prelude.{◌≡◌, ◌≢◌, ℕ, ◌+◌, ◌^◌, ◌<◌, ◌⊎◌, Bool, List, [], length}
-use Rattle.std.specs.Prelude.{Option, None, Some, Ok}
+use Rattle.std.specs.Prelude.{Option, None, Some, Result, Ok, Err}
+use Rattle.std.specs.Option.{option_map_or}
+use Rattle.spf_disk.specs.declared.open_error.OpenError.{OpenError}
+use Rattle.spf_disk.specs.declared.open_error.OpenError.TheVariants.{DiskFault, Damaged, OutOfMemory}
 use Rattle.std.specs.Borrow.{MutBor}
 use Rattle.spf_feed.specs.Steps.{PlainStep}
 use Rattle.spf_disk.specs.declared.generation.Entry.{Entry}
@@ -43,3 +46,18 @@ pub record IsReady (base written : ℕ) (steps : List PlainStep) (next : Slot)
 abbrev pub IsBeforeOrAfter : Image → ℕ → List PlainStep → Image → Type 0
 IsBeforeOrAfter old base steps c =
     (found c ≡ found old) ⊎ (found c ≡ Ok (generation_after base steps))
+
+-- The greatest number is that of what is found, or 0; or the files are damaged.
+abbrev pub OpensAs : {D : Type 0} → Image → Result (Helping D) OpenError → Type 0
+OpensAs image (Ok p) =
+    (entry : Option Entry) × (latest image ≡ Ok entry) × (p.base ≡ option_map_or number_of entry 0)
+OpensAs image (Err Damaged) = latest image ≡ Err Damaged
+OpensAs image (Err _) = Unit {0}
+
+-- One more step is acknowledged, and a crash leaves nothing but what it says.
+pub record IsKept {D : Type 0} (seen : D → Image) (may_leave : D → Image → Type 0)
+    (old new : Helping D) : Type 0 where
+  pub one_more : new.acknowledged ≡ old.acknowledged + 1
+  pub all : new.acknowledged ≡ length new.steps
+  pub durable : Only (seen new.disk.now) (may_leave new.disk.now)
+  pub is_found : found (seen new.disk.now) ≡ Ok (generation_after new.base new.steps)
