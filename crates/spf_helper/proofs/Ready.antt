@@ -2,6 +2,8 @@
 use Rattle.std.proofs.Common.{◌≡◌, ℕ, ◌+◌, ◌^◌, ◌<◌, ◌≤◌, Bool, true, false, List, [], ◌∷◌, ◌++◌, length, Option}
 use Rattle.std.proofs.Common.{Some, None, Ok, refl, sym, ◌∙◌, ap, subst, arith, length-append, inl, inr}
 use Rattle.std.proofs.Common.{⊎_elim, Result, ◌⊎◌}
+use Rattle.std.proofs.Common.{◌||◌}
+use Rattle.std.specs.Bool.{OnFalse, MatchBool}
 use Rattle.std.specs.Option.{option_map, option_map_or, option_and_then}
 use Rattle.spf_feed.specs.Steps.{PlainStep, Accept, Deny}
 use Rattle.spf_disk.specs.declared.generation.Entry.{Entry}
@@ -148,3 +150,30 @@ found_either base written steps image c bytes s count is either = ⊎_elim
         ∙ ap taken
         (is ∙ sym (entry_of_more base written steps s count))))
     either
+
+-- the same, by what the fields are then
+pub ready_kept : (base written : ℕ) (steps more : List PlainStep) (next after : Slot)
+    (one two : Bool) (image later : Image) (bytes : List ℕ) (s : PlainStep)
+    → IsReady base written steps next one two image
+    → entry_at bytes ≡ Some (entry_for (base + written + 1) s) → base + written + 1 < 2 ^ 64
+    → IsReplaced next (entry_at bytes) image later → more ≡ steps ++ s ∷ []
+    → after ≡ other_slot next → IsReady base (written + 1) more after two true later
+ready_kept base written steps more next after one two image later bytes s ready is small replaced
+    more_is after_is =
+    subst (λ (l : List PlainStep). IsReady base (written + 1) l after two true later) (sym more_is)
+    (subst (λ (n : Slot). IsReady base (written + 1) (steps ++ s ∷ []) n two true later)
+    (sym after_is) (ready_more base written steps next one two image later bytes s ready is small
+    replaced))
+
+pub on_false : (b : Bool) (X : Type 0) → X → OnFalse b X
+on_false true X x = tt
+on_false false X x = x
+
+pub unless : (b : Bool) (X : Type 0) → X → MatchBool b (Unit {0}) X
+unless true X x = tt
+unless false X x = x
+
+pub neither : (b c : Bool) (X : Type 0) → b ≡ false → c ≡ false → MatchBool (b || c) (Unit {0}) X → X
+neither true c X one two x = cc
+neither false true X one two x = cc
+neither false false X one two x = x

@@ -54,10 +54,9 @@ OpensAs image (Ok p) =
 OpensAs image (Err Damaged) = latest image ≡ Err Damaged
 OpensAs image (Err _) = Unit {0}
 
--- One more step is acknowledged, and a crash leaves nothing but what it says.
-pub record IsKept {D : Type 0} (seen : D → Image) (may_leave : D → Image → Type 0)
-    (old new : Helping D) : Type 0 where
-  pub one_more : new.acknowledged ≡ old.acknowledged + 1
-  pub all : new.acknowledged ≡ length new.steps
-  pub durable : Only (seen new.disk.now) (may_leave new.disk.now)
-  pub is_found : found (seen new.disk.now) ≡ Ok (generation_after new.base new.steps)
+-- All steps are written, and a crash leaves nothing but what the last one says.
+pub record IsStanding {D : Type 0} (seen : D → Image) (may_leave : D → Image → Type 0)
+    (p : Helping D) : Type 0 where
+  pub all : p.acknowledged ≡ length p.steps
+  pub durable : Only (seen p.disk.now) (may_leave p.disk.now)
+  pub found_is : p.steps ≢ [] → found (seen p.disk.now) ≡ Ok (generation_after p.base p.steps)

@@ -1,6 +1,6 @@
 //! A publisher that keeps the latest step on a disk.
 
-ghost use Rattle.std.specs.Prelude.{◌≡◌, ◌≢◌, ◌||◌, ◌++◌, ◌∷◌, ◌+◌, ◌≤◌, [], false, Ok, IfOk, OnOk};
+ghost use Rattle.std.specs.Prelude.{◌≡◌, ◌||◌, ◌++◌, ◌∷◌, ◌+◌, ◌≤◌, [], false, Ok, IfOk, OnOk};
 ghost use Rattle.std.specs.Prelude.{OnErr, length};
 ghost use Rattle.std.specs.Prelude.{◌==◌, ◌-◌, ◌^◌, Some};
 ghost use Rattle.std.specs.Bool.{OnFalse, OnTrue};
@@ -10,7 +10,7 @@ ghost use Rattle.spf_feed.specs.Steps.{plain};
 ghost use Rattle.spf_disk.specs.Crash.{LeavesOnly, Looks, Only};
 ghost use Rattle.spf_disk.specs.Standing.{found};
 ghost use Rattle.spf_helper.specs.Generations.{generation_after};
-ghost use Rattle.spf_helper.specs.Helping.{IsBeforeOrAfter, OpensAs, IsKept};
+ghost use Rattle.spf_helper.specs.Helping.{IsBeforeOrAfter, OpensAs, IsStanding};
 ghost use Rattle.spf_disk.specs.Opening.{IsOpened};
 
 use crate::generations::entry_of;
@@ -103,7 +103,11 @@ impl<'a, D: Disk> HelperPublisher<'a, D> {
 
     /// How many of the first steps are written.
     pub fn acknowledged(&self) -> u64
-        ensures { result ≡ self.now.acknowledged }
+        ensures count { result ≡ self.now.acknowledged }
+        // Unless the disk failed or the numbers ran out, all
+        // are, and each crash leaves what the last one says.
+        ensures standing { OnFalse (self.now.fault || self.now.full)
+            (IsStanding D.seen D.may_leave self.now) }
     {
         self.acknowledged
     }
@@ -135,19 +139,11 @@ impl<'a, D: Disk> Publisher for HelperPublisher<'a, D> {
         ensures same_reference { self.new.disk.ghost_name ≡ self.old.disk.ghost_name }
         ensures refused { OnErr result (self.new ≡ self.old) }
         ensures same_base { self.new.base ≡ self.old.base }
-        // What was found before is what the steps before say.
-        ensures before { OnFalse (self.old.fault || self.old.full) (self.old.steps ≢ []
-            → found (D.seen self.old.disk.now)
-            ≡ Ok (generation_after self.old.base self.old.steps)) }
         // A crash at any moment of the call leaves that, or what the step says.
         ensures any_moment { OnFalse (self.old.fault || self.old.full)
             (LeavesOnly D.moment D.left_since self.old.disk.now self.new.disk.now
             (IsBeforeOrAfter (D.seen self.old.disk.now) self.old.base
             (self.old.steps ++ plain step ∷ []))) }
-        // Once it is acknowledged, each crash leaves what the step says.
-        ensures acknowledged { OnFalse (self.old.fault || self.old.full)
-            (OnOk result (OnFalse (self.new.fault || self.new.full)
-            (IsKept D.seen D.may_leave self.old self.new))) }
         // Only the disk is a reason for a fault, and only the numbers for being full.
         ensures fault { OnFalse self.old.fault (OnTrue self.new.fault
             (Rose (D.failures self.old.disk.now) (D.failures self.new.disk.now))) }
