@@ -1,2 +1,3 @@
 pub mod Generations
 pub mod Helping
+pub mod Runs

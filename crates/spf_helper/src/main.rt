@@ -2,7 +2,9 @@
 //! identity in three files, so that another program can read it after any crash.
 #![tactic(auto)]
 
+mod following;
 mod generations;
+mod helper_error;
 mod publisher;
 
 fn main(_rt: HostRuntime) {}
