@@ -1,1 +1,2 @@
+pub mod Followings
 pub mod Ready

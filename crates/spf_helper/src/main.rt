@@ -6,5 +6,7 @@ mod following;
 mod generations;
 mod helper_error;
 mod publisher;
+mod report;
+mod watching;
 
 fn main(_rt: HostRuntime) {}
