@@ -1,2 +1,3 @@
 pub mod Followings
+pub mod Pieces
 pub mod Ready
