@@ -1,4 +1,7 @@
+pub mod Body
 pub mod Folded
 pub mod Members
 pub mod Message
+pub mod Octets
+pub mod Taking
 pub mod Wire

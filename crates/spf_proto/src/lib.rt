@@ -3,7 +3,10 @@
 #![tactic(auto)]
 
 mod entry;
+mod lent;
 mod message;
+mod octets;
+mod taking;
 mod varint;
 mod wire;
 
