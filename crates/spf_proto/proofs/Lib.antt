@@ -4,3 +4,4 @@ pub mod Fields
 pub mod Latest
 pub mod OctetsLemmas
 pub mod TakingLemmas
+pub mod PayloadLemmas

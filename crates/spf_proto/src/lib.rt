@@ -6,6 +6,7 @@ mod entry;
 mod lent;
 mod message;
 mod octets;
+mod payload;
 mod taking;
 mod varint;
 mod wire;
