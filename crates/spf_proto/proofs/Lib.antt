@@ -5,3 +5,5 @@ pub mod Latest
 pub mod OctetsLemmas
 pub mod TakingLemmas
 pub mod PayloadLemmas
+pub mod TranslatingLemmas
+pub mod ReceivedLemmas

@@ -5,4 +5,6 @@ pub mod Message
 pub mod Octets
 pub mod Payloads
 pub mod Taking
+pub mod Translated
+pub mod Translating
 pub mod Wire

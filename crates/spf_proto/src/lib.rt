@@ -8,6 +8,7 @@ mod message;
 mod octets;
 mod payload;
 mod taking;
+mod translating;
 mod varint;
 mod wire;
 
