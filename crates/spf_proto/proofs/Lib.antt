@@ -7,3 +7,4 @@ pub mod TakingLemmas
 pub mod PayloadLemmas
 pub mod TranslatingLemmas
 pub mod ReceivedLemmas
+pub mod TranslatorLemmas

@@ -190,14 +190,18 @@ needs_rest got rest octets n count is number le lt count_is =
 
 pub needs_nothing : (got rest octets : List ℕ) (n : ℕ) → got ≡ 0 ∷ rest
     → Some (n, octets) ≡ number_at rest → n ≤ length octets → length got ≤ total got
-    → IsWhole got (drop 5 got)
+    → IsWhole got (drop 5 got) × (5 ≤ length got)
 needs_nothing got rest octets n is number le short =
     let p = parts_of rest n octets number in
     let whole : got ≡ 0 ∷ p.a ∷ p.b ∷ p.c ∷ p.d ∷ octets = is ∙ ap (λ (l : List ℕ). 0 ∷ l) p.is in
     let all : total got ≡ 5 + n = ap total whole ∙ ap (λ k. 5 + k) (sym p.number) in
     let counted : length got ≡ length (0 ∷ p.a ∷ p.b ∷ p.c ∷ p.d ∷ octets) = ap length whole in
     let size : length got ≡ 5 + length octets = omega (arith, counted) in
-    rw whole (message_whole p.a p.b p.c p.d octets (omega (arith, le, short, all, size, p.number)))
+    (
+      rw whole
+          (message_whole p.a p.b p.c p.d octets (omega (arith, le, short, all, size, p.number))),
+      omega (arith, size),
+    )
 
 pub is_too_long : (got rest octets : List ℕ) (n : ℕ) → got ≡ 0 ∷ rest
     → Some (n, octets) ≡ number_at rest → 2 ^ 24 < n → IsBad got

@@ -1,3 +1,4 @@
+pub mod Beginning
 pub mod Body
 pub mod Folded
 pub mod Members
@@ -7,4 +8,5 @@ pub mod Payloads
 pub mod Taking
 pub mod Translated
 pub mod Translating
+pub mod Translator
 pub mod Wire

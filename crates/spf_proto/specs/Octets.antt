@@ -25,5 +25,5 @@ IsBad got = (more : List ℕ) → message_at (got ++ more) ≡ None
 
 abbrev pub IsNeed : List ℕ → Needed → Type 0
 IsNeed got (needs.Octets count) = NeedsOctets got count
-IsNeed got needs.Nothing = IsWhole got (drop 5 got) × (got ≢ [])
+IsNeed got needs.Nothing = IsWhole got (drop 5 got) × (5 ≤ length got)
 IsNeed got needs.Bad = IsBad got × (got ≢ [])

@@ -38,7 +38,7 @@ abbrev pub IsStep : ℕ → ℕ → List ℕ → Option (List ℕ) → Result Pr
 IsStep allowed before got left (Ok progress.More) =
     (before < length got) × (length got ≤ 5 + 2 ^ 24)
 IsStep allowed before got left (Ok progress.Whole) =
-    IsWhole got (drop 5 got) × (got ≢ []) × (allowed ≢ 0)
+    IsWhole got (drop 5 got) × (5 ≤ length got) × (allowed ≢ 0)
 IsStep allowed before got left (Ok progress.End) = (got ≡ []) × IsAtEnd left
 IsStep allowed before got left (Err stops.BadMessage) =
     (got ≢ []) × (allowed ≢ 0) × IsNoMessage got left

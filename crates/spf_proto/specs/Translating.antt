@@ -1,5 +1,8 @@
 -- How a message is translated.
 use Rattle.std.specs.Prelude.{◌≡◌, ℕ, ℤ, Bool, if◌then◌else◌, List, [], ◌∷◌, ◌++◌, Option, Some, None}
+use Rattle.std.specs.Prelude.{Result, Ok, Err}
+use Rattle.spf_proto.specs.declared.taking.Stop.{Stop}
+use Rattle.spf_proto.specs.declared.taking.Stop.TheVariants as stops
 unfoldable pub use Rattle.spf_api.specs.Layout.{field_text}
 use Rattle.spf_feed.specs.Items.{Rules, context_in}
 use Rattle.spf_api.specs.declared.response.ContextResponse.{ContextResponse}
@@ -31,3 +34,11 @@ abbrev pub IsTranslated : Rules → ℤ → Position → List ℕ → List ℕ �
 IsTranslated rules start before octets frames None = response_of octets ≡ None
 IsTranslated rules start before octets frames (Some after) =
     IsMade rules start before after octets frames
+
+abbrev pub IsMadeOrStopped : Rules → ℤ → Position → List ℕ → List ℕ → Result Position Stop → Type 0
+IsMadeOrStopped rules start before octets frames (Ok after) =
+    IsMade rules start before after octets frames
+IsMadeOrStopped rules start before octets frames (Err stops.BadMessage) = response_of octets ≡ None
+IsMadeOrStopped rules start before octets frames (Err stops.OutOfMemory) = Unit {0}
+IsMadeOrStopped rules start before octets frames (Err stops.TooManyMessages) = ⊥
+IsMadeOrStopped rules start before octets frames (Err stops.SourceFailed) = ⊥

@@ -9,6 +9,7 @@ mod octets;
 mod payload;
 mod taking;
 mod translating;
+mod translator;
 mod varint;
 mod wire;
 

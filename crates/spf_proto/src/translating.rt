@@ -9,10 +9,11 @@ ghost use Rattle.spf_feed.specs.Pick.{usable};
 ghost use Rattle.spf_feed.specs.Steps.{chosen_of};
 ghost use Rattle.spf_proto.specs.Translated.{is_accepted, standing_after};
 ghost use Rattle.spf_proto.specs.Translating.{standing, client_frames, item_frames};
-ghost use Rattle.spf_proto.specs.Translating.{IsTranslated};
+ghost use Rattle.spf_proto.specs.Translating.{IsMadeOrStopped, IsTranslated};
 
 use crate::message::read_message;
 use crate::payload::{put_bytes, put_context};
+use crate::taking::Stop;
 use spf_api::{ContextView, WorkloadApiError, context_from_view};
 use spf_feed::{Ready, ResourceLimits, SvidPicker, frame_kind, select_svid, validate_limits};
 use spf_io::OutOfMemory;
@@ -167,7 +168,7 @@ fn put_frames(frames: &mut Vec<u8>, is_open: bool, payload: &[u8]) -> Result<(),
 
 /// Puts the frames of a message in place of what the buffer held, and returns where the session
 /// stands after it. None where the octets are no message.
-pub(crate) fn translate<C: SvidPicker>(
+fn frames_of<C: SvidPicker>(
     alloc: Global,
     acceptance: Acceptance,
     picker: Option<&C>,
@@ -196,4 +197,29 @@ pub(crate) fn translate<C: SvidPicker>(
     put_frames(frames, position.is_open, payload.as_slice())?;
     let context = read_context(alloc, &view)?;
     Ok(Some(position_after(acceptance, picker, position, context)))
+}
+
+/// The same, with the reason where there is no message.
+pub(crate) fn translate<C: SvidPicker>(
+    alloc: Global,
+    acceptance: Acceptance,
+    picker: Option<&C>,
+    position: Position,
+    octets: &[u8],
+    payload: &mut Vec<u8>,
+    frames: &mut Vec<u8>,
+) -> Result<Position, Stop>
+    requires { ForSome picker (λ p. C.can_pick p.now) }
+    ensures { IsMadeOrStopped
+        (rules_with acceptance.limits None acceptance.ready
+        (option_map (λ p. C.picks p.now) picker.entry)) acceptance.start position octets.now
+        frames.new.items result }
+{
+    match frames_of(
+        alloc, acceptance, picker, position, octets, payload, frames,
+    ) {
+        Ok(Some(position)) => Ok(position),
+        Ok(None) => Err(Stop::BadMessage),
+        Err(_) => Err(Stop::OutOfMemory),
+    }
 }

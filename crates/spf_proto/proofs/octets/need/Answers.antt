@@ -44,9 +44,7 @@ pub returns : goal.returns
 returns c =
     let is : c.args.got.now ≡ c.in-Some.flag.now ∷ c.in-Some.rest.now = search rules in
     let zero : c.in-Some.flag.now ≡ 0 = grind (arith, nat_tests) in
-    let le : c.in-Some-read_length.length ≤ length c.in-Some-read_length.octets.now = search rules in (
-      needs_nothing c.args.got.now c.in-Some.rest.now c.in-Some-read_length.octets.now
-          c.in-Some-read_length.length (is ∙ ap (λ f. f ∷ c.in-Some.rest.now) zero)
-          c.in-Some-read_length.ensures le c.requires,
-      λ none. let no = sym is ∙ none in absurd cc,
-    )
+    let le : c.in-Some-read_length.length ≤ length c.in-Some-read_length.octets.now = search rules in
+    needs_nothing c.args.got.now c.in-Some.rest.now c.in-Some-read_length.octets.now
+    c.in-Some-read_length.length (is ∙ ap (λ f. f ∷ c.in-Some.rest.now) zero)
+    c.in-Some-read_length.ensures le c.requires

@@ -5,7 +5,7 @@ use Rattle.spf_api.specs.Views.{context_of}
 use Rattle.spf_api.specs.Layout.{context_payload}
 use Rattle.spf_proto.proofs.TranslatingLemmas.{frames_made, response_large, response_long}
 use Rattle.spf_proto.proofs.TranslatingLemmas.{response_none, response_some}
-use Rattle.spf_proto.proofs.translating.translate.Goals as goal
+use Rattle.spf_proto.proofs.translating.frames_of.Goals as goal
 
 pub returns-then-octets-gt-MAX_PAYLOAD : goal.returns-then-octets-gt-MAX_PAYLOAD
 returns-then-octets-gt-MAX_PAYLOAD g c =
