@@ -1,5 +1,5 @@
 -- A source that translates the messages of another one into frames.
-use Rattle.std.specs.Prelude.{◌≡◌, ◌≢◌, ℕ, ℤ, ◌+◌, ◌≤◌, Bool, true, List, [], ◌++◌, length}
+use Rattle.std.specs.Prelude.{◌≡◌, ◌≢◌, ℕ, ℤ, ◌+◌, ◌≤◌, Bool, true, min, List, [], ◌++◌, length}
 use Rattle.std.specs.Prelude.{Option, None, Some}
 use Rattle.std.specs.Option.{option_map}
 use Rattle.std.specs.Io.KnownBytes.{Consumes, IsAtEnd}
@@ -58,3 +58,10 @@ pub record IsTranslator {T : Type 0} (loan : T → ℕ) (left : T → Option (Li
   pub counted : length messages + t.allowed ≡ b.max
   pub at_end : t.ended ≡ true → (t.got ≡ []) × IsAtEnd (left t.source)
   pub stopped : IsStopped left failures b t t.stop
+
+-- the first of the octets that are ready are given, as many as there is room for
+pub record GivesReady {T : Type 0} (old new : Translating T) (given : List ℕ)
+    (room : ℕ) : Type 0 where
+  pub front : old.ready ≡ given ++ new.ready
+  pub size : length given ≡ min room (length old.ready)
+  pub others : new ≡ record old { ready = new.ready }

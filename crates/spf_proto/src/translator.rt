@@ -1,12 +1,12 @@
 //! A source that reads messages from another one, and gives the frames that they stand for.
 
-ghost use Rattle.std.specs.Prelude.{◌≡◌, ◌≢◌, ◌≤◌, [], None, Some, false, true, drop, IfErr, OnOk};
+ghost use Rattle.std.specs.Prelude.{◌≡◌, ◌≢◌, ◌≤◌, [], None, Some, false, true, drop, IfErr, OnErr, OnOk};
 ghost use Rattle.std.specs.Prelude.{length, take};
-ghost use Rattle.std.specs.Io.KnownBytes.{Keeps};
+ghost use Rattle.std.specs.Io.KnownBytes.{IsAtEnd, Keeps};
 ghost use Rattle.spf_io.specs.Outside.{HasCause};
 ghost use Rattle.spf_proto.specs.Beginning.{Beginning};
 ghost use Rattle.spf_proto.specs.Octets.{IsWhole};
-ghost use Rattle.spf_proto.specs.Translator.{left_of, IsStopped};
+ghost use Rattle.spf_proto.specs.Translator.{left_of, GivesReady, IsStopped};
 
 use crate::lent::LentSource;
 use crate::taking::{Progress, Stop, take_message};
@@ -124,5 +124,91 @@ impl<'p, T: LentSource, C: SvidPicker, N: Origin> Translator<'p, T, C, N> {
             }
             Err(stop) => Err(stop),
         }
+    }
+
+    /// Takes the next message and translates it, or finds that the source has ended.
+    fn advance(&mut self) -> Result<(), Stop>
+        requires ready { self.old.ready ≡ [] }
+        requires going { self.old.stop ≡ None }
+        requires unended { self.old.ended ≡ false }
+        ensures left { Keeps (left_of T.left N.begin.rules N.begin.start self.old)
+            (left_of T.left N.begin.rules N.begin.start self.new) }
+        ensures going { self.new.stop ≡ None }
+        ensures failures { self.new.failures ≡ self.old.failures }
+        ensures ready { OnOk result (self.new.ready ≡ [] → self.new.ended ≡ true) }
+        ensures at_end { OnOk result (self.new.ready ≡ []
+            → IsAtEnd (left_of T.left N.begin.rules N.begin.start self.new)) }
+        ensures stopped { IfErr result
+            (λ s. IsStopped T.left T.failures N.begin self.new (Some s)) }
+    {
+        let taken = take_message(
+            &mut self.source,
+            self.chunk.as_mut_slice(),
+            &mut self.got,
+            self.allowed,
+        );
+        match taken {
+            Ok(Progress::More) => unreachable!(),
+            Ok(Progress::End) => {
+                self.ended = true;
+                Ok(())
+            }
+            Ok(Progress::Whole) => self.translate(),
+            Err(stop) => Err(stop),
+        }
+    }
+
+    /// Makes octets ready, unless some are or the source has ended.
+    fn prepare(&mut self) -> Result<(), Failed>
+        ensures left { Keeps (left_of T.left N.begin.rules N.begin.start self.old)
+            (left_of T.left N.begin.rules N.begin.start self.new) }
+        ensures cause { HasCause self.old.failures self.new.failures result }
+        ensures ready { OnOk result (self.new.ready ≡ [] → self.new.ended ≡ true) }
+        ensures at_end { OnOk result (self.new.ready ≡ []
+            → IsAtEnd (left_of T.left N.begin.rules N.begin.start self.new)) }
+        ensures stopped { OnErr result (self.new.stop ≢ None) }
+    {
+        if self.at < self.frames.len() {
+            return Ok(());
+        }
+        if self.ended {
+            return Ok(());
+        }
+        if self.stop.is_some() {
+            self.failed = self.failed.saturating_add(1);
+            return Err(Failed);
+        }
+        match self.advance() {
+            Ok(()) => Ok(()),
+            Err(stop) => {
+                self.stop = Some(stop);
+                self.failed = self.failed.saturating_add(1);
+                Err(Failed)
+            }
+        }
+    }
+
+    /// Copies what is ready and fits into `buf`, and returns its length.
+    fn give(&mut self, buf: &mut [u8]) -> usize
+        ensures room { result ≤ length buf.new }
+        ensures given { GivesReady self.old self.new (take result buf.new) (length buf.new) }
+    {
+        let n = buf.len().min(self.frames.len() - self.at);
+        buf[..n].copy_from_slice(&self.frames[self.at..self.at + n]);
+        self.at += n;
+        n
+    }
+}
+
+impl<'p, T: LentSource, C: SvidPicker, N: Origin> Source for Translator<'p, T, C, N> {
+    ghost use Rattle.spf_proto.specs.Translator.{left_of};
+
+    ghost left = { λ t. left_of T.left N.begin.rules N.begin.start t };
+
+    ghost failures = { λ t. t.failures };
+
+    fn read(&mut self, buf: &mut [u8]) -> Result<usize, Failed> {
+        self.prepare()?;
+        Ok(self.give(buf))
     }
 }
