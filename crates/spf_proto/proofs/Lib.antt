@@ -8,3 +8,4 @@ pub mod PayloadLemmas
 pub mod TranslatingLemmas
 pub mod ReceivedLemmas
 pub mod TranslatorLemmas
+pub mod EndLemmas

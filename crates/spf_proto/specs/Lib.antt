@@ -1,6 +1,9 @@
 pub mod Beginning
 pub mod Body
+pub mod Ends
 pub mod Folded
+pub mod Following
+pub mod FrameEnds
 pub mod Members
 pub mod Message
 pub mod Octets

@@ -6,6 +6,7 @@ use Rattle.spf_x509.specs.Context.{Context}
 use Rattle.spf_api.specs.declared.response.ContextResponse.{ContextResponse}
 use Rattle.spf_api.specs.Layout.{context_payload}
 use Rattle.spf_view.specs.Frames.{raw_text}
+unfoldable pub use Rattle.spf_view.specs.Frames.{sized}
 use Rattle.spf_view.specs.Sessions.{onto}
 use Rattle.spf_view.specs.Views.{keep_if, brings}
 use Rattle.spf_frame.specs.declared.frame_kind.TheConstants.{CLIENT_MADE, CONNECTED, ITEM, MOMENT}

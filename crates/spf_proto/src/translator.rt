@@ -6,12 +6,18 @@ ghost use Rattle.std.specs.Io.KnownBytes.{IsAtEnd, Keeps};
 ghost use Rattle.spf_io.specs.Outside.{HasCause};
 ghost use Rattle.spf_proto.specs.Beginning.{Beginning};
 ghost use Rattle.spf_proto.specs.Octets.{IsWhole};
-ghost use Rattle.spf_proto.specs.Translator.{left_of, GivesReady, IsStopped};
+ghost use Rattle.spf_proto.specs.Translator.{left_of, GivesReady, IsStopped, IsTranslator};
+ghost use Rattle.spf_proto.specs.Ends.{IsReasonOf, IsEndedBy, IsResultOf, begun, error_of, result_of_end};
+ghost use Rattle.std.specs.Prelude.{◌<◌, vec_len};
+ghost use Rattle.std.specs.Option.{ForSome, option_map};
+ghost use Rattle.spf_feed.specs.Items.{rules_with};
 
 use crate::lent::LentSource;
 use crate::taking::{Progress, Stop, take_message};
 use crate::translating::{Acceptance, Position, translate};
-use spf_feed::SvidPicker;
+use crate::frame_end::FrameEnd;
+use crate::proto_error::ProtoError;
+use spf_feed::{FollowError, SvidPicker};
 use spf_io::{Failed, OutOfMemory, Source};
 use std::alloc::Global;
 use std::marker::{Brand, Model, PhantomData};
@@ -89,6 +95,60 @@ impl<'p, T: LentSource, C: SvidPicker, N: Origin> Model for Translator<'p, T, C,
 }
 
 impl<'p, T: LentSource, C: SvidPicker, N: Origin> Translator<'p, T, C, N> {
+    /// A translation that has not begun: these octets are ready, and `chunk` is what is read into.
+    pub(crate) fn new(
+        alloc: Global,
+        source: T,
+        acceptance: Acceptance,
+        picker: Option<&'p C>,
+        allowed: u32,
+        chunk: Vec<u8>,
+        frames: Vec<u8>,
+    ) -> Translator<'p, T, C, N>
+        requires chunk { 0 < vec_len chunk }
+        requires picker { ForSome picker (λ p. C.can_pick p.now) }
+        requires begin { N.begin ≡ record {
+          loan = T.loan source;
+          left = T.left source;
+          failures = T.failures source;
+          rules = rules_with acceptance.limits None acceptance.ready
+              (option_map (λ p. C.picks p.now) picker);
+          start = acceptance.start;
+          max = allowed;
+        } }
+        ensures begun { result ≡ begun source frames.items allowed }
+    {
+        Translator {
+            source,
+            alloc,
+            acceptance,
+            picker,
+            chunk,
+            got: Vec::new(alloc),
+            payload: Vec::new(alloc),
+            frames,
+            at: 0,
+            allowed,
+            position: Position {
+                is_open: false,
+                synced: false,
+            },
+            ended: false,
+            stop: None,
+            failed: 0,
+            of: PhantomData,
+        }
+    }
+
+    /// The source that was translated.
+    pub(crate) fn into_source(self) -> T
+        ensures source { result ≡ self.entry.source }
+        ensures knows { IsTranslator T.loan T.left T.failures N.begin self.entry }
+    {
+        let Translator { source, .. } = self;
+        source
+    }
+
     /// Translates the message that has come.
     fn translate(&mut self) -> Result<(), Stop>
         requires whole { IsWhole self.old.got (drop 5 self.old.got) }
@@ -197,6 +257,58 @@ impl<'p, T: LentSource, C: SvidPicker, N: Origin> Translator<'p, T, C, N> {
         buf[..n].copy_from_slice(&self.frames[self.at..self.at + n]);
         self.at += n;
         n
+    }
+
+    /// Why the translation stopped.
+    fn reason(&self) -> Stop
+        ensures { IsReasonOf T.left T.failures N.begin self.now result }
+    {
+        match self.stop {
+            Some(stop) => stop,
+            None => Stop::OutOfMemory,
+        }
+    }
+
+    /// The error of a reason: a bad message has the number behind those that were translated.
+    fn error(&self, stop: Stop, max: u32) -> ProtoError
+        requires max { max ≡ N.begin.max }
+        ensures { result ≡ error_of max self.now.allowed stop }
+    {
+        match stop {
+            Stop::BadMessage => ProtoError::BadMessage {
+                message: max.saturating_sub(self.allowed) as u64 + 1,
+            },
+            Stop::TooManyMessages => ProtoError::TooManyMessages,
+            Stop::SourceFailed => ProtoError::Follow(FollowError::ReadFault),
+            Stop::OutOfMemory => ProtoError::Follow(FollowError::OutOfMemory),
+        }
+    }
+
+    /// Returns `end` where the source has ended and all is handed out, and otherwise why not.
+    fn ended(&mut self, end: FrameEnd, max: u32) -> Result<u64, ProtoError>
+        requires max { max ≡ N.begin.max }
+        ensures { IsEndedBy T.left T.failures N.begin
+            (left_of T.left N.begin.rules N.begin.start self.old) self.new (result_of_end end) result }
+    {
+        match self.prepare() {
+            Ok(()) => end.result(),
+            Err(Failed) => Err(self.error(self.reason(), max)),
+        }
+    }
+
+    /// How following the body ended, where following the frames ended so.
+    pub(crate) fn result_of(&mut self, end: FrameEnd, max: u32) -> Result<u64, ProtoError>
+        requires max { max ≡ N.begin.max }
+        ensures { IsResultOf T.left T.failures N.begin
+            (left_of T.left N.begin.rules N.begin.start self.old) self.new end result }
+    {
+        match end {
+            FrameEnd::Whole(count) => self.ended(FrameEnd::Whole(count), max),
+            FrameEnd::NeverSynced => self.ended(FrameEnd::NeverSynced, max),
+            FrameEnd::ReadFault => Err(self.error(self.reason(), max)),
+            FrameEnd::WriteFault => Err(ProtoError::Follow(FollowError::WriteFault)),
+            FrameEnd::OutOfMemory => Err(ProtoError::Follow(FollowError::OutOfMemory)),
+        }
     }
 }
 
