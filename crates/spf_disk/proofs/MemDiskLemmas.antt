@@ -31,9 +31,9 @@ torn_file untouched end Gates files state one c left =
     let seen = bytes_left files.gates in
     record {
       stays = λ i octet outside each. torn.stays i octet outside (λ b out.
-      each (record c { gates = b }) (record { gates = out; first = left.first; second = left.second }));
+          each (record c { gates = b }) (record { gates = out; first = left.first; second = left.second }));
       no_longer = λ size each. torn.no_longer size (λ b out.
-      each (record c { gates = b }) (record { gates = out; first = left.first; second = left.second }));
+          each (record c { gates = b }) (record { gates = out; first = left.first; second = left.second }));
       others = (
         record c { gates = files.gates.bytes },
         record { gates = seen; first = left.first; second = left.second },
@@ -45,9 +45,9 @@ torn_file untouched end First files state one c left =
     let seen = bytes_left files.first in
     record {
       stays = λ i octet outside each. torn.stays i octet outside (λ b out.
-      each (record c { first = b }) (record { gates = left.gates; first = out; second = left.second }));
+          each (record c { first = b }) (record { gates = left.gates; first = out; second = left.second }));
       no_longer = λ size each. torn.no_longer size (λ b out.
-      each (record c { first = b }) (record { gates = left.gates; first = out; second = left.second }));
+          each (record c { first = b }) (record { gates = left.gates; first = out; second = left.second }));
       others = (
         record c { first = files.first.bytes },
         record { gates = left.gates; first = seen; second = left.second },
@@ -59,9 +59,9 @@ torn_file untouched end Second files state one c left =
     let seen = bytes_left files.second in
     record {
       stays = λ i octet outside each. torn.stays i octet outside (λ b out.
-      each (record c { second = b }) (record { gates = left.gates; first = left.first; second = out }));
+          each (record c { second = b }) (record { gates = left.gates; first = left.first; second = out }));
       no_longer = λ size each. torn.no_longer size (λ b out.
-      each (record c { second = b }) (record { gates = left.gates; first = left.first; second = out }));
+          each (record c { second = b }) (record { gates = left.gates; first = left.first; second = out }));
       others = (
         record c { second = files.second.bytes },
         record { gates = left.gates; first = left.first; second = seen },
@@ -81,10 +81,15 @@ write_torn at piece f state le written unsettled c left = record {
         ap (λ (l : List ℕ). slice_get l i) written ∙ written_outside at piece f.bytes i le outside inside,
       )) left each;
   no_longer = λ size each. file_no_longer f state (at + length piece) size c
-      (omega (arith, unsettled.size_is, ap length written,
-      length-append (take at f.bytes) (piece ++ drop (at + length piece) f.bytes),
-      length-append piece (drop (at + length piece) f.bytes), length-take-le at f.bytes le,
-      length-drop (at + length piece) f.bytes)) left each;
+      (omega (
+        arith,
+        unsettled.size_is,
+        ap length written,
+        length-append (take at f.bytes) (piece ++ drop (at + length piece) f.bytes),
+        length-append piece (drop (at + length piece) f.bytes),
+        length-take-le at f.bytes le,
+        length-drop (at + length piece) f.bytes,
+      )) left each;
 }
 
 pub cut_torn : (count : ℕ) (f state : FileState) → count ≤ length f.bytes
@@ -178,15 +183,15 @@ pub elapses_pushed : (past later : List MemFiles) (old new : MemFiles) → later
     → Elapses (length past) (length later) (LeftSince past old) (LeftSince later new) (IsLeft new)
 elapses_pushed past later old new is =
     subst (λ (l : List MemFiles). Elapses (length past) (length l) (LeftSince past old)
-        (LeftSince l new) (IsLeft new)) (sym is) (record {
-  later = omega (arith, length-append past (old ∷ []));
-  nothing_else = λ t c le left. ⊎_elim (λ now. inr now) (λ was. inl (⊎_elim (λ w. inr w) (λ l. inl l)
-      (was_split (drop t past) old c
-      (subst (λ (l : List MemFiles). WasLeft l c) (drop_pushed t past old le) was)))) left;
-  keeps = λ t c le left. inr (subst (λ (l : List MemFiles). WasLeft l c)
-      (sym (drop_pushed t past old le))
-      (⊎_elim (was_last (drop t past) old c) (was_more (drop t past) old c) left));
-})
+    (LeftSince l new) (IsLeft new)) (sym is) (record {
+      later = omega (arith, length-append past (old ∷ []));
+      nothing_else = λ t c le left. ⊎_elim (λ now. inr now) (λ was. inl (⊎_elim (λ w. inr w) (λ l. inl l)
+          (was_split (drop t past) old c
+          (subst (λ (l : List MemFiles). WasLeft l c) (drop_pushed t past old le) was)))) left;
+      keeps = λ t c le left. inr (subst (λ (l : List MemFiles). WasLeft l c)
+          (sym (drop_pushed t past old le))
+          (⊎_elim (was_last (drop t past) old c) (was_more (drop t past) old c) left));
+    })
 
 -- ---- the three changes
 

@@ -78,6 +78,7 @@ unsettled_free f i octet free each =
   where
     some_same : (a b : ℕ) → Some a ≡ Some b → a ≡ b
     some_same a b e = cc
+
     one_more : (a : ℕ) → a + 1 ≡ a → ⊥
     one_more a e = omega arith
 
@@ -86,8 +87,11 @@ longest_left : (f : FileState)
     → IsOutcome f (f.bytes ++ replicate (longest f - length f.bytes) 0)
 longest_left f = record {
   stays = λ i settled inside. grind (arith, common_steps, gets);
-  no_longer = omega (arith, length-append f.bytes (replicate (longest f - length f.bytes) 0),
-  length-replicate {A = ℕ} (longest f - length f.bytes) 0);
+  no_longer = omega (
+    arith,
+    length-append f.bytes (replicate (longest f - length f.bytes) 0),
+    length-replicate {A = ℕ} (longest f - length f.bytes) 0,
+  );
 }
 
 pub file_no_longer : (f state : FileState) (end size : ℕ) (c : List ℕ)

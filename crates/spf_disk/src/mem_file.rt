@@ -150,12 +150,7 @@ impl MemFile {
     }
 }
 
-fn filled(
-    alloc: Global,
-    bytes: &[u8],
-    settled: &[bool],
-    fill: u8,
-) -> Result<Vec<u8>, OutOfMemory>
+fn filled(alloc: Global, bytes: &[u8], settled: &[bool], fill: u8) -> Result<Vec<u8>, OutOfMemory>
     ensures { IfOk result
         (λ v. IsFilled fill (record { bytes = bytes.now; settled = settled.now }) v.items) }
 {

@@ -20,13 +20,13 @@ follows limits max left left' held held' steps steps' records result r none is f
   records = records;
   followed =
       subst (λ (x : Result ℕ FollowError).
-          Followed (stream (helper_rules limits)) (outputs (helper_rules limits)) max
-          (record { left = left; held = held; steps = Some []; records = None })
-          (record { left = left'; held = held'; steps = Some steps'; records = records })
-          (end_for x)) is
+      Followed (stream (helper_rules limits)) (outputs (helper_rules limits)) max
+      (record { left = left; held = held; steps = Some []; records = None })
+      (record { left = left'; held = held'; steps = Some steps'; records = records })
+      (end_for x)) is
       (subst (λ (l : List PlainStep).
-          Followed (stream (helper_rules limits)) (outputs (helper_rules limits)) max
-          (record { left = left; held = held; steps = Some l; records = None })
-          (record { left = left'; held = held'; steps = Some steps'; records = records })
-          (end_for result)) none followed);
+      Followed (stream (helper_rules limits)) (outputs (helper_rules limits)) max
+      (record { left = left; held = held; steps = Some l; records = None })
+      (record { left = left'; held = held'; steps = Some steps'; records = records })
+      (end_for result)) none followed);
 }

@@ -147,8 +147,8 @@ pub found_either : (base written : ℕ) (steps : List PlainStep) (image c : Imag
 found_either base written steps image c bytes s count is either = ⊎_elim
     (λ before. inl (ap found_in before))
     (λ after. inr (ap found_in after
-        ∙ ap taken
-        (is ∙ sym (entry_of_more base written steps s count))))
+    ∙ ap taken
+    (is ∙ sym (entry_of_more base written steps s count))))
     either
 
 -- the same, by what the fields are then

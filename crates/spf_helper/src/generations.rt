@@ -38,10 +38,7 @@ fn copied(alloc: Global, certificates: &[Certificate]) -> Result<List<Bytes>, Ou
 }
 
 /// The authorities, by trust domain in order.
-fn authorities(
-    alloc: Global,
-    bundles: &X509BundleSet,
-) -> Result<List<AuthorityList>, OutOfMemory>
+fn authorities(alloc: Global, bundles: &X509BundleSet) -> Result<List<AuthorityList>, OutOfMemory>
     ensures { IfOk result (λ l. l ≡ map authority_list bundles.now) }
 {
     let mut lists = Vec::with_capacity(alloc, bundles.len())?;
@@ -106,7 +103,9 @@ pub(crate) fn entry_of(alloc: Global, number: u64, step: &Step) -> Result<Entry,
 {
     match step {
         Step::Accept {
-            context, choice, ..
+            context,
+            choice,
+            ..
         } => Ok(Entry::Accepted(generation(alloc, number, context, *choice)?)),
         Step::Deny { .. } => Ok(Entry::Withdrawn { number }),
     }

@@ -14,8 +14,7 @@ ghost use Rattle.spf_helper.specs.Helping.{IsBeforeOrAfter, OpensAs, IsStanding}
 ghost use Rattle.spf_disk.specs.Opening.{IsOpened};
 
 use crate::generations::entry_of;
-use spf_disk::{Disk, DiskFailed, OpenError, Opened, Slot};
-use spf_disk::{open_files, replace_entry, write_entry};
+use spf_disk::{Disk, DiskFailed, OpenError, Opened, Slot, open_files, replace_entry, write_entry};
 use spf_feed::{Publisher, Step};
 use spf_io::OutOfMemory;
 use std::alloc::Global;

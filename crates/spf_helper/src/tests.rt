@@ -36,26 +36,40 @@ fn is_generation(
     let [root] = list.certificates.as_slice() else {
         return Ok(false);
     };
-    Ok(found.number == number
-        && found.chain.as_slice() == octets(alloc, chain)?.as_slice()
-        && found.key.as_slice() == octets(alloc, "KEY1")?.as_slice()
-        && list.name.as_str() == "example.org"
-        && root.as_slice() == octets(alloc, "ROOT1")?.as_slice())
+    Ok(
+        found.number == number
+            && found.chain.as_slice() == octets(alloc, chain)?.as_slice()
+            && found.key.as_slice() == octets(alloc, "KEY1")?.as_slice()
+            && list.name.as_str() == "example.org"
+            && root.as_slice() == octets(alloc, "ROOT1")?.as_slice(),
+    )
 }
 
 #[test]
 fn the_latest_identity_is_found(rt: HostRuntime) -> Result<(), Fail> {
     let alloc = rt.alloc();
     let mut recovered = MemDisk::new(alloc);
-    assert!(rt; followed(alloc, &mut recovered, RECOVERY)?, "denial-and-recovery");
+    assert!(rt;
+        followed(alloc, &mut recovered, RECOVERY)?,
+        "denial-and-recovery"
+    );
     let found = read_generation(alloc, &mut recovered)?;
-    assert!(rt; is_generation(alloc, &found, 3, "LEAF1")?, "denial-and-recovery");
+    assert!(rt;
+        is_generation(alloc, &found, 3, "LEAF1")?,
+        "denial-and-recovery"
+    );
     let mut denied = MemDisk::new(alloc);
     let frames = "M999 CM CN I1 CM CN IS7no CM CS7issued";
     assert!(rt; followed(alloc, &mut denied, frames)?, "first-denial-stays");
-    assert!(rt; read_generation(alloc, &mut denied)?.is_none(), "first-denial-stays");
+    assert!(rt;
+        read_generation(alloc, &mut denied)?.is_none(),
+        "first-denial-stays"
+    );
     let mut expired = MemDisk::new(alloc);
-    assert!(rt; followed(alloc, &mut expired, "M999 CM CN I1 M1000")?, "expiry-passes");
+    assert!(rt;
+        followed(alloc, &mut expired, "M999 CM CN I1 M1000")?,
+        "expiry-passes"
+    );
     let found = read_generation(alloc, &mut expired)?;
     assert!(rt; is_generation(alloc, &found, 1, "LEAF1")?, "expiry-passes");
     Ok(())
@@ -88,9 +102,11 @@ fn an_open_gate_before_no_entry_is_a_damage(rt: HostRuntime) -> Result<(), Fail>
 fn is_whole(alloc: Global, disk: &MemDisk, fill: u8) -> Result<bool, Fail> {
     let mut crashed = disk.crash(fill)?;
     match read_generation(alloc, &mut crashed) {
-        Ok(found) => Ok(found.is_none()
-            || is_generation(alloc, &found, 1, "LEAF1")?
-            || is_generation(alloc, &found, 3, "LEAF1")?),
+        Ok(found) => Ok(
+            found.is_none()
+                || is_generation(alloc, &found, 1, "LEAF1")?
+                || is_generation(alloc, &found, 3, "LEAF1")?,
+        ),
         Err(_) => Ok(false),
     }
 }

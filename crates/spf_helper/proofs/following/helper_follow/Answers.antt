@@ -6,14 +6,14 @@ pub returns-then-fault-clause-ran : goal.returns-then-fault-clause-ran
 returns-then-fault-clause-ran g c = (
   c.follow_x509-followed.result,
   follows c.args.limits c.args.max_frames _ _ _ _ _ _ _ c.follow_x509-followed.result _
-  c.over-publisher.ensures.empty.0 refl c.follow_x509-followed.ensures.followed,
+      c.over-publisher.ensures.empty.0 refl c.follow_x509-followed.ensures.followed,
 )
 
 pub returns-then-full-clause-ran : goal.returns-then-full-clause-ran
 returns-then-full-clause-ran g c = (
   c.follow_x509-followed.result,
   follows c.args.limits c.args.max_frames _ _ _ _ _ _ _ c.follow_x509-followed.result _
-  c.over-publisher.ensures.empty.0 refl c.follow_x509-followed.ensures.followed,
+      c.over-publisher.ensures.empty.0 refl c.follow_x509-followed.ensures.followed,
 )
 
 pub returns-in-Ok-followed-clause-ran : goal.returns-in-Ok-followed-clause-ran

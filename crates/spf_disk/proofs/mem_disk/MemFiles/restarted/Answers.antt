@@ -8,4 +8,4 @@ returns-clause-durable c = λ image left.
       first = c.in_ok-filled-2.field-0;
       second = c.in_ok-filled-3.field-0;
     }) image c.in_ok-filled.ensures.settled c.in_ok-filled-2.ensures.settled
-        c.in_ok-filled-3.ensures.settled left
+    c.in_ok-filled-3.ensures.settled left

@@ -27,10 +27,10 @@ invariant_of-self-in-Ok g c =
     unless (p.fault || p.full) _ (
       c.in-Ok.ensures.durable,
       ready_kept p.base p.acknowledged (map plain p.steps.items) _ p.next c.other-self-inside.result
-      p.next_is_open p.other_is_open (g.D.Disk.seen p.disk.now) _ c.as_slice.result.now s ready is
-      small c.in-Ok.ensures.replaced
-      (ap (map plain) c.in_ok-push-3.ensures.items ∙ map_push plain p.steps.items c.args.step)
-      c.other-self-inside.ensures,
+          p.next_is_open p.other_is_open (g.D.Disk.seen p.disk.now) _ c.as_slice.result.now s ready is
+          small c.in-Ok.ensures.replaced
+          (ap (map plain) c.in_ok-push-3.ensures.items ∙ map_push plain p.steps.items c.args.step)
+          c.other-self-inside.ensures,
     )
 
 pub returns-in-Ok-clause-any_moment : goal.returns-in-Ok-clause-any_moment
