@@ -20,3 +20,6 @@ pub use following::follow_proto;
 pub use message::read_message;
 pub use proto_error::ProtoError;
 pub use wire::{Field, read_field};
+
+#[cfg(test)]
+mod tests;
