@@ -111,7 +111,8 @@ module _ {S X N : Type 0} (replays : List S → X → Type 0) (snap : N → X) (
       (λ stands. subst (λ (s : X × Past S). replays (steps_of s.1.list) s.0) (sym same) stands)
 
 module _ {S X : Type 0} (replays : List S → X → Type 0) (after : X → S → X)
-    (law : (steps : List S) (x : X) (s : S) → replays steps x → replays (steps ++ s ∷ []) (after x s))
+    (law : (steps : List S) (x : X) (s : S) → replays steps x
+    → replays (steps ++ s ∷ []) (after x s))
   where
     stands_more : (c : Change S) (list : List (Entry S)) (x : X) → replays (steps_of list) x
         → replays (steps_of (list ++ entry_of c ∷ [])) (changed after x c)

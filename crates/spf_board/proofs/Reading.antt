@@ -55,7 +55,8 @@ module _ {S : Type 0} (legal : List S → Type 0) where
         final = λ ended. list ∙ ended_stays seen.list now.list longer board.ends ended;
       }
 
-  pub renews_kept : (seen entered now : Past S) (m n : ℕ) (v w : Place) → IsBoardList legal seen.list
+  pub renews_kept : (seen entered now : Past S) (m n : ℕ) (v w : Place)
+      → IsBoardList legal seen.list
       → Rose m n
       → Renews legal (passed (remembered seen entered m) v) (passed (remembered seen now n) w)
   renews_kept seen entered now m n v w board rose_is = record {

@@ -5,6 +5,7 @@ use Rattle.spf_board.specs.declared.places.PlaceFault.{PlaceFault}
 use Rattle.spf_board.specs.declared.places.PlaceFault.TheVariants as fault
 
 -- the count never falls, and a refusal comes only where it rose
-pub record CountsRefusals {P : Type 0} (before now : ℕ) (result : Result P PlaceFault) : Type 0 where
+pub record CountsRefusals {P : Type 0} (before now : ℕ) (result : Result P PlaceFault)
+    : Type 0 where
   pub later : before ≤ now
   pub refused : result ≡ Err fault.Refused → Rose before now

@@ -1,7 +1,7 @@
 -- What one turn of a feeder does.
 use Rattle.std.proofs.Common.{◌≡◌, Bool, true, false, List, [], ◌∷◌, ◌++◌, reverse, Option, None}
 use Rattle.std.proofs.Common.{Some, Result, Ok, Err, inl, inr, refl, sym, ap, ◌∙◌, subst, ℕ}
-use Rattle.std.specs.Prelude.{IfSome, IsErr, ◌⊎◌}
+use Rattle.std.specs.Prelude.{IfErr, IfSome, ℤ, ◌⊎◌}
 use Rattle.spf_io.specs.declared.memory.OutOfMemory.{OutOfMemory}
 use Rattle.spf_x509.specs.Svid.{Svid}
 use Rattle.spf_link.specs.Connecting.{Member}
@@ -12,11 +12,15 @@ use Rattle.spf_pace.specs.declared.pacer.AttemptEnd.{AttemptEnd}
 use Rattle.spf_feed.specs.declared.phase.Phase.{Phase}
 use Rattle.spf_feed.specs.declared.record.MetricsRecord.{MetricsRecord}
 use Rattle.spf_feed.specs.Items.{Event, Rules, context_in}
-use Rattle.spf_feed.specs.Run.{ask_of}
+use Rattle.spf_feed.specs.Run.{ask_of, stream}
+use Rattle.spf_feed.specs.declared.event.SessionEvent.TheVariants as events
+use Rattle.spf_view.proofs.ViewLemmas.{last_first}
+use Rattle.spf_api.specs.declared.response.ResponseKind.{ResponseKind}
 use Rattle.spf_feeder.specs.declared.session.Stop.{Stop}
 use Rattle.spf_feeder.specs.declared.session.Stop.TheVariants as stops
 use Rattle.spf_feeder.specs.Asking.{Asked, Asks, AsksOnce}
-use Rattle.spf_feeder.specs.Fed.{Fed, IsIdle, IsReady, Tells, TurnedAway, Turns}
+use Rattle.spf_feeder.specs.Coming.{AllTold, Holds, left_after}
+use Rattle.spf_feeder.specs.Fed.{Fed, IsIdle, IsReady, StopsBy, Tells, TurnedAway, Turns}
 use Rattle.spf_feeder.specs.Kept.{Advances, Core, rules_by}
 use Rattle.spf_feeder.proofs.TellLemmas.{ready_more, tells_more}
 
@@ -179,3 +183,52 @@ tells_of connector link records rules later before after old new e r ask first n
     subst (λ x. Tells connector.members link.answers x after.run new f) (sym same)
     (subst (λ l. Tells connector.members link.answers rules l new f) (sym run)
     (tells_more OutOfMemory connector link rules before.run old new e f once ready t))) tells
+
+-- ---- a terminal event
+
+pub stops_by : {P M K : Type 0} (records : M → Option (List MetricsRecord)) (rules seen : Rules)
+    (old new : Core P M K) (e : Event) (r : Result (Option AttemptEnd) Stop) → rules ≡ seen
+    → Advances records rules old e r new → IfErr r (StopsBy seen new.run)
+stops_by records rules seen old new e (Ok end) same h = tt
+stops_by records rules seen old new e (Err (stops.Terminal end)) same h =
+    (e, (λ i. (stream (sym same i)).refusal (reverse (h.run_is i)) e) ∙ h.refused)
+stops_by records rules seen old new e (Err stops.OutOfMemory) same h = tt
+
+pub stops_as : (rules seen : Rules) (run : List Event) (stop : Stop) → seen ≡ rules
+    → StopsBy seen run stop → StopsBy rules run stop
+stops_as rules seen run stop same h = subst (λ r. StopsBy r run stop) same h
+
+-- ---- a moment asks nothing
+
+pub ready_still : {P M K L : Type 0} (kind_of : L → Option ResponseKind)
+    (records : M → Option (List MetricsRecord)) (rules later : Rules) (before after : Core P M K)
+    (m : ℤ) (r : Result (Option AttemptEnd) Stop) (link : Option L)
+    → Advances records rules before (events.Moment m) r after → later ≡ rules
+    → IsReady kind_of (ask_of context_in rules (reverse before.run)) link → after.stuck ≡ false
+    → IsReady kind_of (ask_of context_in later (reverse after.run)) link
+ready_still kind_of records rules later before after m r link h same ready going =
+    let run = ran records rules before after (events.Moment m) r h going in
+    subst (λ x. IsReady kind_of (ask_of context_in x (reverse after.run)) link) (sym same)
+    (subst (λ l. IsReady kind_of (ask_of context_in rules (reverse l)) link) (sym run)
+    (subst (λ l. IsReady kind_of (ask_of context_in rules l) link)
+    (sym (last_first before.run (events.Moment m))) ready))
+
+pub tells_still : {S L P M K : Type 0} (members : S → Option (List Member))
+    (answers : L → Option (List Answer)) (records : M → Option (List MetricsRecord))
+    (rules later : Rules) (before after : Core P M K) (m : ℤ)
+    (r : Result (Option AttemptEnd) Stop) (asked : Asked S L) (first : Option (List Member))
+    → Advances records rules before (events.Moment m) r after → later ≡ rules
+    → IfSome first (Tells members answers rules before.run asked) → after.stuck ≡ false
+    → IfSome first (Tells members answers later after.run asked)
+tells_still members answers records rules later before after m r asked first h same tells going =
+    let run = ran records rules before after (events.Moment m) r h going in
+    let more = sym (last_first before.run (events.Moment m)) in
+    if_some first (Tells members answers rules before.run asked)
+    (Tells members answers later after.run asked)
+    (λ f t.
+    subst (λ x. Tells members answers x after.run asked f) (sym same)
+    (subst (λ l. Tells members answers rules l asked f) (sym run) (record {
+      told = subst (AllTold rules f) more (tt, t.told);
+      rest = subst (λ l.
+          Holds members answers (left_after rules f l) asked.connector asked.link) more t.rest;
+    }))) tells

@@ -1,7 +1,7 @@
 -- What an event more does to the delays of a run.
 use Rattle.std.proofs.Common.{◌≡◌, ℕ, Bool, true, false, not, cond, ◌||◌, ◌&&◌, List, [], ◌∷◌, ◌++◌}
-use Rattle.std.proofs.Common.{reverse, map, Option, None, Some, refl, sym, ap, ◌∙◌, subst}
-use Rattle.std.specs.Prelude.{is_some}
+use Rattle.std.proofs.Common.{reverse, map, Option, None, Some, inl, refl, sym, ap, ◌∙◌, subst}
+use Rattle.std.specs.Prelude.{is_some, IfNone, IfSome}
 use Rattle.std.specs.Option.{option_map_or}
 use Rattle.std.specs.Duration.{as_nanos}
 use Rattle.std.specs.declared.time.Duration.{Duration}
@@ -17,7 +17,8 @@ use Rattle.spf_feed.specs.Items.{Event, Rules, context_in, subject}
 use Rattle.spf_feed.specs.Run.{ask_of, asked_by}
 use Rattle.spf_feeder.specs.declared.pace.Pace.{Pace}
 use Rattle.spf_feeder.specs.Attempts.{attempt_end, end_with, gave_accepted, is_accepted}
-use Rattle.spf_feeder.specs.Pacing.{KeepsPace, earlier_words, newest_word, opens, paced_by}
+use Rattle.spf_feeder.specs.Pacing.{Halted, KeepsPace, earlier_words, newest_word, opens}
+use Rattle.spf_feeder.specs.Pacing.{paced_by}
 use Rattle.spf_feeder.specs.Pacing.{pace_steps}
 
 -- the delays in the order of `delays_of`
@@ -178,3 +179,108 @@ passes_on rules run e pace none unopened keeps =
       stands = subst (λ s. StandsAfter pace.bounds s pace.pacer) (sym steps) keeps.stands;
       delays_are = keeps.delays_are ∙ ap (delays_of pace.bounds) (sym steps);
     }
+
+-- ---- whether an item was the first accepted one
+
+synced_next : (rules : Rules) (past : List Event) (e : Event)
+    → has_synced (subject rules) (e ∷ past)
+    ≡ (is_accepted (outcome (subject rules) e past) || has_synced (subject rules) past)
+synced_next rules past e =
+    let synced = has_synced (subject rules) past in
+    ap (λ b. b || synced)
+    (sym (accepted_brings synced
+    (brings (subject rules) synced (last_moment (subject rules) past) e) ((subject rules).denial e)))
+
+opened_by : (accepted synced : Bool) → synced ≡ false → (accepted || synced) ≡ true
+    → (accepted && not synced) ≡ true
+opened_by true true f t = absurd cc
+opened_by true false f t = refl
+opened_by false true f t = absurd cc
+opened_by false false f t = absurd cc
+
+unopened_by : (accepted synced : Bool) → synced ≡ true → (accepted && not synced) ≡ false
+unopened_by true true t = refl
+unopened_by false true t = refl
+unopened_by accepted false t = absurd cc
+
+never_opened : (accepted synced : Bool) → (accepted || synced) ≡ false
+    → (accepted && not synced) ≡ false
+never_opened true synced f = absurd cc
+never_opened false synced f = refl
+
+pub opened : (rules : Rules) (run : List Event) (e : Event)
+    → has_synced (subject rules) (reverse run) ≡ false
+    → has_synced (subject rules) (reverse (run ++ e ∷ [])) ≡ true
+    → opens rules (reverse run) e ≡ true
+opened rules run e f t =
+    opened_by (is_accepted (outcome (subject rules) e (reverse run)))
+    (has_synced (subject rules) (reverse run)) f
+    (sym (synced_next rules (reverse run) e)
+    ∙ ap (has_synced (subject rules)) (sym (last_first run e)) ∙ t)
+
+pub unopened : (rules : Rules) (run : List Event) (e : Event)
+    → has_synced (subject rules) (reverse run) ≡ true → opens rules (reverse run) e ≡ false
+unopened rules run e t =
+    unopened_by (is_accepted (outcome (subject rules) e (reverse run)))
+    (has_synced (subject rules) (reverse run)) t
+
+pub still_unopened : (rules : Rules) (run : List Event) (e : Event)
+    → has_synced (subject rules) (reverse (run ++ e ∷ [])) ≡ false
+    → opens rules (reverse run) e ≡ false
+still_unopened rules run e f =
+    never_opened (is_accepted (outcome (subject rules) e (reverse run)))
+    (has_synced (subject rules) (reverse run))
+    (sym (synced_next rules (reverse run) e)
+    ∙ ap (has_synced (subject rules)) (sym (last_first run e)) ∙ f)
+
+-- ---- an ask and the pause behind it
+
+pub some_if : {X : Type 0} (o : Option X) (P Q : X → Type 0) → ((x : X) → P x → Q x) → IfSome o P
+    → IfSome o Q
+some_if None P Q f h = tt
+some_if (Some x) P Q f h = f x h
+
+pub none_if : {X : Type 0} (o : Option X) (P : Type 0) → P → IfNone o P
+none_if None P p = p
+none_if (Some x) P p = tt
+
+pub halted_at : (rules : Rules) (run : List Event) (pace : Pace) → KeepsPace rules run pace
+    → Halted rules run pace
+halted_at rules run pace keeps = record { before = run; keeps = keeps; run_is = inl refl }
+
+pub paces_ended : (rules : Rules) (run run' : List Event) (e : Event) (end : Option AttemptEnd)
+    (x : AttemptEnd) (old new : Pace) → run' ≡ run ++ e ∷ []
+    → end ≡ attempt_end rules (reverse run) e → end ≡ Some x
+    → (attempt_end rules (reverse run) e ≡ Some x → KeepsPace rules run old
+    → KeepsPace rules (run ++ e ∷ []) new) → KeepsPace rules run old → KeepsPace rules run' new
+paces_ended rules run run' e end x old new longer is some paces keeps =
+    subst (λ l. KeepsPace rules l new) (sym longer) (paces (sym is ∙ some) keeps)
+
+pub paces_opened : (rules later : Rules) (run run' : List Event) (e : Event)
+    (end : Option AttemptEnd) (was now : Bool) (old new : Pace) → later ≡ rules
+    → run' ≡ run ++ e ∷ [] → end ≡ attempt_end rules (reverse run) e → end ≡ None
+    → was ≡ has_synced (subject rules) (reverse run) → was ≡ false
+    → now ≡ has_synced (subject later) (reverse run') → now ≡ true
+    → (opens rules (reverse run) e ≡ true → attempt_end rules (reverse run) e ≡ None
+    → KeepsPace rules run old → KeepsPace rules (run ++ e ∷ []) new) → KeepsPace rules run old
+    → KeepsPace rules run' new
+paces_opened rules later run run' e end was now old new same longer is none before f after t paces
+    keeps =
+    let synced : has_synced (subject rules) (reverse (run ++ e ∷ [])) ≡ true =
+    (λ i. has_synced (subject (sym same i)) (reverse (sym longer i))) ∙ sym after ∙ t in
+    subst (λ l. KeepsPace rules l new) (sym longer)
+    (paces (opened rules run e (sym before ∙ f) synced) (sym is ∙ none) keeps)
+
+pub paces_passed : (rules : Rules) (run run' : List Event) (e : Event) (end : Option AttemptEnd)
+    (pace : Pace) → run' ≡ run ++ e ∷ [] → end ≡ attempt_end rules (reverse run) e → end ≡ None
+    → opens rules (reverse run) e ≡ false → KeepsPace rules run pace → KeepsPace rules run' pace
+paces_passed rules run run' e end pace longer is none shut keeps =
+    subst (λ l. KeepsPace rules l pace) (sym longer)
+    (passes_on rules run e pace (sym is ∙ none) shut keeps)
+
+pub shut_after : (rules later : Rules) (run run' : List Event) (e : Event) (now : Bool)
+    → later ≡ rules → run' ≡ run ++ e ∷ [] → now ≡ has_synced (subject later) (reverse run')
+    → now ≡ false → opens rules (reverse run) e ≡ false
+shut_after rules later run run' e now same longer after f =
+    still_unopened rules run e
+    ((λ i. has_synced (subject (sym same i)) (reverse (sym longer i))) ∙ sym after ∙ f)

@@ -14,7 +14,9 @@ use Rattle.spf_feed.specs.declared.phase.Phase.{Phase}
 use Rattle.spf_feed.specs.declared.phase.Phase.TheVariants as phases
 use Rattle.spf_feed.specs.declared.record.MetricsRecord.{MetricsRecord}
 use Rattle.spf_feed.specs.Items.{Event, Rules, context_in}
-use Rattle.spf_feed.specs.Run.{ask_of}
+use Rattle.spf_feed.specs.Run.{ask_of, stream}
+use Rattle.spf_feeder.specs.declared.session.Stop.{Stop}
+use Rattle.spf_feeder.specs.declared.session.Stop.TheVariants as stops
 use Rattle.spf_feeder.specs.Asking.{Asked, AsksOnce}
 use Rattle.spf_feeder.specs.Attempts.{attempt_end}
 use Rattle.spf_feeder.specs.Coming.{AllTold, Holds, left_after}
@@ -87,3 +89,13 @@ abbrev pub Turns : {S L P M K E : Type 0} → connectors.Ghosts S L → links.Gh
 Turns connector link records rules old (Ok end) new =
     TurnedOnce connector link records rules old end new
 Turns connector link records rules old (Err e) new = TurnedAway connector link rules old new
+
+abbrev pub is_client : Phase → Bool
+is_client phases.Client = true
+is_client _ = false
+
+-- a terminal event was told behind the run: it is no event of it
+abbrev pub StopsBy : Rules → List Event → Stop → Type 0
+StopsBy rules run (stops.Terminal end) =
+    (e : Event) × ((stream rules).refusal (reverse run) e ≡ Some end)
+StopsBy rules run stops.OutOfMemory = Unit {0}

@@ -1,6 +1,6 @@
 -- DelaysOf a run: the pauses after its attempts, by the random words that were drawn.
 use Rattle.std.specs.Prelude.{◌≡◌, ℕ, Bool, not, ◌&&◌, if◌then◌else◌, List, [], ◌∷◌, map, reverse}
-use Rattle.std.specs.Prelude.{Option, None, Some}
+use Rattle.std.specs.Prelude.{Option, None, Some, Result, Ok, Err, ◌⊎◌, ◌++◌}
 use Rattle.std.specs.Duration.{as_nanos}
 use Rattle.spf_pace.specs.declared.pacer.AttemptEnd.{AttemptEnd}
 use Rattle.spf_pace.specs.Delays.{PaceStep, Synchronised, Ended, StandsAfter, delays_of, does_grow}
@@ -45,3 +45,15 @@ pub record KeepsPace (rules : Rules) (run : List Event) (pace : Pace) : Type 0 w
       pace.pacer
   pub delays_are : reverse (map as_nanos pace.delays.items)
       ≡ delays_of pace.bounds (pace_steps rules (reverse run) (reverse pace.words.items))
+
+-- After a refused ask the delays are those of the run, or of the run before its last event.
+pub record Halted (rules : Rules) (run : List Event) (pace : Pace) : Type 0 where
+  pub before : List Event
+  pub keeps : KeepsPace rules before pace
+  pub run_is : (run ≡ before) ⊎ ((e : Event) × (run ≡ before ++ e ∷ []))
+
+-- where an ask and the pause behind it leave the delays
+abbrev pub PacesOn : {T E : Type 0} → Rules → List Event → Pace → Result T E → List Event → Pace
+    → Type 0
+PacesOn rules run pace (Ok done) run' pace' = KeepsPace rules run pace → KeepsPace rules run' pace'
+PacesOn rules run pace (Err e) run' pace' = KeepsPace rules run pace → Halted rules run' pace'

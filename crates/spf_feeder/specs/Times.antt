@@ -24,3 +24,9 @@ seconds_of d = (as_nanos d + 999_999_999) / 1_000_000_000
 -- the first moment, from 0 on, and the timeout behind it, which stops at the end of its type
 abbrev pub deadline_after : ℤ → Duration → ℤ
 deadline_after first timeout = pos (min (nat_abs first + seconds_of timeout) (2 ^ 63 - 1))
+
+-- nothing but none was given so far
+abbrev pub AsksOn : Option (List (Option ℤ)) → Option (List (Option ℤ)) → Type 0
+AsksOn None new = Unit {0}
+AsksOn (Some old) None = ⊥
+AsksOn (Some old) (Some new) = at_moment old ≡ at_moment new

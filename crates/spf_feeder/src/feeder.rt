@@ -1,13 +1,17 @@
 //! The feeder. Its fields are private to this module: nothing else asks its connector or its link.
 
-ghost use Rattle.std.specs.Prelude.{◌≡◌, [], false, IfSome};
+ghost use Rattle.std.specs.Prelude.{◌≡◌, [], false, IfErr, IfSome, reverse};
 ghost use Rattle.std.specs.Option.{ForSome};
-ghost use Rattle.spf_feeder.specs.Fed.{Turns};
-ghost use Rattle.spf_feeder.specs.Kept.{Published, core_of, rules_by};
+ghost use Rattle.spf_view.specs.Views.{has_synced};
+ghost use Rattle.spf_feed.specs.Items.{context_in, subject};
+ghost use Rattle.spf_feed.specs.Run.{ask_of};
+ghost use Rattle.spf_feed.specs.declared.event.SessionEvent.TheVariants as events;
+ghost use Rattle.spf_feeder.specs.Fed.{StopsBy, Tells, Turns, is_client};
+ghost use Rattle.spf_feeder.specs.Kept.{Advances, Published, core_of, rules_by};
 
 use crate::ask::ask;
 use crate::session::{Session, Stop};
-use spf_feed::{Event, MetricsRecorder, Publisher, SessionRules, SvidPicker};
+use spf_feed::{Event, MetricsRecorder, Phase, Publisher, SessionRules, SvidPicker};
 use spf_io::OutOfMemory;
 use spf_link::{Connector, Link};
 use spf_pace::AttemptEnd;
@@ -105,6 +109,42 @@ where
         self.session.events()
     }
 
+    /// Whether an item was accepted.
+    pub(crate) fn is_synced(&self) -> bool
+        requires { self.now.core.stuck ≡ false }
+        ensures { result ≡ has_synced
+            (subject (rules_by K.picks self.now.core.settings self.now.core.picker))
+            (reverse self.now.core.run) }
+    {
+        self.session.is_synced()
+    }
+
+    /// Whether a client is asked for next.
+    pub(crate) fn asks_client(&self) -> bool
+        requires { self.now.core.stuck ≡ false }
+        ensures { result ≡ is_client (ask_of context_in
+            (rules_by K.picks self.now.core.settings self.now.core.picker)
+            (reverse self.now.core.run)) }
+    {
+        matches!(self.session.phase(), Phase::Client)
+    }
+
+    /// A moment of the clock, which stands among the events. Nothing is asked.
+    pub(crate) fn take_moment(&mut self, moment: i64) -> Result<Option<AttemptEnd>, Stop>
+        requires going { self.old.core.stuck ≡ false }
+        ensures settings { self.new.core.settings ≡ self.old.core.settings }
+        ensures picker { self.new.core.picker ≡ self.old.core.picker }
+        ensures first { self.new.first ≡ self.old.first }
+        ensures asked { self.new.asked ≡ self.old.asked }
+        ensures ended { IfErr result (StopsBy
+            (rules_by K.picks self.old.core.settings self.old.core.picker) self.new.core.run) }
+        ensures advances { Advances M.records
+            (rules_by K.picks self.old.core.settings self.old.core.picker) self.old.core
+            (events.Moment moment) result self.new.core }
+    {
+        self.session.advance(Event::Moment(moment))
+    }
+
     /// Asks once, publishes the step of the event that was told, and records it.
     pub(crate) fn ask_once(&mut self) -> Result<Option<AttemptEnd>, Stop>
         ensures settings { self.new.core.settings ≡ self.old.core.settings }
@@ -112,6 +152,8 @@ where
         ensures first { self.new.first ≡ self.old.first }
         ensures published { Published (P.steps self.new.core.publisher)
             (rules_by K.picks self.new.core.settings self.new.core.picker) self.new.core.run }
+        ensures ended { IfErr result (StopsBy
+            (rules_by K.picks self.old.core.settings self.old.core.picker) self.new.core.run) }
         ensures turn { Turns C.Connector C.Link.Link M.records
             (rules_by K.picks self.old.core.settings self.old.core.picker) self.old result self.new }
     {
@@ -136,10 +178,16 @@ where
         ensures first { self.new.first ≡ self.old.first }
         ensures published { Published (P.steps self.new.core.publisher)
             (rules_by K.picks self.new.core.settings self.new.core.picker) self.new.core.run }
+        ensures tells { self.new.core.stuck ≡ false → IfSome (C.members self.new.first)
+            (Tells C.members C.Link.answers
+            (rules_by K.picks self.new.core.settings self.new.core.picker) self.new.core.run
+            self.new.asked) }
         ensures turn { Turns C.Connector C.Link.Link M.records
             (rules_by K.picks self.old.core.settings self.old.core.picker) self.old result self.new }
     {
-        match self.ask_once() {
+        let asked = self.ask_once();
+        let _ = &self.alloc;
+        match asked {
             Ok(end) => Ok(end),
             Err(_) => Err(OutOfMemory),
         }

@@ -8,9 +8,13 @@ mod feeder;
 mod pace;
 mod received;
 mod session;
+mod supervisor;
+mod synchronisation;
 #[cfg(test)]
 mod tests;
 
 pub use feeder::Feeder;
 pub use pace::Pace;
 pub use session::Stop;
+pub use supervisor::supervise;
+pub use synchronisation::{deadline_after, next_moment, synchronise};

@@ -1,6 +1,6 @@
 //! The pauses of a feeder, one after each attempt that ended, with all that they follow from.
 
-ghost use Rattle.std.specs.Prelude.{◌≡◌, ◌++◌, ◌∷◌, [], true, None, Some, List, OnOk, reverse};
+ghost use Rattle.std.specs.Prelude.{◌≡◌, ◌++◌, ◌∷◌, [], true, None, Some, List, OnErr, OnOk, reverse};
 ghost use Rattle.spf_feed.specs.Items.{Event, Rules};
 ghost use Rattle.spf_feeder.specs.Attempts.{attempt_end};
 ghost use Rattle.spf_feeder.specs.Pacing.{KeepsPace, opens};
@@ -60,6 +60,8 @@ impl Pace {
         ensures keeps { (rules : Rules) (run : List Event) (e : Event)
             → attempt_end rules (reverse run) e ≡ Some end → KeepsPace rules run self.old
             → OnOk result (KeepsPace rules (run ++ e ∷ []) self.new) }
+        ensures refused { (rules : Rules) (run : List Event) → KeepsPace rules run self.old
+            → OnErr result (KeepsPace rules run self.new) }
     {
         self.delays.reserve(1)?;
         self.words.reserve(1)?;

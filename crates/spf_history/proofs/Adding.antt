@@ -27,7 +27,8 @@ module _ {S : Type 0} (legal : List S → Type 0) where
       → length v ≡ old → MayFollow legal v e → (log ≢ [] → IsBoardList legal log) → IsPrefix v log
       → (b : Bool) → (length log == old) ≡ b
       → Goes (IsKept legal) shown moved 0 (v, (no_nib, None)) (λ n. either (n == old) (old + 1) n)
-      (Adds legal (step 0 old (old + 1) e) (v, (no_nib, None))) ((length log, true) ∷ (0, true) ∷ [])
+      (Adds legal (step 0 old (old + 1) e) (v, (no_nib, None)))
+      ((length log, true) ∷ (0, true) ∷ [])
       log
   goes log v e old len may history pre true is =
       let here : length log ≡ old = grind (arith, nat_tests) in

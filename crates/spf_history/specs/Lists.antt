@@ -1,4 +1,5 @@
--- Board lists: the published steps, and one End last where the history has ended. The oldest is first.
+-- Board lists: the published steps, the oldest first, and
+-- one End last where the history has ended.
 use Rattle.std.specs.Prelude.{◌≡◌, Bool, true, false, List, [], ◌∷◌, ◌++◌}
 use Rattle.spf_history.specs.declared.entry.Entry.{Entry}
 use Rattle.spf_history.specs.declared.entry.Entry.TheVariants as entry

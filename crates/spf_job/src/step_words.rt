@@ -4,9 +4,8 @@ ghost use Rattle.std.specs.Prelude.{◌≡◌, ℕ};
 ghost use Rattle.rand_core.specs.Steps.{stream_of};
 ghost use Rattle.spf_job.specs.Words.{word_step, word_steps};
 
-use rand_core::Rng;
-use rand_core::utils;
 use rand_core::utils::NextWord;
+use rand_core::{Rng, utils};
 use std::marker::Model;
 
 /// Words by a linear congruence: good enough for the jitter of pauses, and the same words for the

@@ -2,3 +2,10 @@ pub mod Contexts
 pub mod Entries
 pub mod Fields
 pub mod Latest
+pub mod OctetsLemmas
+pub mod TakingLemmas
+pub mod PayloadLemmas
+pub mod TranslatingLemmas
+pub mod ReceivedLemmas
+pub mod TranslatorLemmas
+pub mod EndLemmas

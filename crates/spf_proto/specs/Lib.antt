@@ -1,4 +1,15 @@
+pub mod Beginning
+pub mod Body
+pub mod Ends
 pub mod Folded
+pub mod Following
+pub mod FrameEnds
 pub mod Members
 pub mod Message
+pub mod Octets
+pub mod Payloads
+pub mod Taking
+pub mod Translated
+pub mod Translating
+pub mod Translator
 pub mod Wire

@@ -3,9 +3,23 @@
 #![tactic(auto)]
 
 mod entry;
+mod following;
+mod frame_end;
+mod lent;
 mod message;
+mod octets;
+mod payload;
+mod proto_error;
+mod taking;
+mod translating;
+mod translator;
 mod varint;
 mod wire;
 
+pub use following::follow_proto;
 pub use message::read_message;
+pub use proto_error::ProtoError;
 pub use wire::{Field, read_field};
+
+#[cfg(test)]
+mod tests;

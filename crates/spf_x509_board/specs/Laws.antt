@@ -25,7 +25,8 @@ shows_step (Deny d) = tt
 
 more : (b : Bool) (steps : List PlainStep) (kept : Kept Material Denial) (step : PlainStep)
     → is_change same_material kept.view step ≡ b → Replays steps kept
-    → Replays (steps ++ step ∷ []) (cond b (record { revision = raised kept.revision; view = shown_by step }) kept)
+    → Replays (steps ++ step ∷ [])
+    (cond b (record { revision = raised kept.revision; view = shown_by step }) kept)
 more true steps kept step is replays = record {
   stands = stands_changed same_material material_equiv steps kept step replays.showing
       replays.stands is;

@@ -57,16 +57,13 @@ impl<R: Wait + Drop> Promise<Ended<R>> for OfBoard {
     ghost kept_by = { λ promise ended. ended.book ≡ promise.0.value.book };
 }
 
-// Publishes a denial and the end on another thread.
+// Publishes the end on another thread.
 fn end_elsewhere<R: Threads + Wait + Copy + Drop + Send + 'static>(
     rt: &R,
-    alloc: Global,
-    mut desk: Desk<R>,
+    desk: Desk<R>,
 ) -> Result<Ended<R>, OutOfMemory>
-    requires { steps_of desk.list ≢ [] }
     ensures { IfOk result (λ ended. ended.book ≡ desk.book) }
 {
-    withdraw(alloc, &mut desk)?;
     let front = desk.front();
     let Ok(child) = thread::spawn_with(rt, OfBoard(Snapshot::of(&front)), move || desk.end()) else {
         return Err(OutOfMemory);
@@ -90,7 +87,7 @@ fn reads(pass: &mut Pass, revision: u64) -> bool {
 #[test]
 fn a_step_is_read_on_another_thread(rt: HostRuntime) -> Result<(), Fail> {
     let alloc = rt.alloc();
-    let (desk, mut pass) = open(alloc, rt, accepted(alloc)?)?;
+    let (mut desk, mut pass) = open(alloc, rt, accepted(alloc)?)?;
     assert_eq!(rt; pass.state(false)?.revision(), 0);
     let Ok(mut other) = pass.another() else {
         return Err(OutOfMemory.into());
@@ -98,7 +95,8 @@ fn a_step_is_read_on_another_thread(rt: HostRuntime) -> Result<(), Fail> {
     let Ok(reader) = thread::spawn(&rt, move || reads(&mut other, 1)) else {
         return Err(OutOfMemory.into());
     };
-    let ended = end_elsewhere(&rt, alloc, desk)?;
+    withdraw(alloc, &mut desk)?;
+    let ended = end_elsewhere(&rt, desk)?;
     assert!(rt; reader.join(&rt));
     let _recorded = settle(ended, &mut pass)?;
     let state = pass.state(true)?;
@@ -111,6 +109,10 @@ fn a_board_has_sixty_four_places(rt: HostRuntime) -> Result<(), Fail> {
     let alloc = rt.alloc();
     let (_desk, mut pass) = open(alloc, rt, accepted(alloc)?)?;
     let mut places = BoardPlaces::new();
+    let Ok(other) = places.take(&mut pass) else {
+        return Err(OutOfMemory.into());
+    };
+    other.give_back(&mut pass);
     let mut others = Vec::new(alloc);
     for _ in 1..PLACES {
         let Ok(other) = places.take(&mut pass) else {
@@ -126,5 +128,15 @@ fn a_board_has_sixty_four_places(rt: HostRuntime) -> Result<(), Fail> {
         )
     );
     assert!(rt; !pass.is_usable(Some(0)));
+    Ok(())
+}
+
+#[test]
+fn a_pass_reads_on_after_the_writer(rt: HostRuntime) -> Result<(), Fail> {
+    let alloc = rt.alloc();
+    let (desk, mut pass) = open(alloc, rt, accepted(alloc)?)?;
+    assert!(rt; settle(desk.stop(), &mut pass).is_err());
+    let state = pass.state(false)?;
+    assert!(rt; state.revision() == 0 && !state.is_closed() && state.withdrawal().is_none());
     Ok(())
 }

@@ -2,8 +2,8 @@ use Rattle.std.proofs.Common.{sym, ◌∙◌}
 use Rattle.spf_history.proofs.Prefixes.{first_steps}
 use Rattle.spf_x509_board.proofs.tests.a_step_is_read_on_another_thread.Goals as goal
 
-pub end_elsewhere-requires : goal.end_elsewhere-requires
-end_elsewhere-requires g c = λ none.
+pub withdraw-requires : goal.withdraw-requires
+withdraw-requires g c = λ none.
     let list = sym (first_steps c.in_ok-desk.desk.list c.in_ok-accepted.field-0
     c.in_ok-desk.ensures.step) ∙ none in
     cc

@@ -17,4 +17,5 @@ returns-in-Some-Ok-clause-ok g c =
     rw (← c.self.view_is) (renews_in g.K.Kind.legal g.K.Replay.replays _ i.seen i.entered
     e.new.entered c.again.result i.missed e.new.missed (view c.args.reader.place)
     (view e.result.0.place) c.in-Some-Ok.field-0 c.again.ensures.same c.self.invariant.1
-    e.ensures.entered (rw c.in-Some-Ok.is at e.ensures.found) (rw c.in-Some-Ok.is at e.ensures.once))
+    e.ensures.entered (rw c.in-Some-Ok.is at e.ensures.found)
+    (rw c.in-Some-Ok.is at e.ensures.once))

@@ -1,7 +1,8 @@
 use Rattle.std.proofs.Common.{rules, ◌≡◌, false, refl, sym, ap, ◌∙◌, subst}
 use Rattle.spf_feed.specs.Items.{Rules}
 use Rattle.spf_feeder.specs.Kept.{rules_by}
-use Rattle.spf_feeder.proofs.FeedLemmas.{ready_of, stays_idle, tells_of, turned_of, untold_of}
+use Rattle.spf_feeder.proofs.FeedLemmas.{stops_by, ready_of, stays_idle, tells_of}
+use Rattle.spf_feeder.proofs.FeedLemmas.{turned_of, untold_of}
 use Rattle.spf_feeder.proofs.feeder.Feeder.ask_once.Goals as goal
 
 pub returns-then-is_stuck-clause-turn : goal.returns-then-is_stuck-clause-turn
@@ -33,10 +34,18 @@ invariant_of-self g c =
     let same : rules_by g.K.SvidPicker.picks c.advance.new.self.settings c.advance.new.self.picker
     ≡ rule =
     λ i. rules_by g.K.SvidPicker.picks (c.advance.ensures.settings i) (c.advance.ensures.picker i) in
-    let ready = c.self.invariant.1 going in
-    (c.advance.ensures.published,
-    ready_of g.C.Connector g.C.Link.Link g.M.MetricsRecorder.records rule _ before _ _ _ _ _ _
-    c.phase-phase.ensures c.in-Ok.ensures c.advance.ensures.advances same ready,
-    tells_of g.C.Connector g.C.Link.Link g.M.MetricsRecorder.records rule _ before _ _ _ _ _ _ _
-    c.phase-phase.ensures c.in-Ok.ensures c.advance.ensures.advances same ready
-    (c.self.invariant.2 going))
+    let ready = c.self.invariant.1 going in (
+      c.advance.ensures.published,
+      ready_of g.C.Connector g.C.Link.Link g.M.MetricsRecorder.records rule _ before _ _ _ _ _ _
+          c.phase-phase.ensures c.in-Ok.ensures c.advance.ensures.advances same ready,
+      tells_of g.C.Connector g.C.Link.Link g.M.MetricsRecorder.records rule _ before _ _ _ _ _ _ _
+          c.phase-phase.ensures c.in-Ok.ensures c.advance.ensures.advances same ready
+          (c.self.invariant.2 going),
+    )
+
+pub returns-in-Ok-clause-ended : goal.returns-in-Ok-clause-ended
+returns-in-Ok-clause-ended g c =
+    stops_by g.M.MetricsRecorder.records _ _ c.self.inside.session c.advance.new.self _
+    c.advance.result
+    (ap (λ f. rules_by g.K.SvidPicker.picks f.core.settings f.core.picker) c.self.view_is)
+    c.advance.ensures.advances

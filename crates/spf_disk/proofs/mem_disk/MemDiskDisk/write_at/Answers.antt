@@ -1,0 +1,10 @@
+use Rattle.std.proofs.Common.{◌<◌, ◌≤◌, ◌+◌, ◌⊎◌, length}
+use Rattle.spf_disk.proofs.MemDiskLemmas.{torn_along}
+use Rattle.spf_disk.proofs.mem_disk.MemDiskDisk.write_at.Goals as goal
+
+pub returns-clause-crash : goal.returns-clause-crash
+returns-clause-crash c =
+    torn_along (λ i. (i < c.args.at) ⊎ (c.args.at + length c.args.bytes.now ≤ i))
+    (c.args.at + length c.args.bytes.now) c.args.file
+    c.args.self.now.files c.begin.new.self.files c.write_file-done.new.files c.end.new.self.files
+    c.in_ok-begin.ensures.same.0 c.end.ensures.same.0 c.write_file-done.ensures.crash

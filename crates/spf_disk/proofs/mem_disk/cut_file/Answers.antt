@@ -1,0 +1,13 @@
+use Rattle.spf_disk.proofs.MemDiskLemmas.{cut_change, elapses_pushed}
+use Rattle.spf_disk.proofs.mem_disk.cut_file.Goals as goal
+
+pub returns-clause-crash : goal.returns-clause-crash
+returns-clause-crash c =
+    cut_change c.args.count c.args.file c.args.files.now c.change.new.files c.file.result.now
+    c.in_ok-state.state c.file.ensures c.in_ok-change.ensures.ok c.requires
+    c.in_ok-state.ensures.bytes c.in_ok-state.ensures.settled
+
+pub returns-clause-time : goal.returns-clause-time
+returns-clause-time c =
+    elapses_pushed c.args.past.now.items c.change.new.past.items c.args.files.now
+    c.change.new.files c.in_ok-change.ensures.kept

@@ -1,0 +1,10 @@
+pub mod Crash
+pub mod Format
+pub mod Image
+pub mod Scanning
+pub mod Slots
+pub mod Memory
+pub mod MemoryDisk
+pub mod Opening
+pub mod Replacing
+pub mod Standing

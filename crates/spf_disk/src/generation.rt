@@ -1,0 +1,28 @@
+//! What is kept: a generation, which is an identity and the
+//! authorities to trust, and the entry that a file holds of it.
+
+use spf_io::{Bytes, List, Text};
+
+/// The authorities of a trust domain, in order.
+#[derive(Debug, PartialEq, Eq, Drop)]
+pub struct AuthorityList {
+    pub name: Text,
+    pub certificates: List<Bytes>,
+}
+
+/// An identity with its key, and the authorities by trust domain. Without an identity the chain
+/// and the key are empty.
+#[derive(Debug, PartialEq, Eq, Drop)]
+pub struct Generation {
+    pub number: u64,
+    pub chain: Bytes,
+    pub key: Bytes,
+    pub authorities: List<AuthorityList>,
+}
+
+/// What one file holds.
+#[derive(Debug, Drop)]
+pub enum Entry {
+    Withdrawn { number: u64 },
+    Accepted(Generation),
+}

@@ -1,0 +1,148 @@
+//! The initial synchronisation: attempts with a moment of the clock before each, until an item is
+//! accepted.
+
+ghost use Rattle.std.specs.Prelude.{◌≡◌, ◌≤ℤ◌, false, true, pos, IfErr, OnOk, reverse};
+ghost use Rattle.spf_view.specs.Views.{has_synced};
+ghost use Rattle.spf_feed.specs.Items.{subject};
+ghost use Rattle.spf_feeder.specs.Fed.{StopsBy};
+ghost use Rattle.spf_feeder.specs.Kept.{rules_by};
+ghost use Rattle.spf_feeder.specs.Pacing.{KeepsPace};
+ghost use Rattle.spf_feeder.specs.Times.{TakesMoment};
+ghost use Rattle.spf_feeder.specs.Times as spec;
+ghost use Rattle.spf_feeder.specs.declared.pace.Pace.{Pace as Paces};
+
+use crate::feeder::Feeder;
+use crate::pace::Pace;
+use crate::session::Stop;
+use crate::supervisor::paced_ask;
+use rand_core::Rng;
+use spf_feed::{MetricsRecorder, Publisher, SvidPicker};
+use spf_link::Connector;
+use spf_system::{Clock, Pause};
+use std::sync::Wait;
+use std::time::Duration;
+
+/// Asks the clock until it gives a moment, with this pause where it gives none.
+pub fn next_moment<T: Clock, W: Pause, H: Wait>(
+    rt: &H,
+    clock: &mut T,
+    pause: &mut W,
+    delay: Duration,
+) -> i64
+    ensures moment { TakesMoment (T.moments clock.old) (T.moments clock.new) result }
+    ensures range { pos 0 ≤ℤ result }
+{
+    'asks: for _ in rt.forever() {
+        match clock.now() {
+            Some(moment) => return moment,
+            None => pause.pause(delay),
+        }
+    }
+    unreachable!()
+}
+
+/// The first moment and a timeout behind it in whole seconds, rounded up. It stops at `i64::MAX`.
+pub fn deadline_after(first: i64, timeout: Duration) -> i64
+    requires { pos 0 ≤ℤ first }
+    ensures { result ≡ spec.deadline_after first timeout }
+{
+    let seconds = timeout.as_nanos().div_ceil(1_000_000_000);
+    let latest = i64::MAX as u128;
+    (first as u128 + seconds).min(latest) as i64
+}
+
+/// Where a client is asked for next, a moment of the clock stands before it: the first one, which
+/// is at hand, and then one that the clock gives now.
+fn moment_before<C, P, M, K, T, W, H>(
+    rt: &H,
+    feeder: &mut Feeder<C, P, M, K>,
+    clock: &mut T,
+    pause: &mut W,
+    delay: Duration,
+    first: &mut Option<i64>,
+) -> Result<(), Stop>
+where
+    C: Connector + Drop,
+    C::Link: Drop,
+    P: Publisher + Drop,
+    M: MetricsRecorder + Drop,
+    K: SvidPicker + Drop,
+    T: Clock,
+    W: Pause,
+    H: Wait,
+    requires going { feeder.old.core.stuck ≡ false }
+    ensures settings { feeder.new.core.settings ≡ feeder.old.core.settings }
+    ensures picker { feeder.new.core.picker ≡ feeder.old.core.picker }
+    ensures handed { feeder.new.first ≡ feeder.old.first }
+    ensures asked { feeder.new.asked ≡ feeder.old.asked }
+    ensures going { OnOk result (feeder.new.core.stuck ≡ false) }
+    ensures paces { (pace : Paces) → KeepsPace
+        (rules_by K.picks feeder.old.core.settings feeder.old.core.picker) feeder.old.core.run pace
+        → OnOk result (KeepsPace
+        (rules_by K.picks feeder.old.core.settings feeder.old.core.picker) feeder.new.core.run
+        pace) }
+    ensures ended { IfErr result (StopsBy
+        (rules_by K.picks feeder.old.core.settings feeder.old.core.picker) feeder.new.core.run) }
+{
+    if !feeder.asks_client() {
+        return Ok(());
+    }
+    let moment = match first.take() {
+        Some(moment) => moment,
+        None => next_moment(rt, clock, pause, delay),
+    };
+    match feeder.take_moment(moment) {
+        Ok(_) => Ok(()),
+        Err(stop) => Err(stop),
+    }
+}
+
+/// Asks until the first item is accepted, with a moment of the clock before each attempt, the
+/// first of them `first`, and a pause after each that failed.
+pub fn synchronise<C, P, M, K, R, T, W, H>(
+    rt: &H,
+    feeder: &mut Feeder<C, P, M, K>,
+    pace: &mut Pace,
+    random: &mut R,
+    clock: &mut T,
+    pause: &mut W,
+    delay: Duration,
+    first: i64,
+) -> Result<(), Stop>
+where
+    C: Connector + Drop,
+    C::Link: Drop,
+    P: Publisher + Drop,
+    M: MetricsRecorder + Drop,
+    K: SvidPicker + Drop,
+    R: Rng,
+    T: Clock,
+    W: Pause,
+    H: Wait,
+    requires going { feeder.old.core.stuck ≡ false }
+    requires keeps { KeepsPace (rules_by K.picks feeder.old.core.settings feeder.old.core.picker)
+        feeder.old.core.run pace.old }
+    ensures settings { feeder.new.core.settings ≡ feeder.old.core.settings }
+    ensures picker { feeder.new.core.picker ≡ feeder.old.core.picker }
+    ensures handed { feeder.new.first ≡ feeder.old.first }
+    ensures bounds { pace.new.bounds ≡ pace.old.bounds }
+    ensures going { OnOk result (feeder.new.core.stuck ≡ false) }
+    ensures synced { OnOk result (has_synced
+        (subject (rules_by K.picks feeder.old.core.settings feeder.old.core.picker))
+        (reverse feeder.new.core.run) ≡ true) }
+    ensures paces { OnOk result (KeepsPace
+        (rules_by K.picks feeder.old.core.settings feeder.old.core.picker) feeder.new.core.run
+        pace.new) }
+    ensures ended { IfErr result (StopsBy
+        (rules_by K.picks feeder.old.core.settings feeder.old.core.picker) feeder.new.core.run) }
+{
+    let mut coming = Some(first);
+    'asks: for _ in rt.forever() {
+        moment_before(rt, feeder, clock, pause, delay, &mut coming)?;
+        paced_ask(feeder, pace, random, pause)?;
+        if feeder.is_synced() {
+            return Ok(());
+        }
+    }
+    unreachable!()
+}

@@ -1,0 +1,3 @@
+pub mod Followings
+pub mod Pieces
+pub mod Ready

@@ -1,0 +1,4 @@
+pub mod Generations
+pub mod Helping
+pub mod Runs
+pub mod Watching

@@ -1,0 +1,132 @@
+//! Sessions over a disk in memory, and what a reader finds after them.
+
+use crate::{helper_follow, helper_watch};
+use spf_disk::{Disk, Generation, HelperFile, MemDisk, OpenError, read_generation};
+use spf_feed::ResourceLimits;
+use spf_fixtures::octets;
+use spf_io::{MemSink, MemSource};
+use std::alloc::Global;
+use std::test::Fail;
+
+const RECOVERY: &str = "M999 CM CN I1 CM CN IS7no CM CN BADKEY CM CN IS14x CM CN I1";
+
+/// Follows the frames over the disk, and whether that ended well.
+fn followed(alloc: Global, disk: &mut MemDisk, frames: &str) -> Result<bool, Fail> {
+    let frames = octets(alloc, frames)?;
+    let mut source = MemSource::new(frames, Vec::new(alloc), Vec::new(alloc));
+    let mut sink = MemSink::new(alloc, 1 << 16, Vec::new(alloc))?;
+    let limits = ResourceLimits::default_limits();
+    let ended = helper_follow(alloc, &mut source, &mut sink, disk, limits, 1000);
+    Ok(ended.is_ok())
+}
+
+/// The generation, where it has that number, a chain, a key and one trust domain with one authority.
+fn is_generation(
+    alloc: Global,
+    found: &Option<Generation>,
+    number: u64,
+    chain: &str,
+) -> Result<bool, Fail> {
+    let Some(found) = found else {
+        return Ok(false);
+    };
+    let [list] = found.authorities.as_slice() else {
+        return Ok(false);
+    };
+    let [root] = list.certificates.as_slice() else {
+        return Ok(false);
+    };
+    Ok(
+        found.number == number
+            && found.chain.as_slice() == octets(alloc, chain)?.as_slice()
+            && found.key.as_slice() == octets(alloc, "KEY1")?.as_slice()
+            && list.name.as_str() == "example.org"
+            && root.as_slice() == octets(alloc, "ROOT1")?.as_slice(),
+    )
+}
+
+#[test]
+fn the_latest_identity_is_found(rt: HostRuntime) -> Result<(), Fail> {
+    let alloc = rt.alloc();
+    let mut recovered = MemDisk::new(alloc);
+    assert!(rt;
+        followed(alloc, &mut recovered, RECOVERY)?,
+        "denial-and-recovery"
+    );
+    let found = read_generation(alloc, &mut recovered)?;
+    assert!(rt;
+        is_generation(alloc, &found, 3, "LEAF1")?,
+        "denial-and-recovery"
+    );
+    let mut denied = MemDisk::new(alloc);
+    let frames = "M999 CM CN I1 CM CN IS7no CM CS7issued";
+    assert!(rt; followed(alloc, &mut denied, frames)?, "first-denial-stays");
+    assert!(rt;
+        read_generation(alloc, &mut denied)?.is_none(),
+        "first-denial-stays"
+    );
+    let mut expired = MemDisk::new(alloc);
+    assert!(rt;
+        followed(alloc, &mut expired, "M999 CM CN I1 M1000")?,
+        "expiry-passes"
+    );
+    let found = read_generation(alloc, &mut expired)?;
+    assert!(rt; is_generation(alloc, &found, 1, "LEAF1")?, "expiry-passes");
+    Ok(())
+}
+
+#[test]
+fn an_open_gate_before_no_entry_is_a_damage(rt: HostRuntime) -> Result<(), Fail> {
+    let alloc = rt.alloc();
+    let mut disk = MemDisk::new(alloc);
+    assert!(rt; disk.write_at(HelperFile::Gates, 0, &[1]).is_ok());
+    assert!(rt; matches!(read_generation(alloc, &mut disk), Err(OpenError::Damaged)));
+    let mut source = MemSource::new(Vec::new(alloc), Vec::new(alloc), Vec::new(alloc));
+    let mut out = MemSink::new(alloc, 16, Vec::new(alloc))?;
+    let mut errors = MemSink::new(alloc, 64, Vec::new(alloc))?;
+    let arguments = [String::from_str(alloc, ".")?];
+    let status = helper_watch(
+        alloc,
+        arguments.as_slice(),
+        &mut source,
+        &mut disk,
+        &mut out,
+        &mut errors,
+    );
+    assert_eq!(rt; status, 22);
+    assert_eq!(rt; errors.bytes(), b"spf_helper: damaged\n".as_slice());
+    Ok(())
+}
+
+/// What is found after a crash is of none of the steps, or of the first or the third one.
+fn is_whole(alloc: Global, disk: &MemDisk, fill: u8) -> Result<bool, Fail> {
+    let mut crashed = disk.crash(fill)?;
+    match read_generation(alloc, &mut crashed) {
+        Ok(found) => Ok(
+            found.is_none()
+                || is_generation(alloc, &found, 1, "LEAF1")?
+                || is_generation(alloc, &found, 3, "LEAF1")?,
+        ),
+        Err(_) => Ok(false),
+    }
+}
+
+#[test]
+fn a_disk_that_stops_is_never_damaged(rt: HostRuntime) -> Result<(), Fail> {
+    let alloc = rt.alloc();
+    for calls in 0..60 {
+        let mut disk = MemDisk::stopping(alloc, calls);
+        let ended = followed(alloc, &mut disk, RECOVERY)?;
+        for fill in [0, 1, 255] {
+            assert!(rt; is_whole(alloc, &disk, fill)?, "{calls} calls, {fill}");
+        }
+        if ended {
+            let mut crashed = disk.crash(1)?;
+            let found = read_generation(alloc, &mut crashed)?;
+            assert!(rt; is_generation(alloc, &found, 3, "LEAF1")?);
+            return Ok(());
+        }
+    }
+    assert!(rt; false, "no run ended well");
+    Ok(())
+}

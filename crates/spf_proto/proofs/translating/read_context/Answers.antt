@@ -1,0 +1,9 @@
+use Rattle.std.proofs.Common.{refl, IfOk, Result, Ok, Err, ◌≡◌}
+use Rattle.spf_api.specs.Views.{context_of}
+use Rattle.spf_proto.proofs.ReceivedLemmas.{received_all}
+use Rattle.spf_proto.proofs.translating.read_context.Goals as goal
+
+pub returns : goal.returns
+returns c =
+    received_all (context_of c.args.view.now) c.context_from_view.result c.received.result
+    c.context_from_view.ensures c.received.ensures

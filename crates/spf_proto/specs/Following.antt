@@ -1,0 +1,80 @@
+-- How a body is followed.
+use Rattle.std.specs.Prelude.{◌≡◌, ◌⊎◌, ℕ, ℤ, ◌+◌, ◌≤◌, int_le, Bool, true, false, IsTrue, ◌==◌, List, []}
+use Rattle.std.specs.Prelude.{length, Option, None, Some, IfSome, Result, Ok, Err, if◌then◌else◌}
+use Rattle.spf_io.specs.Outside.{Rose}
+use Rattle.spf_api.specs.declared.response.ContextResponse.{ContextResponse}
+use Rattle.spf_view.specs.Sessions.{Ports, Grows, all_of, onto}
+use Rattle.spf_view.specs.Views.{has_synced}
+use Rattle.spf_feed.specs.declared.follow_error.FollowError.{FollowError}
+use Rattle.spf_feed.specs.declared.follow_error.FollowError.TheVariants as answers
+use Rattle.spf_feed.specs.declared.record.MetricsRecord.{MetricsRecord}
+use Rattle.spf_feed.specs.Items.{Event, Rules, subject}
+use Rattle.spf_feed.specs.Run.{stream, outputs}
+use Rattle.spf_feed.specs.Steps.{PlainStep}
+use Rattle.spf_proto.specs.declared.proto_error.ProtoError.{ProtoError}
+use Rattle.spf_proto.specs.declared.proto_error.ProtoError.TheVariants as errors
+use Rattle.spf_proto.specs.Body.{body_within}
+use Rattle.spf_proto.specs.Translated.{session_of}
+
+-- the moment is at the deadline, or past it
+abbrev pub is_due : Option ℤ → ℤ → Bool
+is_due None start = false
+is_due (Some deadline) start = int_le deadline start
+
+-- the results that the bytes do not fix
+abbrev pub is_free : Result ℕ ProtoError → Bool
+is_free (Err (errors.Follow answers.OutOfMemory)) = true
+is_free (Err (errors.Follow answers.ReadFault)) = true
+is_free (Err (errors.Follow answers.WriteFault)) = true
+is_free _ = false
+
+-- the errors of a session that a body comes to
+abbrev pub comes : FollowError → Bool
+comes answers.OutOfMemory = true
+comes answers.ReadFault = true
+comes answers.WriteFault = true
+comes answers.InitialSyncTimeout = true
+comes answers.NeverSynced = true
+comes _ = false
+
+abbrev pub OnlyThese : Result ℕ ProtoError → Type 0
+OnlyThese (Err (errors.Follow e)) = IsTrue (comes e)
+OnlyThese _ = Unit {0}
+
+-- how often reads and writes failed before and after; a failure comes only where its count rose
+pub record HasCauses (reads reads' writes writes' : ℕ) (r : Result ℕ ProtoError) : Type 0 where
+  pub reads_later : reads ≤ reads'
+  pub writes_later : writes ≤ writes'
+  pub read : r ≡ Err (errors.Follow answers.ReadFault) → Rose reads reads'
+  pub write : r ≡ Err (errors.Follow answers.WriteFault) → Rose writes writes'
+
+-- The result that a body fixes: its messages, and what follows them.
+abbrev pub answer_of : Rules → ℤ → ℕ → List ContextResponse → List ℕ → Result ℕ ProtoError
+answer_of rules start max messages rest =
+    if length rest == 0
+    then (if has_synced (subject rules) (onto [] (session_of rules start messages))
+    then Ok (length (session_of rules start messages))
+    else Err (errors.Follow answers.NeverSynced))
+    else (if length messages == max then Err errors.TooManyMessages
+    else Err (errors.BadMessage (length messages + 1)))
+
+-- The messages with which a body begins, at most so many, are followed: the sink,
+-- the publisher and the recorder hold all that the session of them gives.
+pub record FollowsBody (rules : Rules) (start : ℤ) (max : ℕ) (bytes : List ℕ)
+    (old new : Ports PlainStep MetricsRecord) (r : Result ℕ ProtoError) : Type 0 where
+  pub messages : List ContextResponse
+  pub rest : List ℕ
+  pub reading : body_within max bytes ≡ (messages, rest)
+  pub answer : r ≡ answer_of rules start max messages rest
+  pub lines : Grows old.held new.held
+      (all_of (stream rules) (outputs rules).line [] (session_of rules start messages))
+  pub steps : Grows old.steps new.steps
+      (all_of (stream rules) (outputs rules).steps [] (session_of rules start messages))
+  pub records : Grows old.records new.records
+      (all_of (stream rules) (outputs rules).records [] (session_of rules start messages))
+
+-- the bytes fix the result, where they are known, unless it is a failure or memory ran out
+abbrev pub BodyFollowed : Rules → ℤ → ℕ → Ports PlainStep MetricsRecord
+    → Ports PlainStep MetricsRecord → Result ℕ ProtoError → Type 0
+BodyFollowed rules start max old new r =
+    IfSome old.left (λ bytes. IsTrue (is_free r) ⊎ FollowsBody rules start max bytes old new r)

@@ -1,0 +1,44 @@
+-- How a message is translated.
+use Rattle.std.specs.Prelude.{◌≡◌, ℕ, ℤ, Bool, if◌then◌else◌, List, [], ◌∷◌, ◌++◌, Option, Some, None}
+use Rattle.std.specs.Prelude.{Result, Ok, Err}
+use Rattle.spf_proto.specs.declared.taking.Stop.{Stop}
+use Rattle.spf_proto.specs.declared.taking.Stop.TheVariants as stops
+unfoldable pub use Rattle.spf_api.specs.Layout.{field_text}
+use Rattle.spf_feed.specs.Items.{Rules, context_in}
+use Rattle.spf_api.specs.declared.response.ContextResponse.{ContextResponse}
+use Rattle.spf_api.specs.Layout.{IsContext}
+use Rattle.spf_frame.specs.declared.frame_kind.TheConstants.{ITEM}
+use Rattle.spf_proto.specs.declared.translating.Position.{Position}
+use Rattle.spf_proto.specs.Body.{response_of}
+unfoldable pub use Rattle.spf_proto.specs.Translated.{client_frames}
+use Rattle.spf_proto.specs.Translated.{Standing, message_frames, standing_after}
+
+abbrev pub standing : Position → Standing
+standing p = record { is_open = p.is_open; synced = p.synced }
+
+-- the frames of an item with this payload
+unfoldable pub item_frames : Bool → List ℕ → List ℕ
+item_frames is_open payload = (if is_open then [] else client_frames) ++ ITEM ∷ field_text payload
+
+-- the octets are a message, whose frames these are
+pub record IsMade (rules : Rules) (start : ℤ) (before after : Position) (octets frames : List ℕ)
+    : Type 0 where
+  pub response : ContextResponse
+  pub says : response_of octets ≡ Some response
+  pub laid : IsContext response
+  pub frames_are : frames ≡ message_frames before.is_open response
+  pub standing_is : standing after
+      ≡ standing_after rules start (standing before) (context_in response)
+
+abbrev pub IsTranslated : Rules → ℤ → Position → List ℕ → List ℕ → Option Position → Type 0
+IsTranslated rules start before octets frames None = response_of octets ≡ None
+IsTranslated rules start before octets frames (Some after) =
+    IsMade rules start before after octets frames
+
+abbrev pub IsMadeOrStopped : Rules → ℤ → Position → List ℕ → List ℕ → Result Position Stop → Type 0
+IsMadeOrStopped rules start before octets frames (Ok after) =
+    IsMade rules start before after octets frames
+IsMadeOrStopped rules start before octets frames (Err stops.BadMessage) = response_of octets ≡ None
+IsMadeOrStopped rules start before octets frames (Err stops.OutOfMemory) = Unit {0}
+IsMadeOrStopped rules start before octets frames (Err stops.TooManyMessages) = ⊥
+IsMadeOrStopped rules start before octets frames (Err stops.SourceFailed) = ⊥

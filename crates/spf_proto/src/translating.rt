@@ -1,0 +1,223 @@
+//! The frames that a message stands for.
+
+ghost use Rattle.std.specs.Prelude.{◌≡◌, [], IfOk, OnOk, Some, None, is_some, if◌then◌else◌};
+ghost use Rattle.std.specs.Option.{ForSome, option_map};
+ghost use Rattle.spf_api.specs.Views.{context_of};
+ghost use Rattle.spf_feed.specs.Items.{IsReceived, context_in, rules_with};
+ghost use Rattle.spf_feed.specs.Items as items_spec;
+ghost use Rattle.spf_feed.specs.Pick.{usable};
+ghost use Rattle.spf_feed.specs.Steps.{chosen_of};
+ghost use Rattle.spf_proto.specs.Translated.{is_accepted, standing_after};
+ghost use Rattle.spf_proto.specs.Translating.{standing, client_frames, item_frames};
+ghost use Rattle.spf_proto.specs.Translating.{IsMadeOrStopped, IsTranslated};
+
+use crate::message::read_message;
+use crate::payload::{put_bytes, put_context};
+use crate::taking::Stop;
+use spf_api::{ContextView, WorkloadApiError, context_from_view};
+use spf_feed::{Ready, ResourceLimits, SvidPicker, frame_kind, select_svid, validate_limits};
+use spf_io::OutOfMemory;
+use spf_x509::X509Context;
+use std::alloc::Global;
+
+/// The max length of a message, and of a payload.
+const MAX_PAYLOAD: usize = 1 << 24;
+
+/// The frames of a client and its connection.
+const CLIENT: [u8; 10] = [
+    frame_kind::CLIENT_MADE,
+    0,
+    0,
+    0,
+    0,
+    frame_kind::CONNECTED,
+    0,
+    0,
+    0,
+    0,
+];
+
+/// By what items are accepted.
+#[derive(Clone, Copy, Debug)]
+pub(crate) struct Acceptance {
+    pub(crate) limits: ResourceLimits,
+    pub(crate) ready: Ready,
+    /// The moment of the session.
+    pub(crate) start: i64,
+}
+
+/// Where a session stands.
+#[derive(Clone, Copy, Debug, PartialEq, Eq)]
+pub(crate) struct Position {
+    /// The next item follows without another client.
+    pub(crate) is_open: bool,
+    /// An item was accepted.
+    pub(crate) synced: bool,
+}
+
+/// Whether there is a choice, and it has not expired.
+fn is_usable(context: &X509Context, choice: Option<usize>, now: i64) -> bool
+    ensures { result
+        ≡ is_some (usable (chosen_of (record { context = context.now; choice = choice }))
+        (Some now)) }
+{
+    let Some(index) = choice else {
+        return false;
+    };
+    match context.svids().get(index) {
+        Some(svid) => now < svid.expiry_unix(),
+        None => false,
+    }
+}
+
+fn may_sync(context: &X509Context, choice: Option<usize>, acceptance: Acceptance) -> bool
+    ensures { result ≡ items_spec.may_sync acceptance.ready
+        (record { context = context.now; choice = choice }) (Some acceptance.start) }
+{
+    match acceptance.ready {
+        Ready::Usable => is_usable(context, choice, acceptance.start),
+        Ready::Any => true,
+    }
+}
+
+/// Whether a context is accepted.
+fn accepts<C: SvidPicker>(
+    acceptance: Acceptance,
+    picker: Option<&C>,
+    synced: bool,
+    context: &X509Context,
+) -> bool
+    requires { ForSome picker (λ p. C.can_pick p.now) }
+    ensures { result
+        ≡ is_accepted
+        (rules_with acceptance.limits None acceptance.ready
+        (option_map (λ p. C.picks p.now) picker.entry)) acceptance.start synced
+        (Some context.now) }
+{
+    if validate_limits(context, acceptance.limits).is_err() {
+        return false;
+    }
+    let choice = select_svid(context, picker);
+    synced || may_sync(context, choice, acceptance)
+}
+
+/// The context of an update, None where it breaks a rule.
+fn read_context(alloc: Global, view: &ContextView<'_>) -> Result<Option<X509Context>, OutOfMemory>
+    ensures { IfOk result (λ c. c ≡ context_in (context_of view.now)) }
+{
+    received(context_from_view(alloc, view))
+}
+
+fn received(
+    parsed: Result<X509Context, WorkloadApiError>,
+) -> Result<Option<X509Context>, OutOfMemory>
+    ensures { IsReceived parsed result }
+{
+    match parsed {
+        Ok(context) => Ok(Some(context)),
+        Err(WorkloadApiError::OutOfMemory) => Err(OutOfMemory),
+        Err(_) => Ok(None),
+    }
+}
+
+/// Where a session stands after an update.
+fn position_after<C: SvidPicker>(
+    acceptance: Acceptance,
+    picker: Option<&C>,
+    position: Position,
+    context: Option<X509Context>,
+) -> Position
+    requires { ForSome picker (λ p. C.can_pick p.now) }
+    ensures { standing result
+        ≡ standing_after
+        (rules_with acceptance.limits None acceptance.ready
+        (option_map (λ p. C.picks p.now) picker.entry)) acceptance.start (standing position)
+        context }
+{
+    let synced = position.synced;
+    match context {
+        Some(context) => Position {
+            is_open: synced,
+            synced: accepts(acceptance, picker, synced, &context) || synced,
+        },
+        None => Position {
+            is_open: false,
+            synced,
+        },
+    }
+}
+
+/// The frames before an item.
+#[tactic(auto, unfolding(crate::specs::Translating::client_frames))]
+fn frames_before(is_open: bool) -> &'static [u8]
+    ensures { result.now ≡ (if is_open then [] else client_frames) }
+{
+    if is_open { &[] } else { &CLIENT }
+}
+
+/// Puts the frames of an update with this payload.
+#[tactic(auto, unfolding(crate::specs::Translating::item_frames))]
+fn put_frames(frames: &mut Vec<u8>, is_open: bool, payload: &[u8]) -> Result<(), OutOfMemory>
+    ensures { OnOk result (frames.new.items ≡ item_frames is_open payload.now) }
+{
+    frames.clear();
+    frames.extend_from_slice(frames_before(is_open))?;
+    frames.push(frame_kind::ITEM)?;
+    put_bytes(frames, payload)
+}
+
+/// Puts the frames of a message in place of what the buffer held, and returns where the session
+/// stands after it. None where the octets are no message.
+fn frames_of<C: SvidPicker>(
+    alloc: Global,
+    acceptance: Acceptance,
+    picker: Option<&C>,
+    position: Position,
+    octets: &[u8],
+    payload: &mut Vec<u8>,
+    frames: &mut Vec<u8>,
+) -> Result<Option<Position>, OutOfMemory>
+    requires { ForSome picker (λ p. C.can_pick p.now) }
+    ensures { IfOk result (IsTranslated
+        (rules_with acceptance.limits None acceptance.ready
+        (option_map (λ p. C.picks p.now) picker.entry)) acceptance.start position octets.now
+        frames.new.items) }
+{
+    if octets.len() > MAX_PAYLOAD {
+        return Ok(None);
+    }
+    let Some(view) = read_message(alloc, octets)? else {
+        return Ok(None);
+    };
+    payload.clear();
+    put_context(payload, &view)?;
+    if payload.len() > MAX_PAYLOAD {
+        return Ok(None);
+    }
+    put_frames(frames, position.is_open, payload.as_slice())?;
+    let context = read_context(alloc, &view)?;
+    Ok(Some(position_after(acceptance, picker, position, context)))
+}
+
+/// The same, with the reason where there is no message.
+pub(crate) fn translate<C: SvidPicker>(
+    alloc: Global,
+    acceptance: Acceptance,
+    picker: Option<&C>,
+    position: Position,
+    octets: &[u8],
+    payload: &mut Vec<u8>,
+    frames: &mut Vec<u8>,
+) -> Result<Position, Stop>
+    requires { ForSome picker (λ p. C.can_pick p.now) }
+    ensures { IsMadeOrStopped
+        (rules_with acceptance.limits None acceptance.ready
+        (option_map (λ p. C.picks p.now) picker.entry)) acceptance.start position octets.now
+        frames.new.items result }
+{
+    match frames_of(alloc, acceptance, picker, position, octets, payload, frames) {
+        Ok(Some(position)) => Ok(position),
+        Ok(None) => Err(Stop::BadMessage),
+        Err(_) => Err(Stop::OutOfMemory),
+    }
+}
