@@ -1,7 +1,7 @@
 -- What the calls of a source return, and what they do to the pass that they are lent.
-use Rattle.std.specs.Prelude.{◌≡◌, ◌⊎◌, ℕ, ℤ, Bool, true, false, List, Option, Some, None, Result}
+use Rattle.std.specs.Prelude.{◌≡◌, ◌≢◌, ◌⊎◌, ◌≤◌, ℕ, ℤ, Bool, true, false, List, Option, Some, None, Result}
 use Rattle.std.specs.Prelude.{Ok, Err}
-use Rattle.std.specs.Option.{option_map}
+use Rattle.std.specs.Option.{option_map, option_and_then}
 use Rattle.std.specs.Arc.{arc_value}
 use Rattle.std.specs.declared.alloc.Global.{Global}
 use Rattle.std.specs.declared.sync.Arc.{Arc}
@@ -11,8 +11,9 @@ use Rattle.spf_feed.specs.declared.state.X509SourceError.{X509SourceError}
 use Rattle.spf_feed.specs.declared.state.X509SourceError.TheVariants as errors
 use Rattle.spf_feed.specs.declared.step.Denial.{Denial}
 use Rattle.spf_feed.specs.Steps.{PlainStep, StateView, View, Material, held_in, reason_of}
-use Rattle.spf_board.specs.Passes.{Passed, Renews}
-use Rattle.spf_x509_board.specs.Steps.{Legal}
+use Rattle.spf_io.specs.declared.memory.OutOfMemory.{OutOfMemory}
+use Rattle.spf_board.specs.Passes.{Passed, Peeks, Renews, Rose}
+use Rattle.spf_x509_board.specs.Steps.{Legal, Replays, is_usable}
 use Rattle.spf_x509_board.specs.States.{IsStateOf}
 
 -- the bundles of a set, by the names of their trust domains
@@ -47,15 +48,12 @@ Gets answer old new (Err errors.OutOfMemory) = Unit {0}
 Gets answer old new (Err e) = Reads old new (λ view. answer view (Err e))
 Gets answer old new (Ok x) = Reads old new (λ view. answer view (Ok x))
 
--- What a try form returns: the value of the getter, and none where there is none.
-abbrev pub Tries : {T E : Type 0} → (View Material Denial → Result T X509SourceError → Type 0)
-    → Passed PlainStep → Passed PlainStep → Result (Option T) E → Type 0
+-- What a try form returns: the value of the getter, and none where the getter has none.
+abbrev pub Tries : {T : Type 0} → (View Material Denial → Result T X509SourceError → Type 0)
+    → Passed PlainStep → Passed PlainStep → Result (Option T) OutOfMemory → Type 0
 Tries answer old new (Ok (Some x)) = Gets answer old new (Ok x)
 Tries answer old new (Ok None) =
-    (e : X509SourceError) × (e ≢' errors.OutOfMemory) × Gets answer old new (Err e)
-  where
-    abbrev ◌≢'◌ : X509SourceError → X509SourceError → Type 0
-    x ≢' y = x ≡ y → ⊥
+    (e : X509SourceError) × (e ≢ errors.OutOfMemory) × Gets answer old new (Err e)
 Tries answer old new (Err e) = Unit {0}
 
 -- the bundles of the held context, or the reason of the withdrawal
@@ -66,3 +64,27 @@ BundlesAnswer view (Ok bundles) =
 BundlesAnswer view (Err (errors.Withdrawn reason)) = reason_of view ≡ Some (arc_value reason)
 BundlesAnswer view (Err errors.OutOfMemory) = Unit {0}
 BundlesAnswer view (Err _) = ⊥
+
+-- the bundle of a trust domain, or the reason of the withdrawal
+abbrev pub BundleAnswer : View Material Denial → List ℕ
+    → Result (Option (Arc Bundle Global)) X509SourceError → Type 0
+BundleAnswer view domain (Ok bundle) =
+    option_and_then (λ (m : Material). find_entry domain m.context.bundles) (held_in view)
+    ≡ option_map arc_value bundle
+BundleAnswer view domain (Err (errors.Withdrawn reason)) = reason_of view ≡ Some (arc_value reason)
+BundleAnswer view domain (Err errors.OutOfMemory) = Unit {0}
+BundleAnswer view domain (Err _) = ⊥
+
+-- Whether a source is healthy: where it is closed it is not, and nothing is read; otherwise its
+-- choice is usable in what is published, which the pass does not keep.
+abbrev pub IsHealthy : Option ℤ → Passed PlainStep → Passed PlainStep → Bool → Type 0
+IsHealthy now old new healthy =
+    ((healthy ≡ false) × (new ≡ old))
+    ⊎ Peeks Legal Replays (λ shown found. found ≡ is_usable shown now) old new healthy
+
+-- No place comes only where the count of refused places rose, and no other error but out of memory.
+abbrev pub HasPlaceCause : {T : Type 0} → ℕ → ℕ → Result T X509SourceError → Type 0
+HasPlaceCause before now (Ok p) = before ≤ now
+HasPlaceCause before now (Err errors.NoPlace) = (before ≤ now) × Rose before now
+HasPlaceCause before now (Err errors.OutOfMemory) = before ≤ now
+HasPlaceCause before now (Err _) = ⊥

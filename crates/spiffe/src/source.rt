@@ -6,14 +6,16 @@ ghost use Rattle.spf_feed.specs.States.{ContextAnswer, SvidAnswer};
 ghost use Rattle.spf_board.specs.Passes.{Renews};
 ghost use Rattle.spf_x509_board.specs.Steps.{Legal};
 ghost use Rattle.spf_x509_board.specs.States.{IsStateOf};
-ghost use Rattle.spiffe.specs.Reads.{BundlesAnswer, Gets, SeesNoLess, Tries, is_unread};
+ghost use Rattle.spiffe.specs.Reads.{BundleAnswer, BundlesAnswer, Gets, IsHealthy, SeesNoLess};
+ghost use Rattle.spiffe.specs.Reads.{Tries, HasPlaceCause};
 
 use crate::closing::{Closing, LastHandle, check_open};
 use spf_close::Watch;
 use spf_feed::{X509SourceError, X509SourceState};
+use spf_id::TrustDomain;
 use spf_io::OutOfMemory;
-use spf_x509::{X509BundleSet, X509Context, X509Svid};
-use spf_x509_board::{Front, Pass, X509};
+use spf_x509::{X509Bundle, X509BundleSet, X509Context, X509Svid};
+use spf_x509_board::{Front, Pass, PlaceFault, Places, X509};
 use std::alloc::Global;
 use std::fmt;
 use std::marker::Model;
@@ -71,11 +73,7 @@ impl X509Source {
     }
 
     /// The chosen SVID, where its expiry is above the moment. Closed comes first.
-    pub fn svid(
-        &self,
-        pass: &mut Pass,
-        now: Option<i64>,
-    ) -> Result<Arc<X509Svid>, X509SourceError>
+    pub fn svid(&self, pass: &mut Pass, now: Option<i64>) -> Result<Arc<X509Svid>, X509SourceError>
         requires { pass.old.book ≡ self.now.board }
         ensures gets { Gets (λ view. SvidAnswer view now) pass.old pass.new result }
         ensures pass { SeesNoLess pass.old pass.new }
@@ -93,6 +91,68 @@ impl X509Source {
     {
         let context = self.x509_context(pass)?;
         Ok(Arc::try_clone(context.bundle_set())?)
+    }
+
+    /// A share of the bundle of the trust domain in the held context. Closed comes first.
+    pub fn bundle_for_trust_domain(
+        &self,
+        pass: &mut Pass,
+        trust_domain: &TrustDomain,
+    ) -> Result<Option<Arc<X509Bundle>>, X509SourceError>
+        requires { pass.old.book ≡ self.now.board }
+        ensures gets { Gets (λ view. BundleAnswer view trust_domain.now) pass.old pass.new result }
+        ensures pass { SeesNoLess pass.old pass.new }
+    {
+        let context = self.x509_context(pass)?;
+        Ok(context.bundle_set().get(trust_domain)?)
+    }
+
+    /// What [`X509Source::svid`] returns, None where there is none.
+    pub fn try_svid(
+        &self,
+        pass: &mut Pass,
+        now: Option<i64>,
+    ) -> Result<Option<Arc<X509Svid>>, OutOfMemory>
+        requires { pass.old.book ≡ self.now.board }
+        ensures tries { Tries (λ view. SvidAnswer view now) pass.old pass.new result }
+        ensures pass { SeesNoLess pass.old pass.new }
+    {
+        match self.svid(pass, now) {
+            Ok(svid) => Ok(Some(svid)),
+            Err(X509SourceError::OutOfMemory) => Err(OutOfMemory),
+            Err(_) => Ok(None),
+        }
+    }
+
+    /// Whether the choice is usable at the moment. A closed source is not healthy. It takes no
+    /// memory, and the pass keeps nothing of what it reads.
+    pub fn is_healthy(&self, pass: &mut Pass, now: Option<i64>) -> bool
+        requires { pass.old.book ≡ self.now.board }
+        ensures healthy { IsHealthy now pass.old pass.new result }
+        ensures book { pass.new.book ≡ pass.old.book }
+    {
+        if self.watch.look().is_some() {
+            return false;
+        }
+        pass.is_usable(now)
+    }
+
+    /// Another pass of the source, which has seen what the giver has seen.
+    pub fn another_pass<H: Places>(
+        &self,
+        giver: &mut Pass,
+        places: &mut H,
+    ) -> Result<Pass, X509SourceError>
+        requires { giver.old.book ≡ self.now.board }
+        ensures giver { giver.new ≡ giver.old }
+        ensures pass { IfOk result (λ p. (p.book ≡ self.now.board) × (p.seen ≡ giver.old.seen)) }
+        ensures cause { HasPlaceCause (H.refusals places.old) (H.refusals places.new) result }
+    {
+        match places.take(giver) {
+            Ok(pass) => Ok(pass),
+            Err(PlaceFault::Refused) => Err(X509SourceError::NoPlace),
+            Err(PlaceFault::OutOfMemory) => Err(X509SourceError::OutOfMemory),
+        }
     }
 
     /// Closes the source, and with it ends its supervisor.
