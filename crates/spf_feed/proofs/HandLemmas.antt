@@ -3,7 +3,7 @@ use Rattle.std.proofs.Common.{◌≡◌, Bool, true, List, [], ◌∷◌, Option
 use Rattle.std.proofs.Common.{refl, sym, ap, subst, arith, length, take_all}
 use Rattle.spf_view.specs.Sessions.{Grows, GrowsUpTo}
 use Rattle.spf_view.proofs.FollowLemmas.{grows_nil, grows_none}
-use Rattle.spf_feed.specs.Records.{RecordAppends}
+use Rattle.spf_feed.specs.Records.{RecordAppends, AppendsOnce}
 use Rattle.std.specs.Prelude.{IsErr}
 use Rattle.std.specs.Option.{option_to_list}
 use Rattle.spf_feed.specs.declared.record.MetricsRecord.{MetricsRecord}
@@ -32,6 +32,19 @@ one_more (Some before) None r x h = absurd h
 one_more (Some before) (Some after) (Ok done) x h = h
 one_more (Some before) (Some after) (Err e) x h =
     none_since (Some before) (Some after) (x ∷ []) (ap Some h)
+
+-- a refused call leaves the list as it was
+pub refused_same : {R E : Type 0} (old new : Option (List R)) (e : E) (x : R)
+    → RecordAppends old new (Err e) x → new ≡ old
+refused_same None None e x h = refl
+refused_same None (Some after) e x h = absurd h
+refused_same (Some before) None e x h = absurd h
+refused_same (Some before) (Some after) e x h = ap Some h
+
+pub appends_none : {R T E : Type 0} (old new : Option (List R)) (r : Result T E) (x : R) → IsErr r
+    → new ≡ old → AppendsOnce old new r x
+appends_none old new (Ok done) x bad same = absurd cc
+appends_none old new (Err e) x bad same = same
 
 -- a refused call handed on a beginning
 pub stopped_there : {X T E : Type 0} (old new : Option (List X)) (r : Result T E) (more : List X)

@@ -6,7 +6,7 @@ ghost use Rattle.std.specs.Option.{ForSome, option_map, option_or};
 ghost use Rattle.spf_view.specs.Sessions.{Followed};
 ghost use Rattle.spf_view.specs.Keeping.{kept_with};
 ghost use Rattle.spf_frame.specs.Parts.{FailureHasCause};
-ghost use Rattle.spf_feed.specs.Records.{RecordAppends};
+ghost use Rattle.spf_feed.specs.Records.{RecordAppends, AppendsOnce};
 ghost use Rattle.spf_feed.specs.Steps.{plain, is_accept, HasStep, MayFollow, same_material};
 ghost use Rattle.spf_feed.specs.Turns.{MayTake, listed};
 ghost use Rattle.spf_feed.specs.Items.{Event as SessionOf, context_in, Rules, rules_with};
@@ -92,7 +92,7 @@ fn is_close(event: &Received) -> bool
 }
 
 /// The last moment after an event.
-fn moment_after(now: Option<i64>, event: &Received) -> Option<i64>
+pub fn moment_after(now: Option<i64>, event: &Received) -> Option<i64>
     ensures { result ≡ option_or (received_moment event.now) now }
 {
     match event {
@@ -111,7 +111,7 @@ fn record_one<M: MetricsRecorder>(recorder: &mut M, entry: MetricsRecord) -> Res
     }
 }
 
-fn record_all<M: MetricsRecorder>(recorder: &mut M, records: Records) -> Result<(), OutOfMemory>
+pub fn record_all<M: MetricsRecorder>(recorder: &mut M, records: Records) -> Result<(), OutOfMemory>
     ensures { HandsOn (M.records recorder.old) (M.records recorder.new) result (listed records) }
 {
     if let Some(kind) = records.error {
@@ -125,7 +125,7 @@ fn record_all<M: MetricsRecorder>(recorder: &mut M, records: Records) -> Result<
 
 /// What a step changes.
 #[derive(Clone, Copy, Debug, PartialEq, Eq)]
-enum Change {
+pub enum Change {
     Opened,
     Changed,
     Unchanged,
@@ -166,7 +166,7 @@ fn is_held(snapshot: &Option<Snapshot>, step: &Step) -> bool
 
 /// Publishes a step that is prepared before, and then takes it into the snapshot. A step that
 /// accepts what is held needs no preparation.
-fn publish<P: Publisher>(
+pub fn publish<P: Publisher>(
     alloc: Global,
     publisher: &mut P,
     snapshot: &mut Option<Snapshot>,
@@ -175,6 +175,8 @@ fn publish<P: Publisher>(
     requires next { MayFollow (P.steps publisher.old) (plain step) }
     requires first { snapshot.old ≡ None → IsTrue (is_accept (plain step)) }
     ensures synced { OnOk result (HasStep (P.steps publisher.new)) }
+    ensures appends { AppendsOnce (P.steps publisher.old) (P.steps publisher.new) result
+        (plain step) }
     ensures steps { HandsOn (P.steps publisher.old) (P.steps publisher.new) result
         (plain step ∷ []) }
     ensures change { IfOk result (λ c. c ≡ change_of snapshot.old (plain step)) }

@@ -21,7 +21,7 @@ use std::alloc::Global;
 const UNREACHABLE: u8 = 255;
 
 /// An event as it is received: an item is read down to its context, or None where it breaks a rule.
-pub(crate) type Received = SessionEvent<Option<X509Context>>;
+pub type Received = SessionEvent<Option<X509Context>>;
 
 /// A status, or the text of what could not be reached.
 #[tactic(auto, unfolding(crate::specs::Events::failure_at))]

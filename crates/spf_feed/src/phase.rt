@@ -43,7 +43,7 @@ pub(crate) fn may_stand(phase: Phase, kind: u8) -> bool
 }
 
 /// What the source is asked for after an event.
-pub(crate) fn phase_after(phase: Phase, synced: bool, event: &Received) -> Phase
+pub fn phase_after(phase: Phase, synced: bool, event: &Received) -> Phase
     ensures { result ≡ received_ask phase synced event.now }
 {
     match event {

@@ -30,21 +30,21 @@ use spf_x509::X509Context;
 
 /// The rules of a session, but for its picker and its max frames.
 #[derive(Clone, Copy, Debug)]
-pub(crate) struct SessionRules {
-    pub(crate) limits: ResourceLimits,
-    pub(crate) deadline: Option<i64>,
-    pub(crate) ready: Ready,
+pub struct SessionRules {
+    pub limits: ResourceLimits,
+    pub deadline: Option<i64>,
+    pub ready: Ready,
 }
 
 /// The records of an event that is not accepted, in order.
 #[derive(Clone, Copy, Debug, PartialEq, Eq)]
-pub(crate) struct Records {
-    pub(crate) error: Option<MetricsErrorKind>,
-    pub(crate) end: Option<MetricsRecord>,
+pub struct Records {
+    pub error: Option<MetricsErrorKind>,
+    pub end: Option<MetricsRecord>,
 }
 
 impl Records {
-    fn none() -> Records
+    pub fn none() -> Records
         ensures { listed result ≡ [] }
     {
         Records {
@@ -97,7 +97,7 @@ fn limit_error(kind: LimitKind) -> MetricsErrorKind
 
 /// How an event ends a session before any accepted item.
 #[derive(Debug, PartialEq, Eq, Drop)]
-pub(crate) enum Terminal {
+pub enum Terminal {
     Source(WorkloadApiError),
     UnsupportedRpc(WorkloadApiError),
     InitialSyncTimeout,
@@ -122,7 +122,7 @@ impl From<Terminal> for FollowError {
 
 /// What an event does.
 #[derive(Debug, Drop)]
-pub(crate) enum Turn {
+pub enum Turn {
     Terminal(Terminal),
     Accepted {
         context: X509Context,
@@ -305,7 +305,7 @@ fn item_turn<C: SvidPicker>(
 
 /// What an event does, where an item was accepted
 /// before it or not, and at the last moment before it.
-pub(crate) fn turn_of<C: SvidPicker>(
+pub fn turn_of<C: SvidPicker>(
     rules: SessionRules,
     picker: Option<&C>,
     synced: bool,

@@ -1,7 +1,8 @@
-use Rattle.std.proofs.Common.{◌∷◌, [], subst, Err, true}
+use Rattle.std.proofs.Common.{◌∷◌, [], subst, Err, true, refl}
 use Rattle.spf_view.specs.Sessions.{GrowsUpTo}
 use Rattle.spf_feed.specs.Steps.{PlainStep}
-use Rattle.spf_feed.proofs.HandLemmas.{none_yet, one_more, stopped_there}
+use Rattle.spf_feed.proofs.HandLemmas.{none_yet, one_more, stopped_there, appends_none}
+use Rattle.spf_feed.proofs.HandLemmas.{refused_same}
 use Rattle.spf_feed.proofs.following.publish.Goals as goal
 
 pub returns-in_err-prepared-clause-steps : goal.returns-in_err-prepared-clause-steps
@@ -20,3 +21,17 @@ returns-in_err-publish-2-clause-steps g c =
     GrowsUpTo (g.P.Publisher.steps c.args.publisher.now) (g.P.Publisher.steps c.publish-2.new.self)
     (s ∷ []) true) c.in_ok-published.ensures
     (one_more _ _ (Err c.in_err-publish-2.field-0.0) _ c.in_err-publish-2.ensures))
+
+pub returns-in_err-publish-clause-appends : goal.returns-in_err-publish-clause-appends
+returns-in_err-publish-clause-appends g c =
+    appends_none _ _ _ _ c.from_residual.ensures.0
+    (refused_same _ _ _ _ c.in_err-publish.ensures)
+
+pub returns-in_err-publish-2-clause-appends : goal.returns-in_err-publish-2-clause-appends
+returns-in_err-publish-2-clause-appends g c =
+    appends_none _ _ _ _ c.from_residual-in_err-publish-2.ensures.0
+    (refused_same _ _ _ _ c.in_err-publish-2.ensures)
+
+pub returns-in_err-prepared-clause-appends : goal.returns-in_err-prepared-clause-appends
+returns-in_err-prepared-clause-appends g c =
+    appends_none _ _ _ _ c.from_residual-in_err-prepared.ensures.0 refl

@@ -1,12 +1,12 @@
 //! Links and connectors of memory, whose answers are spelled by words.
 
-use crate::responses::{FIRST, SvidRow, bundle_entries, context};
 use spf_api::{
     BundlesResponse, ClientFault, GrpcStatusCode, GrpcStatusError, LinkFault, Response,
     TransportConnectError,
 };
 use spf_io::{List, Text};
 use spf_link::{Answer, Connector, Headers, Link, MemConnector, MemLink, Request};
+use spf_responses::{FIRST, SvidRow, bundle_entries, context};
 use std::alloc::Global;
 use std::test::Fail;
 

@@ -1,12 +1,12 @@
 //! Links over real sockets, to server threads of the tests.
 
-use crate::responses::first_item;
 use spf_api::{ClientFault, GrpcStatusCode, LinkFault, Response, TransportError, WorkloadApiError};
 use spf_client::WorkloadApiClient;
 use spf_endpoint::Endpoint;
 use spf_fixtures::octets;
 use spf_io::Text;
 use spf_link::{Connector, Headers, Link, Request};
+use spf_responses::first_item;
 use spf_system::{EnvValue, MemEnvironment, StopFlag};
 use spf_wire::{EndpointConnector, EnvConnector, SocketLink};
 use std::alloc::Global;
@@ -127,7 +127,7 @@ fn socket_link(rt: HostRuntime) -> Result<(), Fail> {
 fn socket_path(rt: &HostRuntime) -> Result<String, Fail> {
     let now = Instant::now(rt)?.elapsed(rt)?.as_nanos();
     let process = std::process::id(rt.process());
-    Ok(format!(in rt.alloc(); "/tmp/spf_tests-{process}-{now}.sock")?)
+    Ok(format!(in rt.alloc(); "/tmp/spf_client_tests-{process}-{now}.sock")?)
 }
 
 #[test]
@@ -193,7 +193,7 @@ fn nobody_is_reached(rt: HostRuntime) -> Result<(), Fail> {
     let alloc = rt.alloc();
     let long = String::from_utf8(vec![in alloc; b'x'; 200]?)?;
     for path in [
-        "/tmp/spf_tests-nobody.sock",
+        "/tmp/spf_client_tests-nobody.sock",
         "/etc/hostname",
         "",
         long.as_str(),
@@ -241,12 +241,12 @@ fn client_over_a_socket(rt: HostRuntime) -> Result<(), Fail> {
 #[test]
 fn client_of_nobody(rt: HostRuntime) -> Result<(), Fail> {
     let alloc = rt.alloc();
-    let endpoint = Endpoint::Unix(Text::copy_of(alloc, "/tmp/spf_tests-nobody.sock")?);
+    let endpoint = Endpoint::Unix(Text::copy_of(alloc, "/tmp/spf_client_tests-nobody.sock")?);
     let refused = WorkloadApiClient::connect(&rt, alloc, endpoint).err();
     let is_named = match &refused {
         Some(WorkloadApiError::Transport(TransportError::Connect(e))) => {
             let text = format!(in alloc; "{e}")?;
-            text.as_str().contains("/tmp/spf_tests-nobody.sock")
+            text.as_str().contains("/tmp/spf_client_tests-nobody.sock")
         }
         _ => false,
     };

@@ -1,7 +1,7 @@
 //! The headers of a request, and the one that each request of the Workload API carries.
 
 ghost use Rattle.spf_link.specs.Interceptor.{IsIntercepted};
-ghost use Rattle.spf_tests.specs.Interceptors.{set_to_false_in};
+ghost use Rattle.spf_client_tests.specs.Interceptors.{set_to_false_in};
 
 use spf_api::{GrpcStatusCode, GrpcStatusError, TransportError, WorkloadApiError};
 use spf_io::Text;

@@ -1,13 +1,13 @@
 //! Payloads: what they lay out, and what is written of it.
 
 use super::rules::both;
-use crate::responses::first_item;
 use spf_api::{
     Claim, ClaimValue, ContextView, Response, ResponseKind, ValidationResponse, context_from,
     context_from_view, context_from_view_sharing, read_context_view, read_payload, write_payload,
 };
 use spf_fixtures::octets;
 use spf_io::{List, OutOfMemory, Text};
+use spf_responses::first_item;
 use std::alloc::Global;
 use std::test::Fail;
 

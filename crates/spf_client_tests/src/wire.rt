@@ -1,10 +1,10 @@
 //! The wire over memory.
 
-use crate::responses::first_item;
 use spf_api::{LinkFault, Response};
 use spf_fixtures::octets;
 use spf_io::{MemSink, MemSource, Text};
 use spf_link::{Headers, Link, Request};
+use spf_responses::first_item;
 use spf_wire::WireLink;
 use std::alloc::Global;
 use std::test::Fail;
