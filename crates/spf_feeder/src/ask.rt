@@ -74,11 +74,7 @@ where
 }
 
 /// Asks the link for a stream of X.509 contexts, with these headers.
-fn ask_stream<L: Link>(
-    alloc: Global,
-    link: &mut L,
-    headers: &Headers,
-) -> Result<Event, OutOfMemory>
+fn ask_stream<L: Link>(alloc: Global, link: &mut L, headers: &Headers) -> Result<Event, OutOfMemory>
     requires { headers.now ≡ stream_start.headers }
     ensures { StreamAsked L.Link link.old result link.new }
 {

@@ -95,7 +95,16 @@ where
     };
     let mut feeder = Feeder::new(alloc, connector, publisher, recorder, picker, settings);
     let mut pace = Pace::new(alloc, opening.bounds);
-    match synchronise(rt, &mut feeder, &mut pace, random, clock, pause, delay, first) {
+    match synchronise(
+        rt,
+        &mut feeder,
+        &mut pace,
+        random,
+        clock,
+        pause,
+        delay,
+        first,
+    ) {
         Ok(()) => Ok((feeder, pace)),
         Err(stop) => Err(stop),
     }

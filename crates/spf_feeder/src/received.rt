@@ -5,9 +5,7 @@ ghost use Rattle.std.specs.Option.{option_map};
 ghost use Rattle.spf_feed.specs.Events.{map_item};
 ghost use Rattle.spf_feed.specs.Items.{IsReceived, context_in};
 
-use spf_api::{
-    ClientFault, ContextResponse, GrpcStatusError, WorkloadApiError, context_from,
-};
+use spf_api::{ClientFault, ContextResponse, GrpcStatusError, WorkloadApiError, context_from};
 use spf_feed::{Event, Received};
 use spf_io::{OutOfMemory, Text};
 use spf_x509::X509Context;
@@ -54,10 +52,7 @@ fn received(
 }
 
 /// The context of a response, none where it breaks a rule.
-fn context_of(
-    alloc: Global,
-    response: &ContextResponse,
-) -> Result<Option<X509Context>, OutOfMemory>
+fn context_of(alloc: Global, response: &ContextResponse) -> Result<Option<X509Context>, OutOfMemory>
     ensures { IfOk result (λ o. o ≡ context_in response.now) }
 {
     received(context_from(alloc, response))

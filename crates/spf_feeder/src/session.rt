@@ -17,8 +17,8 @@ use crate::attempt::{end_of, gave_after};
 use crate::received::received_of;
 use spf_feed::{
     Change, Event, MetricsRecord, MetricsRecorder, Phase, Publisher, Records, ResourceLimits,
-    SessionRules, Snapshot, Step, SvidPicker, Terminal, Turn, moment_after, phase_after, publish, record_all,
-    turn_of,
+    SessionRules, Snapshot, Step, SvidPicker, Terminal, Turn, moment_after, phase_after, publish,
+    record_all, turn_of,
 };
 use spf_io::OutOfMemory;
 use spf_pace::AttemptEnd;
@@ -224,11 +224,22 @@ impl<P: Publisher + Drop, M: MetricsRecorder + Drop, K: SvidPicker + Drop> Sessi
         let next = phase_after(self.phase, synced, &received);
         let end = end_of(self.alloc, next, self.gave_accepted, &received)?;
         let after = moment_after(self.moment, &received);
-        let turn = turn_of(self.rules, self.picker.as_ref(), synced, self.moment, received);
+        let turn = turn_of(
+            self.rules,
+            self.picker.as_ref(),
+            synced,
+            self.moment,
+            received,
+        );
         let is_accepted = is_accepted(&turn);
         let limits = self.rules.limits;
-        let records =
-            publish_turn(self.alloc, &mut self.publisher, &mut self.snapshot, limits, turn)?;
+        let records = publish_turn(
+            self.alloc,
+            &mut self.publisher,
+            &mut self.snapshot,
+            limits,
+            turn,
+        )?;
         self.gave_accepted = gave_after(self.gave_accepted, is_accepted, &event);
         self.events.push_reserved(event);
         self.phase = next;

@@ -39,7 +39,7 @@ where
     ensures paces { PacesOn (rules_by K.picks feeder.old.core.settings feeder.old.core.picker)
         feeder.old.core.run pace.old result feeder.new.core.run pace.new }
     ensures ended { IfErr result (StopsBy
-            (rules_by K.picks feeder.old.core.settings feeder.old.core.picker) feeder.new.core.run) }
+        (rules_by K.picks feeder.old.core.settings feeder.old.core.picker) feeder.new.core.run) }
 {
     let was_synced = feeder.is_synced();
     match feeder.ask_once()? {

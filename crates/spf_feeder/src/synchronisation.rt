@@ -82,7 +82,7 @@ where
         (rules_by K.picks feeder.old.core.settings feeder.old.core.picker) feeder.new.core.run
         pace) }
     ensures ended { IfErr result (StopsBy
-            (rules_by K.picks feeder.old.core.settings feeder.old.core.picker) feeder.new.core.run) }
+        (rules_by K.picks feeder.old.core.settings feeder.old.core.picker) feeder.new.core.run) }
 {
     if !feeder.asks_client() {
         return Ok(());
@@ -134,7 +134,7 @@ where
         (rules_by K.picks feeder.old.core.settings feeder.old.core.picker) feeder.new.core.run
         pace.new) }
     ensures ended { IfErr result (StopsBy
-            (rules_by K.picks feeder.old.core.settings feeder.old.core.picker) feeder.new.core.run) }
+        (rules_by K.picks feeder.old.core.settings feeder.old.core.picker) feeder.new.core.run) }
 {
     let mut coming = Some(first);
     'asks: for _ in rt.forever() {

@@ -15,7 +15,11 @@ fn status(alloc: Global, code: GrpcStatusCode, message: &str) -> Result<GrpcStat
 #[test]
 fn attempts_end(rt: HostRuntime) -> Result<(), Fail> {
     let alloc = rt.alloc();
-    let denied = status(alloc, GrpcStatusCode::PermissionDenied, "no identity issued")?;
+    let denied = status(
+        alloc,
+        GrpcStatusCode::PermissionDenied,
+        "no identity issued",
+    )?;
     let refused = Answer::Refused(LinkFault::Status(denied));
     let link = MemLink::new(alloc, vec![in alloc; refused]?);
     let unreachable = ClientFault::Unreachable(Text::copy_of(alloc, "no socket")?);
@@ -26,11 +30,18 @@ fn attempts_end(rt: HostRuntime) -> Result<(), Fail> {
         ready: Ready::Any,
     };
     let publisher = MemPublisher::new(alloc);
-    let mut feeder: Feeder<MemConnector, MemPublisher, NoRecorder, NoPicker> =
-        Feeder::new(alloc, connector, publisher, NoRecorder, None, rules);
-    assert_eq!(rt; feeder.turn(), Ok(Some(AttemptEnd::Client { no_identity: false })));
+    let mut feeder: Feeder<MemConnector, MemPublisher, NoRecorder, NoPicker> = Feeder::new(
+        alloc, connector, publisher, NoRecorder, None, rules,
+    );
+    assert_eq!(rt;
+        feeder.turn(),
+        Ok(Some(AttemptEnd::Client { no_identity: false }))
+    );
     assert_eq!(rt; feeder.turn(), Ok(None));
-    assert_eq!(rt; feeder.turn(), Ok(Some(AttemptEnd::Connect { no_identity: true })));
+    assert_eq!(rt;
+        feeder.turn(),
+        Ok(Some(AttemptEnd::Connect { no_identity: true }))
+    );
     assert_eq!(rt; feeder.events().len(), 3);
     let later: Result<Option<AttemptEnd>, OutOfMemory> = feeder.turn();
     assert_eq!(rt; later, Ok(Some(AttemptEnd::Client { no_identity: false })));

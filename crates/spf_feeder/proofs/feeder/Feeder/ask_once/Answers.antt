@@ -34,13 +34,14 @@ invariant_of-self g c =
     let same : rules_by g.K.SvidPicker.picks c.advance.new.self.settings c.advance.new.self.picker
     ≡ rule =
     λ i. rules_by g.K.SvidPicker.picks (c.advance.ensures.settings i) (c.advance.ensures.picker i) in
-    let ready = c.self.invariant.1 going in
-    (c.advance.ensures.published,
-    ready_of g.C.Connector g.C.Link.Link g.M.MetricsRecorder.records rule _ before _ _ _ _ _ _
-    c.phase-phase.ensures c.in-Ok.ensures c.advance.ensures.advances same ready,
-    tells_of g.C.Connector g.C.Link.Link g.M.MetricsRecorder.records rule _ before _ _ _ _ _ _ _
-    c.phase-phase.ensures c.in-Ok.ensures c.advance.ensures.advances same ready
-    (c.self.invariant.2 going))
+    let ready = c.self.invariant.1 going in (
+      c.advance.ensures.published,
+      ready_of g.C.Connector g.C.Link.Link g.M.MetricsRecorder.records rule _ before _ _ _ _ _ _
+          c.phase-phase.ensures c.in-Ok.ensures c.advance.ensures.advances same ready,
+      tells_of g.C.Connector g.C.Link.Link g.M.MetricsRecorder.records rule _ before _ _ _ _ _ _ _
+          c.phase-phase.ensures c.in-Ok.ensures c.advance.ensures.advances same ready
+          (c.self.invariant.2 going),
+    )
 
 pub returns-in-Ok-clause-ended : goal.returns-in-Ok-clause-ended
 returns-in-Ok-clause-ended g c =

@@ -35,10 +35,12 @@ invariant_of-self-in_err-record_all g c =
     _ c.self.invariant.1 (c.self.invariant.2 (search rules)) lent c.is_some-synced.ensures
     c.in_ok-received.ensures c.turn_of-turn.ensures.turn c.in_ok-records.ensures.published
     c.moment_after-after.ensures c.phase_after-next.ensures c.is_accepted-is_accepted.ensures
-    c.gave_after-self-inside.ensures c.in_ok-records.ensures.synced c.in_ok-end.ensures refl in
-    (c.self.invariant.0,
-    subst (λ run. Published (g.P.Publisher.steps c.publish_turn.new.publisher) rule run) (sym items)
-    done.published, λ f. absurd cc)
+    c.gave_after-self-inside.ensures c.in_ok-records.ensures.synced c.in_ok-end.ensures refl in (
+      c.self.invariant.0,
+      subst (λ run. Published (g.P.Publisher.steps c.publish_turn.new.publisher) rule run) (sym items)
+          done.published,
+      λ f. absurd cc,
+    )
 
 pub returns-clause-published : goal.returns-clause-published
 returns-clause-published g c =
@@ -68,10 +70,12 @@ invariant_of-self-2 g c =
     _ c.self.invariant.1 (c.self.invariant.2 (search rules)) lent c.is_some-synced.ensures
     c.in_ok-received.ensures c.turn_of-turn.ensures.turn c.in_ok-records.ensures.published
     c.moment_after-after.ensures c.phase_after-next.ensures c.is_accepted-is_accepted.ensures
-    c.gave_after-self-inside.ensures c.in_ok-records.ensures.synced c.in_ok-end.ensures c.unless.ensures in
-    (c.self.invariant.0,
-    subst (λ run. Published (g.P.Publisher.steps c.publish_turn.new.publisher) rule run) (sym items)
-    done.published, λ f. going_at rule _ _ _ _ _ _ _ items done.going)
+    c.gave_after-self-inside.ensures c.in_ok-records.ensures.synced c.in_ok-end.ensures c.unless.ensures in (
+      c.self.invariant.0,
+      subst (λ run. Published (g.P.Publisher.steps c.publish_turn.new.publisher) rule run) (sym items)
+          done.published,
+      λ f. going_at rule _ _ _ _ _ _ _ items done.going,
+    )
 
 pub returns-clause-advances : goal.returns-clause-advances
 returns-clause-advances g c =
