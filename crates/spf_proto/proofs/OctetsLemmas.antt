@@ -196,8 +196,7 @@ needs_nothing got rest octets n is number le short =
     let whole : got ≡ 0 ∷ p.a ∷ p.b ∷ p.c ∷ p.d ∷ octets = is ∙ ap (λ (l : List ℕ). 0 ∷ l) p.is in
     let all : total got ≡ 5 + n = ap total whole ∙ ap (λ k. 5 + k) (sym p.number) in
     let counted : length got ≡ length (0 ∷ p.a ∷ p.b ∷ p.c ∷ p.d ∷ octets) = ap length whole in
-    let size : length got ≡ 5 + length octets = omega (arith, counted) in
-    (
+    let size : length got ≡ 5 + length octets = omega (arith, counted) in (
       rw whole
           (message_whole p.a p.b p.c p.d octets (omega (arith, le, short, all, size, p.number))),
       omega (arith, size),

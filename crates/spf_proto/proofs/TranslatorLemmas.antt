@@ -277,15 +277,15 @@ came_translating loan left failures b t v s got view i going unended came same l
       counted = i.counted;
       at_end = λ e. let no = sym unended' ∙ e in absurd cc;
       stopped = still_going left failures b (record {
-            source = s;
-            ready = t.ready;
-            got = got;
-            allowed = t.allowed;
-            standing = t.standing;
-            ended = t.ended;
-            stop = t.stop;
-            failures = t.failures;
-          }) going' (going_on left failures b t going' i.stopped);
+        source = s;
+        ready = t.ready;
+        got = got;
+        allowed = t.allowed;
+        standing = t.standing;
+        ended = t.ended;
+        stop = t.stop;
+        failures = t.failures;
+      }) going' (going_on left failures b t going' i.stopped);
     }
 
 came_known : (l l' : Option (List ℕ)) (got got' : List ℕ) (f g : List ℕ → List ℕ)

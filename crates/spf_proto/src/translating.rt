@@ -215,9 +215,7 @@ pub(crate) fn translate<C: SvidPicker>(
         (option_map (λ p. C.picks p.now) picker.entry)) acceptance.start position octets.now
         frames.new.items result }
 {
-    match frames_of(
-        alloc, acceptance, picker, position, octets, payload, frames,
-    ) {
+    match frames_of(alloc, acceptance, picker, position, octets, payload, frames) {
         Ok(Some(position)) => Ok(position),
         Ok(None) => Err(Stop::BadMessage),
         Err(_) => Err(Stop::OutOfMemory),

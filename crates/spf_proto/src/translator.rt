@@ -12,11 +12,11 @@ ghost use Rattle.std.specs.Prelude.{◌<◌, vec_len};
 ghost use Rattle.std.specs.Option.{ForSome, option_map};
 ghost use Rattle.spf_feed.specs.Items.{rules_with};
 
+use crate::frame_end::FrameEnd;
 use crate::lent::LentSource;
+use crate::proto_error::ProtoError;
 use crate::taking::{Progress, Stop, take_message};
 use crate::translating::{Acceptance, Position, translate};
-use crate::frame_end::FrameEnd;
-use crate::proto_error::ProtoError;
 use spf_feed::{FollowError, SvidPicker};
 use spf_io::{Failed, OutOfMemory, Source};
 use std::alloc::Global;
