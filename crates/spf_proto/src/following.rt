@@ -5,7 +5,7 @@ ghost use Rattle.std.specs.Option.{ForSome, option_map};
 ghost use Rattle.spf_feed.specs.Items.{rules_with};
 ghost use Rattle.spf_proto.specs.Translated.{moment_frame};
 ghost use Rattle.spf_proto.specs.BodyErrors.{RefusedFor};
-ghost use Rattle.spf_proto.specs.Following.{is_due, OnlyThese, HasCauses};
+ghost use Rattle.spf_proto.specs.Following.{is_due, timed_out, OnlyThese, HasCauses};
 
 use crate::frame_end::FrameEnd;
 use crate::lent::LentSource;
@@ -145,6 +145,9 @@ pub fn follow_proto<S: Source, K: Sink, P: Publisher, M: MetricsRecorder, C: Svi
     ensures refused { RefusedFor max_messages (S.left source.old) result }
     // Of the errors of a session only these come.
     ensures only { OnlyThese result }
+    // Where the moment is at the deadline or past it, nothing is read.
+    ensures timeout { IsTrue (is_due deadline start) → (result ≡ timed_out)
+        × (S.left source.new ≡ S.left source.old) × (K.held sink.new ≡ K.held sink.old) }
 {
     if is_due(deadline, start) {
         return Err(ProtoError::Follow(FollowError::InitialSyncTimeout));
