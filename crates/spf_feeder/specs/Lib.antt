@@ -3,5 +3,6 @@ pub mod Attempts
 pub mod Coming
 pub mod Fed
 pub mod Kept
+pub mod Opened
 pub mod Pacing
 pub mod Times

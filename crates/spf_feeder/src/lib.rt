@@ -5,6 +5,7 @@
 mod ask;
 mod attempt;
 mod feeder;
+mod opening;
 mod pace;
 mod received;
 mod session;
@@ -14,7 +15,7 @@ mod synchronisation;
 mod tests;
 
 pub use feeder::Feeder;
+pub use opening::{Opening, open_feeder};
 pub use pace::Pace;
 pub use session::Stop;
 pub use supervisor::supervise;
-pub use synchronisation::{deadline_after, next_moment, synchronise};

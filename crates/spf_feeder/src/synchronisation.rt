@@ -23,7 +23,7 @@ use std::sync::Wait;
 use std::time::Duration;
 
 /// Asks the clock until it gives a moment, with this pause where it gives none.
-pub fn next_moment<T: Clock, W: Pause, H: Wait>(
+pub(crate) fn next_moment<T: Clock, W: Pause, H: Wait>(
     rt: &H,
     clock: &mut T,
     pause: &mut W,
@@ -42,7 +42,7 @@ pub fn next_moment<T: Clock, W: Pause, H: Wait>(
 }
 
 /// The first moment and a timeout behind it in whole seconds, rounded up. It stops at `i64::MAX`.
-pub fn deadline_after(first: i64, timeout: Duration) -> i64
+pub(crate) fn deadline_after(first: i64, timeout: Duration) -> i64
     requires { pos 0 ≤ℤ first }
     ensures { result ≡ spec.deadline_after first timeout }
 {
@@ -99,7 +99,7 @@ where
 
 /// Asks until the first item is accepted, with a moment of the clock before each attempt, the
 /// first of them `first`, and a pause after each that failed.
-pub fn synchronise<C, P, M, K, R, T, W, H>(
+pub(crate) fn synchronise<C, P, M, K, R, T, W, H>(
     rt: &H,
     feeder: &mut Feeder<C, P, M, K>,
     pace: &mut Pace,

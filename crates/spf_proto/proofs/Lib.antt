@@ -9,3 +9,4 @@ pub mod TranslatingLemmas
 pub mod ReceivedLemmas
 pub mod TranslatorLemmas
 pub mod EndLemmas
+pub mod BodyErrorLemmas

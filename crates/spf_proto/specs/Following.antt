@@ -21,6 +21,9 @@ abbrev pub is_due : Option ℤ → ℤ → Bool
 is_due None start = false
 is_due (Some deadline) start = int_le deadline start
 
+abbrev pub timed_out : Result ℕ ProtoError
+timed_out = Err (errors.Follow answers.InitialSyncTimeout)
+
 -- the results that the bytes do not fix
 abbrev pub is_free : Result ℕ ProtoError → Bool
 is_free (Err (errors.Follow answers.OutOfMemory)) = true

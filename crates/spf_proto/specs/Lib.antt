@@ -1,5 +1,6 @@
 pub mod Beginning
 pub mod Body
+pub mod BodyErrors
 pub mod Ends
 pub mod Folded
 pub mod Following

@@ -4,7 +4,8 @@ ghost use Rattle.std.specs.Prelude.{◌≡◌, ◌<◌, None, IfOk, IsTrue, int_
 ghost use Rattle.std.specs.Option.{ForSome, option_map};
 ghost use Rattle.spf_feed.specs.Items.{rules_with};
 ghost use Rattle.spf_proto.specs.Translated.{moment_frame};
-ghost use Rattle.spf_proto.specs.Following.{is_due, OnlyThese, HasCauses};
+ghost use Rattle.spf_proto.specs.BodyErrors.{RefusedFor};
+ghost use Rattle.spf_proto.specs.Following.{is_due, timed_out, OnlyThese, HasCauses};
 
 use crate::frame_end::FrameEnd;
 use crate::lent::LentSource;
@@ -88,6 +89,7 @@ fn follow_lent<N: Origin, T: LentSource, K: Sink, P: Publisher, M: MetricsRecord
     ensures cause { HasCauses N.begin.failures (T.failures result.1) (K.failures sink.old)
         (K.failures sink.new) result.0 }
     ensures only { OnlyThese result.0 }
+    ensures refused { RefusedFor N.begin.max N.begin.left result.0 }
 {
     let Ok((chunk, frames)) = buffers(alloc, seconds) else {
         return (Err(ProtoError::Follow(FollowError::OutOfMemory)), source);
@@ -138,8 +140,14 @@ pub fn follow_proto<S: Source, K: Sink, P: Publisher, M: MetricsRecorder, C: Svi
     // A failure comes only where its count rose.
     ensures cause { HasCauses (S.failures source.old) (S.failures source.new) (K.failures sink.old)
         (K.failures sink.new) result }
+    // A message is refused where the bytes are whole messages up to it, and then none; too many are
+    // refused where octets stand behind as many messages as are allowed.
+    ensures refused { RefusedFor max_messages (S.left source.old) result }
     // Of the errors of a session only these come.
     ensures only { OnlyThese result }
+    // Where the moment is at the deadline or past it, nothing is read.
+    ensures timeout { IsTrue (is_due deadline start) → (result ≡ timed_out)
+        × (S.left source.new ≡ S.left source.old) × (K.held sink.new ≡ K.held sink.old) }
 {
     if is_due(deadline, start) {
         return Err(ProtoError::Follow(FollowError::InitialSyncTimeout));

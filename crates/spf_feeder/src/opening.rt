@@ -1,0 +1,111 @@
+//! How a feeder is opened: by its initial synchronisation.
+
+ghost use Rattle.std.specs.Prelude.{◌≡◌, ◌≤ℤ◌, pos, [], false, true, IfErr, IfOk, IfSome, reverse};
+ghost use Rattle.std.specs.Option.{ForSome, option_map};
+ghost use Rattle.spf_view.specs.Views.{has_synced};
+ghost use Rattle.spf_feed.specs.Items.{subject};
+ghost use Rattle.spf_feeder.specs.Kept.{rules_by};
+ghost use Rattle.spf_feeder.specs.Opened.{HasDeadline, StopsOpening};
+ghost use Rattle.spf_feeder.specs.Pacing.{KeepsPace};
+ghost use Rattle.spf_feeder.specs.Times.{deadline_after as deadline_from};
+
+use crate::feeder::Feeder;
+use crate::pace::Pace;
+use crate::session::Stop;
+use crate::synchronisation::{deadline_after, next_moment, synchronise};
+use rand_core::Rng;
+use spf_feed::{MetricsRecorder, Publisher, Ready, ResourceLimits, SessionRules, SvidPicker};
+use spf_link::Connector;
+use spf_pace::ReconnectConfig;
+use spf_system::{Clock, Pause};
+use std::alloc::Global;
+use std::sync::Wait;
+use std::time::Duration;
+
+/// What a feeder is opened with.
+#[derive(Clone, Copy)]
+pub struct Opening {
+    pub limits: ResourceLimits,
+    pub ready: Ready,
+    pub bounds: ReconnectConfig,
+    /// How long the initial synchronisation may take.
+    pub timeout: Option<Duration>,
+}
+
+/// The deadline behind the first moment.
+fn deadline_of(first: i64, timeout: Option<Duration>) -> Option<i64>
+    requires { pos 0 ≤ℤ first }
+    ensures { result ≡ option_map (deadline_from first) timeout }
+{
+    match timeout {
+        Some(timeout) => Some(deadline_after(first, timeout)),
+        None => None,
+    }
+}
+
+/// A feeder whose first item was accepted, and its pace. It takes a moment from the clock, from
+/// which the deadline counts, and synchronises.
+pub fn open_feeder<C, P, M, K, R, T, W, H>(
+    rt: &H,
+    alloc: Global,
+    connector: C,
+    publisher: P,
+    recorder: M,
+    picker: Option<K>,
+    opening: Opening,
+    random: &mut R,
+    clock: &mut T,
+    pause: &mut W,
+) -> Result<(Feeder<C, P, M, K>, Pace), Stop>
+where
+    C: Connector + Drop,
+    C::Link: Drop,
+    P: Publisher + Drop,
+    M: MetricsRecorder + Drop,
+    K: SvidPicker + Drop,
+    R: Rng,
+    T: Clock,
+    W: Pause,
+    H: Wait,
+    requires picker { ForSome picker K.can_pick }
+    requires unused { IfSome (P.steps publisher) (λ steps. steps ≡ []) }
+    ensures first { IfOk result (λ r. r.0.first ≡ connector) }
+    ensures picker { IfOk result (λ r. r.0.core.picker ≡ picker) }
+    ensures limits { IfOk result (λ r. r.0.core.settings.limits ≡ opening.limits) }
+    ensures ready { IfOk result (λ r. r.0.core.settings.ready ≡ opening.ready) }
+    ensures deadline { IfOk result (λ r. HasDeadline opening.timeout r.0.core.settings.deadline) }
+    ensures going { IfOk result (λ r. r.0.core.stuck ≡ false) }
+    ensures synced { IfOk result (λ r. has_synced
+        (subject (rules_by K.picks r.0.core.settings r.0.core.picker)) (reverse r.0.core.run)
+        ≡ true) }
+    ensures bounds { IfOk result (λ r. r.1.bounds ≡ opening.bounds) }
+    ensures paces { IfOk result (λ r. KeepsPace
+        (rules_by K.picks r.0.core.settings r.0.core.picker) r.0.core.run r.1) }
+
+    // A terminal event was told before anything was accepted.
+    ensures ended { IfErr result (StopsOpening K.picks opening.limits opening.timeout opening.ready
+        picker) }
+{
+    let delay = opening.bounds.normalize().min_backoff;
+    let first = next_moment(rt, clock, pause, delay);
+    let settings = SessionRules {
+        limits: opening.limits,
+        deadline: deadline_of(first, opening.timeout),
+        ready: opening.ready,
+    };
+    let mut feeder = Feeder::new(alloc, connector, publisher, recorder, picker, settings);
+    let mut pace = Pace::new(alloc, opening.bounds);
+    match synchronise(
+        rt,
+        &mut feeder,
+        &mut pace,
+        random,
+        clock,
+        pause,
+        delay,
+        first,
+    ) {
+        Ok(()) => Ok((feeder, pace)),
+        Err(stop) => Err(stop),
+    }
+}
