@@ -15,6 +15,7 @@ use Rattle.spf_io.specs.declared.memory.OutOfMemory.{OutOfMemory}
 use Rattle.spf_board.specs.Passes.{Passed, Peeks, Renews, Rose}
 use Rattle.spf_x509_board.specs.Steps.{Legal, Replays, is_usable}
 use Rattle.spf_x509_board.specs.States.{IsStateOf}
+use Rattle.spiffe.specs.Sources.{Source, Updates}
 
 -- the bundles of a set, by the names of their trust domains
 abbrev pub Bundles : Type 0
@@ -75,6 +76,16 @@ BundleAnswer view domain (Err (errors.Withdrawn reason)) = reason_of view ≡ So
 BundleAnswer view domain (Err errors.OutOfMemory) = Unit {0}
 BundleAnswer view domain (Err _) = ⊥
 
+-- the bundle of a trust domain, and none where there is no bundle or nothing is held
+abbrev pub TriesBundle : List ℕ → Passed PlainStep → Passed PlainStep
+    → Result (Option (Arc Bundle Global)) OutOfMemory → Type 0
+TriesBundle domain old new (Ok (Some bundle)) =
+    Gets (λ view. BundleAnswer view domain) old new (Ok (Some bundle))
+TriesBundle domain old new (Ok None) = Gets (λ view. BundleAnswer view domain) old new (Ok None)
+    ⊎ ((e : X509SourceError) × (e ≢ errors.OutOfMemory)
+    × Gets (λ view. BundleAnswer view domain) old new (Err e))
+TriesBundle domain old new (Err e) = Unit {0}
+
 -- Whether a source is healthy: where it is closed it is not, and nothing is read; otherwise its
 -- choice is usable in what is published, which the pass does not keep.
 abbrev pub IsHealthy : Option ℤ → Passed PlainStep → Passed PlainStep → Bool → Type 0
@@ -88,3 +99,21 @@ HasPlaceCause before now (Ok p) = before ≤ now
 HasPlaceCause before now (Err errors.NoPlace) = (before ≤ now) × Rose before now
 HasPlaceCause before now (Err errors.OutOfMemory) = before ≤ now
 HasPlaceCause before now (Err _) = ⊥
+
+-- the revision of the state that a pass has read
+abbrev pub IsRevision : Passed PlainStep → ℕ → Type 0
+IsRevision pass revision =
+    (state : StateView) × IsStateOf pass.seen state.closed state × (revision ≡ state.revision)
+
+-- Updates of a source: their pass is of its board and has seen at least what the giver has seen,
+-- and the revision of what it has read is marked as seen.
+pub record Follows (source : Source) (giver : Passed PlainStep) (updates : Updates) : Type 0 where
+  pub cell : updates.cell ≡ source.cell
+  pub board : updates.pass.book ≡ source.board
+  pub seen : IsPrefix giver.seen updates.pass.seen
+  pub marked : IsRevision updates.pass updates.marked
+
+-- what a source gives to a pass that has read a state
+abbrev pub OfState : Passed PlainStep → (View Material Denial → Type 0) → Type 0
+OfState pass holds =
+    (state : StateView) × IsStateOf pass.seen state.closed state × holds state.view

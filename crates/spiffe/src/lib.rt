@@ -4,5 +4,9 @@
 
 mod closing;
 mod source;
+#[cfg(test)]
+mod tests;
+mod updates;
 
 pub use source::X509Source;
+pub use updates::X509SourceUpdates;

@@ -7,14 +7,16 @@ ghost use Rattle.spf_board.specs.Passes.{Renews};
 ghost use Rattle.spf_x509_board.specs.Steps.{Legal};
 ghost use Rattle.spf_x509_board.specs.States.{IsStateOf};
 ghost use Rattle.spiffe.specs.Reads.{BundleAnswer, BundlesAnswer, Gets, IsHealthy, SeesNoLess};
-ghost use Rattle.spiffe.specs.Reads.{Tries, HasPlaceCause};
+ghost use Rattle.spiffe.specs.Reads.{Follows, HasPlaceCause, Tries, TriesBundle};
 
 use crate::closing::{Closing, LastHandle, check_open};
-use spf_close::Watch;
+use crate::updates::X509SourceUpdates;
+use spf_close::{Closer, Watch};
 use spf_feed::{X509SourceError, X509SourceState};
 use spf_id::TrustDomain;
 use spf_io::OutOfMemory;
-use spf_x509::{X509Bundle, X509BundleSet, X509Context, X509Svid};
+use spf_system::StopFlag;
+use spf_x509::{BundleSource, SvidSource, X509Bundle, X509BundleSet, X509Context, X509Svid};
 use spf_x509_board::{Front, Pass, PlaceFault, Places, X509};
 use std::alloc::Global;
 use std::fmt;
@@ -50,6 +52,27 @@ impl fmt::Debug for X509Source {
 }
 
 impl X509Source {
+    /// A handle of the board of a front, and of the cell that its closer closes.
+    pub(crate) fn new(
+        alloc: Global,
+        front: Front<X509>,
+        mut closer: Closer,
+        stop: StopFlag,
+    ) -> Result<X509Source, OutOfMemory>
+        requires { closer.maker ≡ makers.Caller }
+        ensures { IfOk result (λ s. (s.board ≡ front.book) × (s.cell ≡ closer.cell)) }
+    {
+        let watch = closer.watch()?;
+        let last = Closing::new(closer.another(alloc)?, stop.try_clone()?);
+        Ok(X509Source {
+            front,
+            watch,
+            closing: Closing::new(closer, stop),
+            last: Arc::new(alloc, LastHandle::new(last))?,
+            alloc,
+        })
+    }
+
     /// The state that is published now, read through the pass.
     pub fn state(&self, pass: &mut Pass) -> Result<X509SourceState, OutOfMemory>
         requires { pass.old.book ≡ self.now.board }
@@ -94,7 +117,7 @@ impl X509Source {
     }
 
     /// A share of the bundle of the trust domain in the held context. Closed comes first.
-    pub fn bundle_for_trust_domain(
+    fn bundle_of(
         &self,
         pass: &mut Pass,
         trust_domain: &TrustDomain,
@@ -119,6 +142,23 @@ impl X509Source {
     {
         match self.svid(pass, now) {
             Ok(svid) => Ok(Some(svid)),
+            Err(X509SourceError::OutOfMemory) => Err(OutOfMemory),
+            Err(_) => Ok(None),
+        }
+    }
+
+    /// The bundle of the trust domain in the held context, None where there is none.
+    pub fn try_bundle_for_trust_domain(
+        &self,
+        pass: &mut Pass,
+        trust_domain: &TrustDomain,
+    ) -> Result<Option<Arc<X509Bundle>>, OutOfMemory>
+        requires { pass.old.book ≡ self.now.board }
+        ensures tries { TriesBundle trust_domain.now pass.old pass.new result }
+        ensures pass { SeesNoLess pass.old pass.new }
+    {
+        match self.bundle_of(pass, trust_domain) {
+            Ok(bundle) => Ok(bundle),
             Err(X509SourceError::OutOfMemory) => Err(OutOfMemory),
             Err(_) => Ok(None),
         }
@@ -155,6 +195,24 @@ impl X509Source {
         }
     }
 
+    /// Updates of the source, with a pass that has seen what the giver has seen. What is published
+    /// now is read, and its revision is marked as seen.
+    pub fn updated<H: Places>(
+        &self,
+        giver: &mut Pass,
+        places: &mut H,
+    ) -> Result<X509SourceUpdates, X509SourceError>
+        requires { giver.old.book ≡ self.now.board }
+        ensures giver { giver.new ≡ giver.old }
+        ensures updates { IfOk result (Follows self.now giver.old) }
+        ensures cause { HasPlaceCause (H.refusals places.old) (H.refusals places.new) result }
+    {
+        let pass = self.another_pass(giver, places)?;
+        let mut updates = X509SourceUpdates::new(self.watch.try_clone()?, pass);
+        updates.state()?;
+        Ok(updates)
+    }
+
     /// Closes the source, and with it ends its supervisor.
     pub fn shutdown(&mut self)
         ensures { self.new ≡ self.old }
@@ -174,5 +232,55 @@ impl X509Source {
             last: Arc::try_clone(&self.last)?,
             alloc: self.alloc,
         })
+    }
+}
+
+impl BundleSource for X509Source {
+    type Item = X509Bundle;
+
+    type Error = X509SourceError;
+
+    type Seen = Pass;
+
+    ghost use Rattle.std.specs.Prelude.{◌≡◌, IfSome};
+    ghost use Rattle.std.specs.Option.{option_and_then};
+    ghost use Rattle.spf_x509.specs.Bundle.{find_entry};
+    ghost use Rattle.spf_feed.specs.Steps.{held_in};
+    ghost use Rattle.spiffe.specs.Reads.{OfState};
+
+    ghost fits = { λ source pass. pass.book ≡ source.board };
+
+    ghost answers = { λ _ pass domain bundle. OfState pass (λ view.
+        option_and_then (λ m. find_entry domain m.context.bundles) (held_in view) ≡ bundle) };
+
+    fn bundle_for_trust_domain(
+        &self,
+        seen: &mut Pass,
+        trust_domain: &TrustDomain,
+    ) -> Result<Option<Arc<X509Bundle>>, X509SourceError> {
+        self.bundle_of(seen, trust_domain)
+    }
+}
+
+impl SvidSource for X509Source {
+    type Item = X509Svid;
+
+    type Error = X509SourceError;
+
+    type Seen = Pass;
+
+    ghost use Rattle.std.specs.Prelude.{◌≡◌, Some};
+    ghost use Rattle.std.specs.Option.{option_and_then};
+    ghost use Rattle.spf_feed.specs.Pick.{usable};
+    ghost use Rattle.spf_feed.specs.Steps.{chosen_of, held_in};
+    ghost use Rattle.spiffe.specs.Reads.{OfState};
+
+    ghost fits = { λ source pass. pass.book ≡ source.board };
+
+    ghost answers = { λ _ pass now svid. OfState pass (λ view.
+        usable (option_and_then chosen_of (held_in view)) now ≡ Some svid) };
+
+    fn svid(&self, seen: &mut Pass, now: Option<i64>) -> Result<Arc<X509Svid>, X509SourceError> {
+        X509Source::svid(self, seen, now)
     }
 }
