@@ -1,10 +1,12 @@
 -- What a connector of endpoints validates.
-use Rattle.std.specs.Prelude.{◌≡◌, Result, Ok, Err}
+use Rattle.std.specs.Prelude.{◌≡◌, ℕ, List, codes, Option, None, Some, Result, Ok, Err}
 use Rattle.spf_api.specs.declared.endpoint_error.EndpointError.{EndpointError}
 use Rattle.spf_api.specs.declared.link.ClientFault.{ClientFault}
 use Rattle.spf_api.specs.declared.link.ClientFault.TheVariants as fault
 use Rattle.spf_endpoint.specs.declared.endpoint.Endpoint.{Endpoint}
 use Rattle.spf_endpoint.specs.Endpoint.{endpoint_rule}
+use Rattle.spf_endpoint.specs.Environment.{value_rule}
+use Rattle.spf_system.specs.declared.environment.EnvValue.{EnvValue}
 use Rattle.spf_wire.specs.declared.endpoint_connector.Target.{Target}
 use Rattle.spf_wire.specs.declared.endpoint_connector.Target.TheVariants as target
 
@@ -27,12 +29,20 @@ abbrev pub IsNoStatus : ClientFault → Type 0
 IsNoStatus (fault.Status s) = ⊥
 IsNoStatus _ = Unit {0}
 
-abbrev pub IsOwnFault : Result (Unit {0}) EndpointError → ClientFault → Type 0
+abbrev pub IsOwnFault : {E : Type 0} → Result (Unit {0}) E → ClientFault → Type 0
 IsOwnFault (Ok _) f = Unit {0}
 IsOwnFault (Err e) f = IsNoStatus f
 
 -- nobody is reached by a text that breaks a rule
-abbrev pub IsUnreached : {L : Type 0} → Result (Unit {0}) EndpointError → Result L ClientFault
-    → Type 0
+abbrev pub IsUnreached : {E L : Type 0} → Result (Unit {0}) E → Result L ClientFault → Type 0
 IsUnreached rule (Ok link) = rule ≡ Ok tt
 IsUnreached rule (Err f) = IsOwnFault rule f
+
+-- the variable that names the endpoint of the Workload API
+abbrev pub endpoint_variable : List ℕ
+endpoint_variable = codes "SPIFFE_ENDPOINT_SOCKET"
+
+-- nobody is reached where the value of the variable, where it is known, names no endpoint
+abbrev pub ReachesNamed : {L : Type 0} → Option EnvValue → Result L ClientFault → Type 0
+ReachesNamed None result = Unit {0}
+ReachesNamed (Some value) result = IsUnreached (kept (value_rule value)) result

@@ -2,6 +2,7 @@
 
 ghost use Rattle.std.specs.Prelude.{◌≡◌, Ok};
 ghost use Rattle.spf_link.specs.Connecting.{HasClientCause};
+ghost use Rattle.spf_wire.specs.Endpoints.{IsNoStatus, ReachesNamed, endpoint_variable};
 
 use crate::endpoint_connector::refusals_after;
 use crate::socket_link::{SocketLink, connect_endpoint};
@@ -25,7 +26,9 @@ pub struct EnvConnector<R, E> {
 }
 
 /// The text of why the environment names no endpoint.
-fn unnamed(alloc: Global, e: &WorkloadApiError) -> ClientFault {
+fn unnamed(alloc: Global, e: &WorkloadApiError) -> ClientFault
+    ensures { IsNoStatus result }
+{
     if let WorkloadApiError::OutOfMemory = e {
         return ClientFault::OutOfMemory;
     }
@@ -36,7 +39,11 @@ fn unnamed(alloc: Global, e: &WorkloadApiError) -> ClientFault {
 }
 
 impl<R: Net<Stream = TcpStream> + Drop, E: Environment + Drop> EnvConnector<R, E> {
-    pub fn new(net: R, alloc: Global, environment: E) -> EnvConnector<R, E> {
+    /// A connector that has not refused yet.
+    pub fn new(net: R, alloc: Global, environment: E) -> EnvConnector<R, E>
+        ensures environment { result.environment ≡ environment }
+        ensures refused { result.refused ≡ 0 }
+    {
         EnvConnector {
             net,
             alloc,
@@ -46,7 +53,9 @@ impl<R: Net<Stream = TcpStream> + Drop, E: Environment + Drop> EnvConnector<R, E
         }
     }
 
-    fn reach(&self) -> Result<SocketLink, ClientFault> {
+    fn reach(&self) -> Result<SocketLink, ClientFault>
+        ensures { ReachesNamed (E.value self.now.environment endpoint_variable) result }
+    {
         match from_env(self.alloc, &self.environment) {
             Ok(endpoint) => connect_endpoint(&self.net, self.alloc, &endpoint, &self.stop),
             Err(e) => Err(unnamed(self.alloc, &e)),
@@ -56,6 +65,7 @@ impl<R: Net<Stream = TcpStream> + Drop, E: Environment + Drop> EnvConnector<R, E
 
 impl<R: Net<Stream = TcpStream> + Drop, E: Environment + Drop> Connector for EnvConnector<R, E> {
     ghost use Rattle.std.specs.Prelude.{None, Ok};
+    ghost use Rattle.spf_wire.specs.Endpoints.{ReachesNamed, endpoint_variable};
 
     type Link = SocketLink;
 
@@ -64,6 +74,9 @@ impl<R: Net<Stream = TcpStream> + Drop, E: Environment + Drop> Connector for Env
     ghost validates = { λ _. Ok tt };
 
     ghost members = { λ _. None };
+
+    ghost connect_gives = { λ old result new.
+        ReachesNamed (E.value old.environment endpoint_variable) result };
 
     fn validate(&mut self) -> Result<(), EndpointError> {
         Ok(())
