@@ -169,7 +169,7 @@ certificate_is bytes parts n all is =
     subst (λ (y : Parts × ℕ). Read bytes y.0 y.1)
     (ok_is (read_of bytes k c.0) (parts, n) (done (read_of bytes k c.0)) refl c.2) read
 
--- it is the first so many octets
+-- the certificate is the first `n` octets
 pub certificate_found : (bytes : List ℕ) (parts : Parts) (n : ℕ) → IsBytes bytes
     → (certificate_rule bytes ≡ Ok (parts, n))
     ↔ ((n ≤ length bytes) × CertText (take n bytes) parts)

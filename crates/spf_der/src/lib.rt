@@ -27,4 +27,4 @@ pub use extensions::{
 };
 pub use key::read_key;
 pub use scan::{CertScan, scan_certificate};
-pub use writer::{CertSpec, write_certificate, write_key};
+pub use writer::{CertSpec, write_certificate, write_key, write_time};

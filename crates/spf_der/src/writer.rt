@@ -347,7 +347,7 @@ fn generalized_octets(alloc: Global, date: &Date, second: u64) -> Result<Vec<u8>
 
 /// The Time of a Unix second from 1970 to 9999: a UTCTime
 /// for years up to 2049, a GeneralizedTime after.
-fn time_value(alloc: Global, moment: i64) -> Result<Vec<u8>, OutOfMemory>
+pub fn write_time(alloc: Global, moment: i64) -> Result<Vec<u8>, OutOfMemory>
     ensures text { IsWritable moment → IfOk result (λ v. v.items ≡ expiry_text moment) }
     ensures means { IsWritable moment → IfOk result (λ v. IsTimeText moment v.items) }
 {
@@ -387,7 +387,7 @@ pub fn write_certificate(alloc: Global, spec: &CertSpec) -> Result<Vec<u8>, OutO
     ensures means { IsWritable spec.now.expiry
         → IfOk result (λ v. IsCertificateOf spec.now v.items) }
 {
-    let time = time_value(alloc, spec.expiry)?;
+    let time = write_time(alloc, spec.expiry)?;
     signed(alloc, spec, time.as_slice())
 }
 

@@ -1,11 +1,13 @@
 -- What reading the three files tells.
-use Rattle.std.specs.Prelude.{◌≡◌, ◌≢◌, ℕ, ◌≤◌, Bool, true, false, Option, Some, None, Result, Ok, Err}
+use Rattle.std.specs.Prelude.{◌≡◌, ◌≢◌, ℕ, ◌≤◌, Bool, true, false, Option, Some, None, Result, Ok}
+use Rattle.std.specs.Prelude.{Err}
 use Rattle.std.specs.Prelude.{IsErrOf, MatchResult}
 use Rattle.std.specs.Option.{option_map_or}
 use Rattle.spf_io.specs.Outside.{Rose}
 use Rattle.spf_disk.specs.declared.generation.Entry.{Entry}
 use Rattle.spf_disk.specs.declared.open_error.OpenError.{OpenError}
-use Rattle.spf_disk.specs.declared.open_error.OpenError.TheVariants.{DiskFault, Damaged, OutOfMemory}
+use Rattle.spf_disk.specs.declared.open_error.OpenError.TheVariants.{DiskFault, Damaged}
+use Rattle.spf_disk.specs.declared.open_error.OpenError.TheVariants.{OutOfMemory}
 use Rattle.spf_disk.specs.declared.scanning.Scanned.{Scanned}
 use Rattle.spf_disk.specs.declared.slot.Slot.{Slot}
 use Rattle.spf_disk.specs.declared.slot.Slot.TheVariants as slot

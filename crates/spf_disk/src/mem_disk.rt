@@ -1,6 +1,7 @@
 //! A disk in memory, which can be crashed.
 
-ghost use Rattle.std.specs.Prelude.{◌≡◌, ◌++◌, ◌∷◌, ◌+◌, ◌≤◌, ℕ, [], IfOk, IsOk, OnOk, OnErr, length, drop};
+ghost use Rattle.std.specs.Prelude.{◌≡◌, ◌++◌, ◌∷◌, ◌+◌, ◌≤◌, ℕ, [], IfOk, IsOk, OnOk, OnErr};
+ghost use Rattle.std.specs.Prelude.{length, drop};
 ghost use Rattle.spf_io.specs.Outside.{HasCause};
 ghost use Rattle.spf_disk.specs.Crash.{Only, Elapses, NoMore, IsSynced, TornByWrite, TornByCut};
 ghost use Rattle.spf_disk.specs.Image.{Image, IsRead, OnFile, Written, Kept, bytes_of};

@@ -163,7 +163,8 @@ pub read_nothing : (rules : Rules) (past : List Event) (phase : Phase) (allowed 
     → IsRead phase allowed old new (record { kind = kind; payload = payload }) → slice ≡ payload
     → None ≡ event_at item_at kind slice → IsEventUnread rules past allowed old new errors.BadFrame
 read_nothing rules past phase allowed old new kind payload slice asks read same is =
-    let none : event_at item_at kind payload ≡ None = sym (is ∙ ap (event_at item_at kind) same) in (
+    let none : event_at item_at kind payload ≡ None =
+    sym (is ∙ ap (event_at item_at kind) same) in (
       read.leave,
       (
         raw_text kind payload,

@@ -38,7 +38,8 @@ use Rattle.spf_feed.proofs.TurnLemmas.{asked-map_item}
 use Rattle.spf_feeder.specs.Attempts.{attempt_end, end_with, gave_accepted, gave_with, is_accepted}
 use Rattle.spf_feeder.specs.declared.session.Stop.{Stop}
 use Rattle.spf_feeder.specs.declared.session.Stop.TheVariants as stops
-use Rattle.spf_feeder.specs.Kept.{Advanced, Advances, Core, Going, Published, PublishesTurn, StepAppended}
+use Rattle.spf_feeder.specs.Kept.{Advanced, Advances, Core, Going, Published, PublishesTurn}
+use Rattle.spf_feeder.specs.Kept.{StepAppended}
 use Rattle.spf_feeder.specs.Kept.{WentBy, accepts}
 
 -- ---- the step and the records of a turn

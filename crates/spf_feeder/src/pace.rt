@@ -1,6 +1,7 @@
 //! The pauses of a feeder, one after each attempt that ended, with all that they follow from.
 
-ghost use Rattle.std.specs.Prelude.{◌≡◌, ◌++◌, ◌∷◌, [], true, None, Some, List, OnErr, OnOk, reverse};
+ghost use Rattle.std.specs.Prelude.{◌≡◌, ◌++◌, ◌∷◌, [], true, None, Some, List, OnErr, OnOk};
+ghost use Rattle.std.specs.Prelude.{reverse};
 ghost use Rattle.spf_feed.specs.Items.{Event, Rules};
 ghost use Rattle.spf_feeder.specs.Attempts.{attempt_end};
 ghost use Rattle.spf_feeder.specs.Pacing.{KeepsPace, opens};

@@ -1,6 +1,8 @@
 -- The files before and after a step is kept.
-use Rattle.std.proofs.Common.{◌≡◌, ℕ, ◌+◌, ◌^◌, ◌<◌, ◌≤◌, Bool, true, false, List, [], ◌∷◌, ◌++◌, length, Option}
-use Rattle.std.proofs.Common.{Some, None, Ok, refl, sym, ◌∙◌, ap, subst, arith, length-append, inl, inr}
+use Rattle.std.proofs.Common.{◌≡◌, ℕ, ◌+◌, ◌^◌, ◌<◌, ◌≤◌, Bool, true, false, List, [], ◌∷◌, ◌++◌}
+use Rattle.std.proofs.Common.{length, Option}
+use Rattle.std.proofs.Common.{Some, None, Ok, refl, sym, ◌∙◌, ap, subst, arith, length-append, inl}
+use Rattle.std.proofs.Common.{inr}
 use Rattle.std.proofs.Common.{⊎_elim, Result, ◌⊎◌}
 use Rattle.std.proofs.Common.{◌||◌}
 use Rattle.std.specs.Bool.{OnFalse, MatchBool}
@@ -19,7 +21,8 @@ use Rattle.spf_disk.specs.Replacing.{IsNewer, IsReplaced, IsPassed, HasRoom}
 use Rattle.spf_disk.specs.Replacing.{IsBeforeOrAfter as IsOldOrNew}
 use Rattle.spf_disk.specs.Scanning.{IsNext, held_as}
 use Rattle.spf_disk.specs.Slots.{other_slot, gate_of, gate_number}
-use Rattle.spf_disk.specs.Standing.{Standing, Closed, Broken, Holds, standing, number_of, latest, found}
+use Rattle.spf_disk.specs.Standing.{Standing, Closed, Broken, Holds, standing, number_of, latest}
+use Rattle.spf_disk.specs.Standing.{found}
 use Rattle.spf_disk.specs.Standing.{found_in, is_open, generation_in}
 use Rattle.spf_helper.specs.Generations.{entry_for, entry_after, last_step, generation_after}
 use Rattle.spf_helper.specs.Helping.{IsReady, IsUpTo, IsBeforeOrAfter}

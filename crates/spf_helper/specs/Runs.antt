@@ -1,7 +1,8 @@
 -- Following a session over a disk.
 use Rattle.std.specs.Prelude.{◌≡◌, ℕ, List, [], Option, None, Some, Result, Ok, Err}
 use Rattle.spf_disk.specs.declared.open_error.OpenError.{OpenError}
-use Rattle.spf_disk.specs.declared.open_error.OpenError.TheVariants.{DiskFault, Damaged, OutOfMemory}
+use Rattle.spf_disk.specs.declared.open_error.OpenError.TheVariants.{DiskFault, Damaged}
+use Rattle.spf_disk.specs.declared.open_error.OpenError.TheVariants.{OutOfMemory}
 use Rattle.spf_disk.specs.Image.{Image}
 use Rattle.spf_disk.specs.Standing.{latest}
 use Rattle.spf_view.specs.Sessions.{Followed}

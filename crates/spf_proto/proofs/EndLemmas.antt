@@ -1,5 +1,6 @@
 -- How following a body ends, and what failed.
-use Rattle.std.proofs.Common.{◌≡◌, ◌≤◌, ◌∙◌, ℕ, Option, Some, None, List, Result, Ok, Err, refl, sym}
+use Rattle.std.proofs.Common.{◌≡◌, ◌≤◌, ◌∙◌, ℕ, Option, Some, None, List, Result, Ok, Err, refl}
+use Rattle.std.proofs.Common.{sym}
 use Rattle.std.proofs.Common.{inl, inr}
 use Rattle.spf_io.specs.Outside.{Rose}
 use Rattle.spf_feed.specs.declared.follow_error.FollowError.{FollowError}

@@ -1,5 +1,6 @@
 -- How the translation of a body ends.
-use Rattle.std.specs.Prelude.{◌≡◌, ◌⊎◌, ℕ, ◌+◌, ◌-◌, true, false, List, [], Option, Some, None, Result, Ok, Err}
+use Rattle.std.specs.Prelude.{◌≡◌, ◌⊎◌, ℕ, ◌+◌, ◌-◌, true, false, List, [], Option, Some, None}
+use Rattle.std.specs.Prelude.{Result, Ok, Err}
 use Rattle.std.specs.Io.KnownBytes.{Keeps}
 use Rattle.spf_proto.specs.declared.frame_end.FrameEnd.{FrameEnd}
 use Rattle.spf_proto.specs.declared.frame_end.FrameEnd.TheVariants as ends

@@ -1,5 +1,6 @@
 -- How a body is followed.
-use Rattle.std.specs.Prelude.{◌≡◌, ◌⊎◌, ℕ, ℤ, ◌+◌, ◌≤◌, int_le, Bool, true, false, IsTrue, ◌==◌, List, []}
+use Rattle.std.specs.Prelude.{◌≡◌, ◌⊎◌, ℕ, ℤ, ◌+◌, ◌≤◌, int_le, Bool, true, false, IsTrue, ◌==◌}
+use Rattle.std.specs.Prelude.{List, []}
 use Rattle.std.specs.Prelude.{length, Option, None, Some, IfSome, Result, Ok, Err, if◌then◌else◌}
 use Rattle.spf_io.specs.Outside.{Rose}
 use Rattle.spf_api.specs.declared.response.ContextResponse.{ContextResponse}

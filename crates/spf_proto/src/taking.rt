@@ -26,7 +26,7 @@ pub(crate) enum Stop {
     OutOfMemory,
 }
 
-/// Reads at most so many octets, no more than the chunk holds, and adds them to those that came.
+/// Reads at most `missing` octets, no more than the chunk holds, and adds them to those that came.
 fn read_some<T: LentSource>(
     source: &mut T,
     chunk: &mut [u8],

@@ -1,13 +1,15 @@
 //! A source that reads messages from another one, and gives the frames that they stand for.
 
-ghost use Rattle.std.specs.Prelude.{◌≡◌, ◌≢◌, ◌≤◌, [], None, Some, false, true, drop, IfErr, OnErr, OnOk};
+ghost use Rattle.std.specs.Prelude.{◌≡◌, ◌≢◌, ◌≤◌, [], None, Some, false, true, drop, IfErr, OnErr};
+ghost use Rattle.std.specs.Prelude.{OnOk};
 ghost use Rattle.std.specs.Prelude.{length, take};
 ghost use Rattle.std.specs.Io.KnownBytes.{IsAtEnd, Keeps};
 ghost use Rattle.spf_io.specs.Outside.{HasCause};
 ghost use Rattle.spf_proto.specs.Beginning.{Beginning};
 ghost use Rattle.spf_proto.specs.Octets.{IsWhole};
 ghost use Rattle.spf_proto.specs.Translator.{left_of, GivesReady, IsStopped, IsTranslator};
-ghost use Rattle.spf_proto.specs.Ends.{IsReasonOf, IsEndedBy, IsResultOf, begun, error_of, result_of_end};
+ghost use Rattle.spf_proto.specs.Ends.{IsReasonOf, IsEndedBy, IsResultOf, begun, error_of};
+ghost use Rattle.spf_proto.specs.Ends.{result_of_end};
 ghost use Rattle.std.specs.Prelude.{◌<◌, vec_len};
 ghost use Rattle.std.specs.Option.{ForSome, option_map};
 ghost use Rattle.spf_feed.specs.Items.{rules_with};

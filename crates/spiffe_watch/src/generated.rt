@@ -13,7 +13,7 @@ ghost use Rattle.spiffe_watch.specs.MadeSession as spec;
 use crate::arguments::MakeArguments;
 use crate::template::Template;
 use spf_api::{BundleEntry, ContextResponse, Response, SvidEntry, write_payload};
-use spf_der::{CertSpec, KeyUsageBits, write_key};
+use spf_der::{CertSpec, KeyUsageBits, write_key, write_time};
 use spf_feed::frame_kind;
 use spf_io::{Bytes, List, OutOfMemory, Text};
 use std::alloc::Global;
@@ -22,9 +22,6 @@ use std::marker::Model;
 /// When the certificates of the first item expire, in Unix
 /// seconds; each new generation expires a second later.
 const FIRST_EXPIRY: i64 = 2_000_000_000;
-
-/// The second of the day 2033-05-18 at which they expire.
-const FIRST_SECOND: u32 = 12_800;
 
 /// The offsets of notAfter in the certificates of authorities, intermediates and workloads.
 const ROOT_EXPIRY_OFFSET: usize = 33;
@@ -157,35 +154,11 @@ fn make_parts(alloc: Global) -> Result<Parts, OutOfMemory>
     })
 }
 
-fn digit(number: u32) -> u8
-    ensures { result ≡ 48 + number % 10 }
-{
-    b'0' + (number % 10) as u8
-}
-
 /// The expiry of a generation as a UTCTime; all generations expire on one day.
-fn expiry_octets(generation: u16) -> [u8; 15]
-    ensures { IsExpiry generation result }
+fn expiry_time(alloc: Global, generation: u16) -> Result<Vec<u8>, OutOfMemory>
+    ensures { IfOk result (λ v. IsExpiry generation v.items) }
 {
-    let second = FIRST_SECOND + u32::from(generation);
-    let (hour, minute, second) = (second / 3600, second / 60 % 60, second % 60);
-    [
-        0x17,
-        13,
-        b'3',
-        b'3',
-        b'0',
-        b'5',
-        b'1',
-        b'8',
-        digit(hour / 10),
-        digit(hour),
-        digit(minute / 10),
-        digit(minute),
-        digit(second / 10),
-        digit(second),
-        b'Z',
-    ]
+    write_time(alloc, FIRST_EXPIRY + i64::from(generation))
 }
 
 /// Two certificates with this notAfter, one after the other.
@@ -323,10 +296,12 @@ fn item(
 ) -> Result<ContextResponse, OutOfMemory>
     ensures { AreParts parts.now → IfOk result (λ r. r ≡ spec.item variant generation) }
 {
-    let expiry = expiry_octets(generation);
-    let svids = entries(alloc, parts, variant, &expiry)?;
+    let expiry = expiry_time(alloc, generation)?;
+    let svids = entries(alloc, parts, variant, expiry.as_slice())?;
     let mut foreign_root = Vec::new(alloc);
-    parts.foreign_root.push(&expiry, &mut foreign_root)?;
+    parts
+        .foreign_root
+        .push(expiry.as_slice(), &mut foreign_root)?;
     let entry = BundleEntry {
         name: Text::copy_of(alloc, "other.org")?,
         bundle: Bytes::new(foreign_root),

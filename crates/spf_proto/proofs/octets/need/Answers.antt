@@ -1,6 +1,7 @@
 use Rattle.std.proofs.Common.{◌≡◌, ◌≤◌, ◌<◌, ◌^◌, ◌∙◌, ℕ, [], ◌∷◌, ap, sym, length, arith, rules}
 use Rattle.std.proofs.lemmas.Bool.Decides.{nat_tests}
-use Rattle.spf_proto.proofs.OctetsLemmas.{flag_bad, is_too_long, needs_first, needs_head, needs_nothing}
+use Rattle.spf_proto.proofs.OctetsLemmas.{flag_bad, is_too_long, needs_first, needs_head}
+use Rattle.spf_proto.proofs.OctetsLemmas.{needs_nothing}
 use Rattle.spf_proto.proofs.OctetsLemmas.{needs_rest}
 use Rattle.spf_proto.proofs.octets.need.Goals as goal
 

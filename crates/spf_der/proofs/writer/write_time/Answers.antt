@@ -5,7 +5,7 @@ use Rattle.std.proofs.lemmas.Result.{IfOk-weaker}
 use Rattle.spf_der.specs.WrittenTime.{IsTimeText}
 use Rattle.spf_der.proofs.CivilDays.{expiry_early, expiry_late}
 use Rattle.spf_der.proofs.WrittenTimes.{early_time, late_time, day_fits}
-use Rattle.spf_der.proofs.writer.time_value.Goals as goal
+use Rattle.spf_der.proofs.writer.write_time.Goals as goal
 
 pub returns-then-seconds-lt-YEAR_2050-clause-means
     : goal.returns-then-seconds-lt-YEAR_2050-clause-means
