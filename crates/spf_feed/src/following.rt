@@ -181,6 +181,7 @@ pub fn publish<P: Publisher>(
         (plain step ∷ []) }
     ensures change { IfOk result (λ c. c ≡ change_of snapshot.old (plain step)) }
     ensures kept { OnOk result (snapshot.new ≡ kept_with same_material snapshot.old (plain step)) }
+    ensures target { P.target publisher.new ≡ P.target publisher.old }
 {
     if is_held(snapshot, &step) {
         publisher.publish(step)?;

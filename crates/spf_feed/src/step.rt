@@ -1,6 +1,6 @@
 //! The steps that a session publishes.
 
-ghost use Rattle.std.specs.Prelude.{◌≡◌, IfOk, IsTrue, List, Option, Some, None, [], map};
+ghost use Rattle.std.specs.Prelude.{◌≡◌, ℕ, IfOk, IsTrue, List, Option, Some, None, [], map};
 ghost use Rattle.spf_feed.specs.Records.{RecordAppends};
 ghost use Rattle.spf_feed.specs.Steps.{PlainStep, plain, MayFollow};
 
@@ -61,9 +61,13 @@ pub trait Publisher {
     // The steps so far, where the publisher says so.
     ghost steps: { Self → Option (List PlainStep) };
 
+    // What names where it publishes, such as a board. No call changes it.
+    ghost target: { Self → List ℕ } = { λ _. [] };
+
     fn publish(&mut self, step: Step) -> Result<(), OutOfMemory>
         requires { MayFollow (steps self.old) (plain step) }
-        ensures { RecordAppends (steps self.old) (steps self.new) result (plain step) };
+        ensures appends { RecordAppends (steps self.old) (steps self.new) result (plain step) }
+        ensures target { target self.new ≡ target self.old };
 }
 
 /// A publisher that keeps the steps. It may be made to refuse one call.
