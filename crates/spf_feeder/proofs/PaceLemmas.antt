@@ -284,3 +284,8 @@ pub shut_after : (rules later : Rules) (run run' : List Event) (e : Event) (now 
 shut_after rules later run run' e now same longer after f =
     still_unopened rules run e
     ((λ i. has_synced (subject (sym same i)) (reverse (sym longer i))) ∙ sym after ∙ f)
+
+-- the same rules
+pub keeps_as : (rules seen : Rules) (run : List Event) (pace : Pace) → rules ≡ seen
+    → KeepsPace rules run pace → KeepsPace seen run pace
+keeps_as rules seen run pace same keeps = subst (λ r. KeepsPace r run pace) same keeps

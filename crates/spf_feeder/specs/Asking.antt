@@ -1,6 +1,6 @@
 -- One ask of a connector or of its link, and the event that it tells.
 use Rattle.std.specs.Prelude.{◌≡◌, ℕ, List, [], ◌++◌, codes, Option, None, Some, Result, Ok, Err}
-use Rattle.std.specs.Prelude.{IfOk, IsErr, ◌⊎◌}
+use Rattle.std.specs.Prelude.{IfOk, IsErr, ◌⊎◌, Bool, true, false}
 use Rattle.std.specs.Option.{option_map}
 use Rattle.spf_api.specs.Refused.{Refused}
 use Rattle.spf_api.specs.declared.link.ClientFault.{ClientFault}
@@ -49,6 +49,11 @@ told_by_next (Ok None) = Some events.StreamEnd
 told_by_next (Ok (Some (response.Context r))) = Some (events.Item r)
 told_by_next (Ok (Some _)) = None
 told_by_next (Err f) = option_map events.ItemStatus (refused_as f)
+
+-- whether a client is asked for
+abbrev pub is_client : Phase → Bool
+is_client phases.Client = true
+is_client _ = false
 
 -- each `start` asks for X.509 contexts, with the header of the Workload API alone
 abbrev pub stream_start : Start

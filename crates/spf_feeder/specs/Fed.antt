@@ -90,10 +90,6 @@ Turns connector link records rules old (Ok end) new =
     TurnedOnce connector link records rules old end new
 Turns connector link records rules old (Err e) new = TurnedAway connector link rules old new
 
-abbrev pub is_client : Phase → Bool
-is_client phases.Client = true
-is_client _ = false
-
 -- a terminal event was told behind the run: it is no event of it
 abbrev pub StopsBy : Rules → List Event → Stop → Type 0
 StopsBy rules run (stops.Terminal end) =

@@ -4,5 +4,6 @@ pub mod Coming
 pub mod Fed
 pub mod Kept
 pub mod Opened
+pub mod Orderly
 pub mod Pacing
 pub mod Times

@@ -1,9 +1,11 @@
 -- The moments of an initial synchronisation, and its deadline.
 use Rattle.std.specs.Prelude.{◌≡◌, ℕ, ◌+◌, ◌-◌, ◌/◌, ◌^◌, min, ℤ, pos, nat_abs, List, [], ◌∷◌}
-use Rattle.std.specs.Prelude.{Option, None, Some}
+use Rattle.std.specs.Prelude.{Option, None, Some, ◌++◌}
 use Rattle.std.specs.Option.{option_map}
 use Rattle.std.specs.Duration.{as_nanos}
 use Rattle.std.specs.declared.time.Duration.{Duration}
+use Rattle.spf_feed.specs.declared.event.SessionEvent.TheVariants as events
+use Rattle.spf_feed.specs.Items.{Event}
 
 -- a clock that gives none is asked again
 abbrev pub at_moment : List (Option ℤ) → List (Option ℤ)
@@ -30,3 +32,23 @@ abbrev pub AsksOn : Option (List (Option ℤ)) → Option (List (Option ℤ)) �
 AsksOn None new = Unit {0}
 AsksOn (Some old) None = ⊥
 AsksOn (Some old) (Some new) = at_moment old ≡ at_moment new
+
+-- the moments that are there
+abbrev pub known_moments : List (Option ℤ) → List ℤ
+known_moments [] = []
+known_moments (None ∷ moments) = known_moments moments
+known_moments (Some moment ∷ moments) = moment ∷ known_moments moments
+
+-- the moments among events
+abbrev pub moments_in : List Event → List ℤ
+moments_in [] = []
+moments_in (events.Moment m ∷ run) = m ∷ moments_in run
+moments_in (_ ∷ run) = moments_in run
+
+-- What a clock gave are the moments that a run has more, in order, where the clock tells.
+abbrev pub Gives : Option (List (Option ℤ)) → Option (List (Option ℤ)) → List Event → List Event
+    → Type 0
+Gives None new before run = Unit {0}
+Gives (Some old) None before run = ⊥
+Gives (Some old) (Some new) before run = (given : List (Option ℤ)) × (old ≡ given ++ new)
+    × (moments_in run ≡ moments_in before ++ known_moments given)

@@ -6,11 +6,16 @@ ghost use Rattle.spf_view.specs.Views.{has_synced};
 ghost use Rattle.spf_feed.specs.Items.{context_in, subject};
 ghost use Rattle.spf_feed.specs.Run.{ask_of};
 ghost use Rattle.spf_feed.specs.declared.event.SessionEvent.TheVariants as events;
-ghost use Rattle.spf_feeder.specs.Fed.{StopsBy, Tells, Turns, is_client};
+ghost use Rattle.spf_feeder.specs.Fed.{StopsBy, Tells, Turns};
 ghost use Rattle.spf_feeder.specs.Kept.{Advances, Published, core_of, rules_by};
+ghost use Rattle.spf_feed.specs.Steps.{HasStep};
+ghost use Rattle.spf_feeder.specs.Asking.{is_client};
+ghost use Rattle.spf_feeder.specs.Coming.{AllTold};
+ghost use Rattle.spf_feeder.specs.Orderly.{GoesOn, IsOrderly};
+ghost use Rattle.spf_feeder.specs.Orderly as spec;
 
 use crate::ask::ask;
-use crate::session::{Session, Stop};
+use crate::session::{Session, SessionParts, Stop};
 use spf_feed::{Event, MetricsRecorder, Phase, Publisher, SessionRules, SvidPicker};
 use spf_io::OutOfMemory;
 use spf_link::{Connector, Link};
@@ -67,6 +72,13 @@ where
         (λ first. Tells C.members C.Link.answers
         (rules_by K.picks f.session.settings f.session.picker) f.session.run
         (record { connector = f.connector; link = f.link }) first)) };
+}
+
+/// Whether the last of the events is a moment.
+fn ends_with_moment(events: &[Event]) -> bool
+    ensures { result ≡ spec.ends_with_moment (reverse events.now) }
+{
+    matches!(events.last(), Some(Event::Moment(_)))
 }
 
 impl<
@@ -129,12 +141,20 @@ where
         matches!(self.session.phase(), Phase::Client)
     }
 
+    /// Whether the last event is a moment.
+    pub(crate) fn ends_with_moment(&self) -> bool
+        ensures { result ≡ spec.ends_with_moment (reverse self.now.core.run) }
+    {
+        ends_with_moment(self.session.events())
+    }
+
     /// A moment of the clock, which stands among the events. Nothing is asked.
     pub(crate) fn take_moment(&mut self, moment: i64) -> Result<Option<AttemptEnd>, Stop>
         requires going { self.old.core.stuck ≡ false }
         ensures settings { self.new.core.settings ≡ self.old.core.settings }
         ensures picker { self.new.core.picker ≡ self.old.core.picker }
         ensures first { self.new.first ≡ self.old.first }
+        ensures target { P.target self.new.core.publisher ≡ P.target self.old.core.publisher }
         ensures asked { self.new.asked ≡ self.old.asked }
         ensures ended { IfErr result (StopsBy
             (rules_by K.picks self.old.core.settings self.old.core.picker) self.new.core.run) }
@@ -150,10 +170,12 @@ where
         ensures settings { self.new.core.settings ≡ self.old.core.settings }
         ensures picker { self.new.core.picker ≡ self.old.core.picker }
         ensures first { self.new.first ≡ self.old.first }
+        ensures target { P.target self.new.core.publisher ≡ P.target self.old.core.publisher }
         ensures published { Published (P.steps self.new.core.publisher)
             (rules_by K.picks self.new.core.settings self.new.core.picker) self.new.core.run }
         ensures ended { IfErr result (StopsBy
             (rules_by K.picks self.old.core.settings self.old.core.picker) self.new.core.run) }
+        ensures goes_on { GoesOn self.old.core.run self.new.core.run }
         ensures turn { Turns C.Connector C.Link.Link M.records
             (rules_by K.picks self.old.core.settings self.old.core.picker) self.old result self.new }
     {
@@ -176,12 +198,14 @@ where
         ensures settings { self.new.core.settings ≡ self.old.core.settings }
         ensures picker { self.new.core.picker ≡ self.old.core.picker }
         ensures first { self.new.first ≡ self.old.first }
+        ensures target { P.target self.new.core.publisher ≡ P.target self.old.core.publisher }
         ensures published { Published (P.steps self.new.core.publisher)
             (rules_by K.picks self.new.core.settings self.new.core.picker) self.new.core.run }
         ensures tells { self.new.core.stuck ≡ false → IfSome (C.members self.new.first)
             (Tells C.members C.Link.answers
             (rules_by K.picks self.new.core.settings self.new.core.picker) self.new.core.run
             self.new.asked) }
+        ensures goes_on { GoesOn self.old.core.run self.new.core.run }
         ensures turn { Turns C.Connector C.Link.Link M.records
             (rules_by K.picks self.old.core.settings self.old.core.picker) self.old result self.new }
     {
@@ -191,5 +215,77 @@ where
             Ok(end) => Ok(end),
             Err(_) => Err(OutOfMemory),
         }
+    }
+
+    /// The rules of its run.
+    pub fn rules(&self) -> SessionRules
+        ensures { result ≡ self.now.core.settings }
+    {
+        self.session.rules()
+    }
+
+    /// What picks the SVID.
+    pub fn picker(&self) -> &Option<K>
+        ensures { result.now ≡ self.now.core.picker }
+    {
+        self.session.picker()
+    }
+
+    /// The same with another publisher, which has published the same steps, and the publisher
+    /// until now.
+    pub fn with_publisher<Q: Publisher + Drop>(self, publisher: Q) -> (Feeder<C, Q, M, K>, P)
+        requires published { Published (Q.steps publisher)
+            (rules_by K.picks self.core.settings self.core.picker) self.core.run }
+        requires has_step { HasStep (Q.steps publisher) }
+        ensures core { result.0.core ≡ core_of publisher self.core.recorder self.core.settings
+            self.core.picker self.core.run self.core.stuck }
+        ensures asked { result.0.asked ≡ self.asked }
+        ensures first { result.0.first ≡ self.first }
+        ensures publisher { result.1 ≡ self.core.publisher }
+    {
+        let Feeder {
+            alloc,
+            connector,
+            link,
+            session,
+            first,
+        } = self;
+        let (session, before) = session.with_publisher(publisher);
+        let feeder = Feeder {
+            alloc,
+            connector,
+            link,
+            session,
+            first,
+        };
+        (feeder, before)
+    }
+
+    /// The publisher of a feeder that asks no more.
+    pub fn into_publisher(self) -> P
+        ensures { result ≡ self.core.publisher }
+    {
+        let Feeder { session, .. } = self;
+        session.into_parts().publisher
+    }
+
+    /// What is left of a feeder that asks no more. Its connector and its link are let go.
+    pub fn into_parts(self) -> SessionParts<P, K>
+        requires going { self.core.stuck ≡ false }
+        ensures publisher { result.publisher ≡ self.core.publisher }
+        ensures events { result.events.items ≡ self.core.run }
+        ensures rules { result.rules ≡ self.core.settings }
+        ensures picker { result.picker ≡ self.core.picker }
+        ensures can_pick { ForSome self.core.picker K.can_pick }
+        ensures published { Published (P.steps self.core.publisher)
+            (rules_by K.picks self.core.settings self.core.picker) self.core.run }
+        ensures orderly { IsOrderly (rules_by K.picks self.core.settings self.core.picker)
+            (reverse self.core.run) }
+        ensures told { IfSome (C.members self.first) (λ members. AllTold
+            (rules_by K.picks self.core.settings self.core.picker) members
+            (reverse self.core.run)) }
+    {
+        let Feeder { session, .. } = self;
+        session.into_parts()
     }
 }

@@ -17,5 +17,5 @@ mod tests;
 pub use feeder::Feeder;
 pub use opening::{Opening, open_feeder};
 pub use pace::Pace;
-pub use session::Stop;
+pub use session::{SessionParts, Stop};
 pub use supervisor::supervise;

@@ -2,12 +2,14 @@
 
 ghost use Rattle.std.specs.Prelude.{◌≡◌, ◌≤ℤ◌, pos, [], false, true, IfErr, IfOk, IfSome, reverse};
 ghost use Rattle.std.specs.Option.{ForSome, option_map};
+ghost use Rattle.spf_view.specs.Steps.{steps_of};
 ghost use Rattle.spf_view.specs.Views.{has_synced};
 ghost use Rattle.spf_feed.specs.Items.{subject};
 ghost use Rattle.spf_feeder.specs.Kept.{rules_by};
 ghost use Rattle.spf_feeder.specs.Opened.{HasDeadline, StopsOpening};
+ghost use Rattle.spf_feeder.specs.Orderly.{IsOneStep, IsTimed};
 ghost use Rattle.spf_feeder.specs.Pacing.{KeepsPace};
-ghost use Rattle.spf_feeder.specs.Times.{deadline_after as deadline_from};
+ghost use Rattle.spf_feeder.specs.Times.{Gives, deadline_after as deadline_from};
 
 use crate::feeder::Feeder;
 use crate::pace::Pace;
@@ -32,7 +34,7 @@ pub struct Opening {
     pub timeout: Option<Duration>,
 }
 
-/// The deadline behind the first moment.
+/// The deadline after the first moment.
 fn deadline_of(first: i64, timeout: Option<Duration>) -> Option<i64>
     requires { pos 0 ≤ℤ first }
     ensures { result ≡ option_map (deadline_from first) timeout }
@@ -78,6 +80,14 @@ where
     ensures synced { IfOk result (λ r. has_synced
         (subject (rules_by K.picks r.0.core.settings r.0.core.picker)) (reverse r.0.core.run)
         ≡ true) }
+    ensures timed { IfOk result (λ r. IsTimed
+        (rules_by K.picks r.0.core.settings r.0.core.picker) (reverse r.0.core.run)) }
+    ensures once { IfOk result (λ r. IsOneStep (steps_of (subject
+        (rules_by K.picks r.0.core.settings r.0.core.picker)) r.0.core.run)) }
+
+    // The moments are those that the clock gave.
+    ensures clock { IfOk result (λ r. Gives (T.moments clock.old) (T.moments clock.new) []
+        r.0.core.run) }
     ensures bounds { IfOk result (λ r. r.1.bounds ≡ opening.bounds) }
     ensures paces { IfOk result (λ r. KeepsPace
         (rules_by K.picks r.0.core.settings r.0.core.picker) r.0.core.run r.1) }
@@ -94,17 +104,9 @@ where
         ready: opening.ready,
     };
     let mut feeder = Feeder::new(alloc, connector, publisher, recorder, picker, settings);
+    feeder.take_moment(first)?;
     let mut pace = Pace::new(alloc, opening.bounds);
-    match synchronise(
-        rt,
-        &mut feeder,
-        &mut pace,
-        random,
-        clock,
-        pause,
-        delay,
-        first,
-    ) {
+    match synchronise(rt, &mut feeder, &mut pace, random, clock, pause, delay) {
         Ok(()) => Ok((feeder, pace)),
         Err(stop) => Err(stop),
     }

@@ -1,7 +1,7 @@
 //! The core of a feeder: the events so far, what they published, and where they stand.
 
 ghost use Rattle.std.specs.Prelude.{◌≡◌, ◌∷◌, [], true, false, None, Some, IsTrue, IfOk, OnOk};
-ghost use Rattle.std.specs.Prelude.{IfSome, reverse, is_some, if◌then◌else◌};
+ghost use Rattle.std.specs.Prelude.{IfSome, reverse, is_some, if◌then◌else◌, ◌||◌};
 ghost use Rattle.std.specs.Arc.{arc_value};
 ghost use Rattle.std.specs.Option.{ForSome};
 ghost use Rattle.spf_view.specs.Views.{has_synced};
@@ -12,6 +12,7 @@ ghost use Rattle.spf_feed.specs.Steps.{HasStep};
 ghost use Rattle.spf_feed.specs.Turns.{MayTake, listed};
 ghost use Rattle.spf_feeder.specs.Kept.{Advances, Published, PublishesTurn, accepts, core_of};
 ghost use Rattle.spf_feeder.specs.Kept.{rules_by};
+ghost use Rattle.spf_feeder.specs.Orderly.{IsOrderly, does_answer, is_moment};
 
 use crate::attempt::{end_of, gave_after};
 use crate::received::received_of;
@@ -77,6 +78,7 @@ fn publish_turn<P: Publisher>(
     ensures synced { OnOk result (IsTrue (is_some snapshot.new) → HasStep (P.steps publisher.new)) }
     ensures published { PublishesTurn limits turn snapshot.old (P.steps publisher.old) result
         snapshot.new (P.steps publisher.new) }
+    ensures target { P.target publisher.new ≡ P.target publisher.old }
 {
     match turn {
         Turn::Terminal(terminal) => Err(Stop::Terminal(terminal)),
@@ -105,6 +107,16 @@ fn is_accepted(turn: &Turn) -> bool
     matches!(turn, Turn::Accepted { .. })
 }
 
+/// What is left of a session.
+#[derive(Drop)]
+pub struct SessionParts<P: Publisher + Drop, K: SvidPicker + Drop> {
+    pub publisher: P,
+    /// The events, oldest first.
+    pub events: Vec<Event>,
+    pub rules: SessionRules,
+    pub picker: Option<K>,
+}
+
 /// The events so far, with all that they publish and record. Once a turn was refused it takes no
 /// further event.
 #[derive(Drop)]
@@ -124,9 +136,10 @@ pub(crate) struct Session<P: Publisher + Drop, M: MetricsRecorder + Drop, K: Svi
 
 impl<P: Publisher + Drop, M: MetricsRecorder + Drop, K: SvidPicker + Drop> Model
     for Session<P, M, K> {
-    ghost use Rattle.std.specs.Prelude.{◌≡◌, false};
+    ghost use Rattle.std.specs.Prelude.{◌≡◌, false, reverse};
     ghost use Rattle.std.specs.Option.{ForSome};
     ghost use Rattle.spf_feeder.specs.Kept.{Core, core_of, Published, Going, rules_by};
+    ghost use Rattle.spf_feeder.specs.Orderly.{IsOrderly};
 
     ghost Value = { Core P M K };
 
@@ -134,7 +147,8 @@ impl<P: Publisher + Drop, M: MetricsRecorder + Drop, K: SvidPicker + Drop> Model
 
     ghost invariant = { λ s. ForSome s.picker K.can_pick
         × Published (P.steps s.publisher) (rules_by K.picks s.rules s.picker) s.events.items
-        × (s.stuck ≡ false → Going (rules_by K.picks s.rules s.picker) s.events.items (P.steps s.publisher) s.snapshot s.moment s.phase s.gave_accepted) };
+        × (s.stuck ≡ false → Going (rules_by K.picks s.rules s.picker) s.events.items (P.steps s.publisher) s.snapshot s.moment s.phase s.gave_accepted)
+        × IsOrderly (rules_by K.picks s.rules s.picker) (reverse s.events.items) };
 }
 
 impl<P: Publisher + Drop, M: MetricsRecorder + Drop, K: SvidPicker + Drop> Session<P, M, K> {
@@ -195,6 +209,86 @@ impl<P: Publisher + Drop, M: MetricsRecorder + Drop, K: SvidPicker + Drop> Sessi
         self.events.as_slice()
     }
 
+    /// The rules of the session.
+    pub(crate) fn rules(&self) -> SessionRules
+        ensures { result ≡ self.now.settings }
+    {
+        self.rules
+    }
+
+    /// What picks the SVID.
+    pub(crate) fn picker(&self) -> &Option<K>
+        ensures { result.now ≡ self.now.picker }
+    {
+        &self.picker
+    }
+
+    /// The same with another publisher, which has published the same steps, and the publisher
+    /// until now.
+    pub(crate) fn with_publisher<Q: Publisher + Drop>(self, publisher: Q) -> (Session<Q, M, K>, P)
+        requires published { Published (Q.steps publisher)
+            (rules_by K.picks self.settings self.picker) self.run }
+        requires has_step { HasStep (Q.steps publisher) }
+        ensures core { result.0 ≡ core_of publisher self.recorder self.settings self.picker self.run
+            self.stuck }
+        ensures publisher { result.1 ≡ self.publisher }
+    {
+        let Session {
+            alloc,
+            publisher: before,
+            recorder,
+            picker,
+            rules,
+            events,
+            snapshot,
+            moment,
+            phase,
+            gave_accepted,
+            stuck,
+        } = self;
+        let session = Session {
+            alloc,
+            publisher,
+            recorder,
+            picker,
+            rules,
+            events,
+            snapshot,
+            moment,
+            phase,
+            gave_accepted,
+            stuck,
+        };
+        (session, before)
+    }
+
+    /// What is left of a session that goes no further.
+    pub(crate) fn into_parts(self) -> SessionParts<P, K>
+        ensures publisher { result.publisher ≡ self.publisher }
+        ensures events { result.events.items ≡ self.run }
+        ensures rules { result.rules ≡ self.settings }
+        ensures picker { result.picker ≡ self.picker }
+        ensures can_pick { ForSome self.picker K.can_pick }
+        ensures published { Published (P.steps self.publisher)
+            (rules_by K.picks self.settings self.picker) self.run }
+        ensures orderly { IsOrderly (rules_by K.picks self.settings self.picker)
+            (reverse self.run) }
+    {
+        let Session {
+            publisher,
+            picker,
+            rules,
+            events,
+            ..
+        } = self;
+        SessionParts {
+            publisher,
+            events,
+            rules,
+            picker,
+        }
+    }
+
     /// Takes no further event.
     pub(crate) fn stop(&mut self)
         ensures unchanged { self.new ≡ record self.old { stuck = true } }
@@ -208,8 +302,12 @@ impl<P: Publisher + Drop, M: MetricsRecorder + Drop, K: SvidPicker + Drop> Sessi
     /// recorded.
     pub(crate) fn advance(&mut self, event: Event) -> Result<Option<AttemptEnd>, Stop>
         requires going { self.old.stuck ≡ false }
+        requires fits { (is_moment event || does_answer (ask_of context_in
+            (rules_by K.picks self.old.settings self.old.picker) (reverse self.old.run)) event)
+            ≡ true }
         ensures settings { self.new.settings ≡ self.old.settings }
         ensures picker { self.new.picker ≡ self.old.picker }
+        ensures target { P.target self.new.publisher ≡ P.target self.old.publisher }
         ensures published { Published (P.steps self.new.publisher)
             (rules_by K.picks self.new.settings self.new.picker) self.new.run }
         ensures advances { Advances M.records

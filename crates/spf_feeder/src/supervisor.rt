@@ -3,6 +3,7 @@
 ghost use Rattle.std.specs.Prelude.{◌≡◌, false, IfErr, IfNone, IfSome, OnOk};
 ghost use Rattle.spf_feeder.specs.Fed.{StopsBy};
 ghost use Rattle.spf_feeder.specs.Kept.{rules_by};
+ghost use Rattle.spf_feeder.specs.Orderly.{AddsAnswer, GoesOn};
 ghost use Rattle.spf_feeder.specs.Pacing.{Halted, KeepsPace, PacesOn};
 
 use crate::feeder::Feeder;
@@ -34,8 +35,13 @@ where
     ensures settings { feeder.new.core.settings ≡ feeder.old.core.settings }
     ensures picker { feeder.new.core.picker ≡ feeder.old.core.picker }
     ensures first { feeder.new.first ≡ feeder.old.first }
+    ensures target { P.target feeder.new.core.publisher ≡ P.target feeder.old.core.publisher }
+    ensures goes_on { GoesOn feeder.old.core.run feeder.new.core.run }
     ensures bounds { pace.new.bounds ≡ pace.old.bounds }
     ensures going { OnOk result (feeder.new.core.stuck ≡ false) }
+    ensures adds { OnOk result (AddsAnswer
+        (rules_by K.picks feeder.old.core.settings feeder.old.core.picker) feeder.old.core.run
+        feeder.new.core.run) }
     ensures paces { PacesOn (rules_by K.picks feeder.old.core.settings feeder.old.core.picker)
         feeder.old.core.run pace.old result feeder.new.core.run pace.new }
     ensures ended { IfErr result (StopsBy
@@ -93,6 +99,8 @@ where
     ensures settings { feeder.new.core.settings ≡ feeder.old.core.settings }
     ensures picker { feeder.new.core.picker ≡ feeder.old.core.picker }
     ensures first { feeder.new.first ≡ feeder.old.first }
+    ensures target { P.target feeder.new.core.publisher ≡ P.target feeder.old.core.publisher }
+    ensures goes_on { GoesOn feeder.old.core.run feeder.new.core.run }
     ensures bounds { pace.new.bounds ≡ pace.old.bounds }
 
     // A caller closed this cell, and the delays are those of the run.

@@ -2,12 +2,14 @@
 //! accepted.
 
 ghost use Rattle.std.specs.Prelude.{◌≡◌, ◌≤ℤ◌, false, true, pos, IfErr, OnOk, reverse};
+ghost use Rattle.spf_view.specs.Steps.{steps_of};
 ghost use Rattle.spf_view.specs.Views.{has_synced};
 ghost use Rattle.spf_feed.specs.Items.{subject};
 ghost use Rattle.spf_feeder.specs.Fed.{StopsBy};
 ghost use Rattle.spf_feeder.specs.Kept.{rules_by};
+ghost use Rattle.spf_feeder.specs.Orderly.{IsAboutToAsk, IsOneStep, IsOpening, IsTimed};
 ghost use Rattle.spf_feeder.specs.Pacing.{KeepsPace};
-ghost use Rattle.spf_feeder.specs.Times.{TakesMoment};
+ghost use Rattle.spf_feeder.specs.Times.{Gives, TakesMoment};
 ghost use Rattle.spf_feeder.specs.Times as spec;
 ghost use Rattle.spf_feeder.specs.declared.pace.Pace.{Pace as Paces};
 
@@ -51,15 +53,13 @@ pub(crate) fn deadline_after(first: i64, timeout: Duration) -> i64
     (first as u128 + seconds).min(latest) as i64
 }
 
-/// Where a client is asked for next, a moment of the clock stands before it: the first one, which
-/// is at hand, and then one that the clock gives now.
+/// Where a client is asked for next, a moment of the clock stands right before it.
 fn moment_before<C, P, M, K, T, W, H>(
     rt: &H,
     feeder: &mut Feeder<C, P, M, K>,
     clock: &mut T,
     pause: &mut W,
     delay: Duration,
-    first: &mut Option<i64>,
 ) -> Result<(), Stop>
 where
     C: Connector + Drop,
@@ -71,11 +71,17 @@ where
     W: Pause,
     H: Wait,
     requires going { feeder.old.core.stuck ≡ false }
+    requires timed { IsOpening (rules_by K.picks feeder.old.core.settings feeder.old.core.picker)
+        feeder.old.core.run }
     ensures settings { feeder.new.core.settings ≡ feeder.old.core.settings }
     ensures picker { feeder.new.core.picker ≡ feeder.old.core.picker }
     ensures handed { feeder.new.first ≡ feeder.old.first }
     ensures asked { feeder.new.asked ≡ feeder.old.asked }
     ensures going { OnOk result (feeder.new.core.stuck ≡ false) }
+    ensures timed { OnOk result (IsAboutToAsk
+        (rules_by K.picks feeder.old.core.settings feeder.old.core.picker) feeder.new.core.run) }
+    ensures clock { OnOk result (Gives (T.moments clock.old) (T.moments clock.new)
+        feeder.old.core.run feeder.new.core.run) }
     ensures paces { (pace : Paces) → KeepsPace
         (rules_by K.picks feeder.old.core.settings feeder.old.core.picker) feeder.old.core.run pace
         → OnOk result (KeepsPace
@@ -84,21 +90,18 @@ where
     ensures ended { IfErr result (StopsBy
         (rules_by K.picks feeder.old.core.settings feeder.old.core.picker) feeder.new.core.run) }
 {
-    if !feeder.asks_client() {
+    if !feeder.asks_client() || feeder.ends_with_moment() {
         return Ok(());
     }
-    let moment = match first.take() {
-        Some(moment) => moment,
-        None => next_moment(rt, clock, pause, delay),
-    };
+    let moment = next_moment(rt, clock, pause, delay);
     match feeder.take_moment(moment) {
         Ok(_) => Ok(()),
         Err(stop) => Err(stop),
     }
 }
 
-/// Asks until the first item is accepted, with a moment of the clock before each attempt, the
-/// first of them `first`, and a pause after each that failed.
+/// Asks until the first item is accepted, with a moment of the clock right before each attempt, and
+/// a pause after each that failed.
 pub(crate) fn synchronise<C, P, M, K, R, T, W, H>(
     rt: &H,
     feeder: &mut Feeder<C, P, M, K>,
@@ -107,7 +110,6 @@ pub(crate) fn synchronise<C, P, M, K, R, T, W, H>(
     clock: &mut T,
     pause: &mut W,
     delay: Duration,
-    first: i64,
 ) -> Result<(), Stop>
 where
     C: Connector + Drop,
@@ -122,9 +124,18 @@ where
     requires going { feeder.old.core.stuck ≡ false }
     requires keeps { KeepsPace (rules_by K.picks feeder.old.core.settings feeder.old.core.picker)
         feeder.old.core.run pace.old }
+    requires timed { IsOpening (rules_by K.picks feeder.old.core.settings feeder.old.core.picker)
+        feeder.old.core.run }
     ensures settings { feeder.new.core.settings ≡ feeder.old.core.settings }
     ensures picker { feeder.new.core.picker ≡ feeder.old.core.picker }
     ensures handed { feeder.new.first ≡ feeder.old.first }
+    ensures timed { OnOk result (IsTimed
+        (rules_by K.picks feeder.old.core.settings feeder.old.core.picker)
+        (reverse feeder.new.core.run)) }
+    ensures once { OnOk result (IsOneStep (steps_of (subject
+        (rules_by K.picks feeder.old.core.settings feeder.old.core.picker)) feeder.new.core.run)) }
+    ensures clock { OnOk result (Gives (T.moments clock.old) (T.moments clock.new)
+        feeder.old.core.run feeder.new.core.run) }
     ensures bounds { pace.new.bounds ≡ pace.old.bounds }
     ensures going { OnOk result (feeder.new.core.stuck ≡ false) }
     ensures synced { OnOk result (has_synced
@@ -136,9 +147,8 @@ where
     ensures ended { IfErr result (StopsBy
         (rules_by K.picks feeder.old.core.settings feeder.old.core.picker) feeder.new.core.run) }
 {
-    let mut coming = Some(first);
     'asks: for _ in rt.forever() {
-        moment_before(rt, feeder, clock, pause, delay, &mut coming)?;
+        moment_before(rt, feeder, clock, pause, delay)?;
         paced_ask(feeder, pace, random, pause)?;
         if feeder.is_synced() {
             return Ok(());

@@ -1,17 +1,25 @@
-use Rattle.std.proofs.Common.{rules, reverse, sym, ap, ◌∙◌, subst}
+use Rattle.std.proofs.Common.{rules, ◌≡◌, [], ◌∷◌, ◌++◌, refl, reverse, sym, ap, ◌∙◌, subst}
+use Rattle.std.proofs.lemmas.Result.{err_from_is_err_and}
+use Rattle.spf_view.specs.Steps.{steps_of}
 use Rattle.spf_view.specs.Views.{has_synced}
+use Rattle.spf_feed.specs.declared.event.SessionEvent.TheVariants as events
 use Rattle.spf_feed.specs.Items.{Rules, subject}
 use Rattle.spf_feeder.specs.Kept.{rules_by}
+use Rattle.spf_feeder.specs.Orderly.{IsOneStep}
 use Rattle.spf_feeder.specs.Pacing.{KeepsPace}
 use Rattle.spf_feeder.proofs.FeedLemmas.{stops_as}
+use Rattle.spf_feeder.proofs.PaceLemmas.{passes_on}
+use Rattle.spf_feeder.proofs.TimeLemmas.{gives_moment, gives_more}
 use Rattle.spf_feeder.proofs.opening.open_feeder.Goals as goal
 
 pub synchronise-requires-clause-keeps : goal.synchronise-requires-clause-keeps
 synchronise-requires-clause-keeps g c =
-    let core = c.new-feeder.result.core in
+    let core = c.take_moment.new.self.core in
     let rule : Rules = rules_by g.K.SvidPicker.picks core.settings core.picker in
-    subst (λ run. KeepsPace rule run c.new-pace.result) (sym (ap (λ k. k.run) c.new-feeder.ensures.core))
-    (c.new-pace.ensures.keeps rule)
+    let run : core.run ≡ events.Moment c.next_moment-first.result ∷ [] = search rules in
+    subst (λ l. KeepsPace rule l c.new-pace.result) (sym run)
+    (passes_on rule [] (events.Moment c.next_moment-first.result) c.new-pace.result refl refl
+    (c.new-pace.ensures.keeps rule))
 
 pub returns-in-Ok-clause-synced : goal.returns-in-Ok-clause-synced
 returns-in-Ok-clause-synced g c =
@@ -20,12 +28,29 @@ returns-in-Ok-clause-synced g c =
     (reverse c.synchronise.new.feeder.core.run))
     ∙ c.in-Ok.ensures.synced
 
+pub returns-in-Ok-clause-once : goal.returns-in-Ok-clause-once
+returns-in-Ok-clause-once g c =
+    subst (λ r. IsOneStep (steps_of (subject r) c.synchronise.new.feeder.core.run))
+    (λ i. rules_by g.K.SvidPicker.picks (sym c.in-Ok.ensures.settings i)
+    (sym c.in-Ok.ensures.picker i)) c.in-Ok.ensures.once
+
+pub returns-in-Ok-clause-clock : goal.returns-in-Ok-clause-clock
+returns-in-Ok-clause-clock g c =
+    let run : c.take_moment.new.self.core.run ≡ events.Moment c.next_moment-first.result ∷ [] =
+    search rules in
+    gives_more _ _ _ [] _ _
+    (gives_moment _ _ c.next_moment-first.result [] _ c.next_moment-first.ensures.moment run)
+    c.in-Ok.ensures.clock
+
 pub returns-in-Err-clause-ended : goal.returns-in-Err-clause-ended
-returns-in-Err-clause-ended g c = record {
-  deadline = c.deadline_of.result;
-  counts = search rules;
-  run = c.synchronise.new.feeder.core.run;
-  stops = stops_as _ _ c.synchronise.new.feeder.core.run c.in-Err.stop
-      (ap (λ k. rules_by g.K.SvidPicker.picks k.settings k.picker) c.new-feeder.ensures.core)
-      c.in-Err.ensures.ended;
-}
+returns-in-Err-clause-ended g c =
+    let moment = c.in_ok-take_moment.ensures in record {
+      deadline = c.deadline_of.result;
+      counts = search rules;
+      run = c.synchronise.new.feeder.core.run;
+      stops = stops_as _ _ c.synchronise.new.feeder.core.run c.in-Err.stop
+          (λ i. rules_by g.K.SvidPicker.picks
+          ((moment.settings ∙ ap (λ k. k.settings) c.new-feeder.ensures.core) i)
+          ((moment.picker ∙ ap (λ k. k.picker) c.new-feeder.ensures.core) i))
+          c.in-Err.ensures.ended;
+    }

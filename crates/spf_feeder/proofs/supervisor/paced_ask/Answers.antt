@@ -6,6 +6,8 @@ use Rattle.spf_feeder.proofs.PaceLemmas.{paces_ended, paces_opened, paces_passed
 use Rattle.spf_feeder.proofs.PaceLemmas.{unopened}
 use Rattle.spf_feeder.proofs.supervisor.paced_ask.Goals.{else-not-was_synced-via-then-not-was_synced+else-is_synced}
 use Rattle.spf_feeder.proofs.supervisor.paced_ask.Goals.{else-not-was_synced-via-else-not-was_synced}
+use Rattle.spf_io.specs.declared.memory.OutOfMemory.{OutOfMemory}
+use Rattle.spf_feeder.proofs.OrderLemmas.{once_answers}
 use Rattle.spf_feeder.proofs.supervisor.paced_ask.Goals as goal
 
 pub returns-then-is_synced-clause-paces : goal.returns-then-is_synced-clause-paces
@@ -48,3 +50,12 @@ returns-else-not-was_synced-clause-paces g c =
     ] in
     paces_passed rule old.run _ turn.event _ c.args.pace.now turn.advanced.run_is
     turn.advanced.end_is c.in-None.is shut
+
+pub returns-else-not-was_synced-clause-adds : goal.returns-else-not-was_synced-clause-adds
+returns-else-not-was_synced-clause-adds g c =
+    let turn = c.in_ok-end.ensures.turn in
+    record {
+      event = turn.event;
+      answers = once_answers OutOfMemory g.C.Connector g.C.Link.Link _ _ _ turn.event turn.asked;
+      run_is = turn.advanced.run_is;
+    }

@@ -1,5 +1,6 @@
 use Rattle.std.proofs.Common.{◌≡◌, false}
 use Rattle.spf_feeder.specs.Kept.{rules_by}
+use Rattle.spf_feeder.specs.Orderly.{GoesOn}
 use Rattle.spf_feeder.specs.Pacing.{KeepsPace}
 use Rattle.spf_feeder.proofs.supervisor.supervise.Given as goal
 
@@ -10,6 +11,9 @@ invariant-turns g l = record {
   settings : l.feeder.core.settings ≡ l.initial.feeder.core.settings;
   picker : l.feeder.core.picker ≡ l.initial.feeder.core.picker;
   first : l.feeder.first ≡ l.initial.feeder.first;
+  target : g.P.Publisher.target l.feeder.core.publisher
+      ≡ g.P.Publisher.target l.initial.feeder.core.publisher;
+  goes_on : GoesOn l.initial.feeder.core.run l.feeder.core.run;
   bounds : l.pace.bounds ≡ l.initial.pace.bounds;
   going : l.feeder.core.stuck ≡ false;
   keeps : KeepsPace

@@ -3,6 +3,7 @@ use Rattle.spf_feed.specs.Items.{Rules}
 use Rattle.spf_feeder.specs.Kept.{rules_by}
 use Rattle.spf_feeder.proofs.FeedLemmas.{stops_by, ready_of, stays_idle, tells_of}
 use Rattle.spf_feeder.proofs.FeedLemmas.{turned_of, untold_of}
+use Rattle.spf_feeder.proofs.OrderLemmas.{turn_goes}
 use Rattle.spf_feeder.proofs.feeder.Feeder.ask_once.Goals as goal
 
 pub returns-then-is_stuck-clause-turn : goal.returns-then-is_stuck-clause-turn
@@ -25,6 +26,9 @@ returns-in-Ok-clause-turn g c =
     sym c.is_stuck.ensures ∙ c.if-is_stuck.false in
     turned_of g.C.Connector g.C.Link.Link g.M.MetricsRecorder.records g.K.SvidPicker.picks _ _ _ _ _ _
     c.self.view_is c.phase-phase.ensures c.in-Ok.ensures c.advance.ensures.advances going
+
+pub returns-in-Ok-clause-goes_on : goal.returns-in-Ok-clause-goes_on
+returns-in-Ok-clause-goes_on g c = turn_goes _ _ _ _ _ _ _ (returns-in-Ok-clause-turn g c)
 
 pub invariant_of-self : goal.invariant_of-self
 invariant_of-self g c =

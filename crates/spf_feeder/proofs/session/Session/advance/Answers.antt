@@ -2,7 +2,13 @@ use Rattle.std.proofs.Common.{rules, ◌≡◌, ◌++◌, ◌∷◌, [], refl, s
 use Rattle.std.proofs.lemmas.Result.{err_from_is_err_and}
 use Rattle.std.specs.Option.{option_map}
 use Rattle.spf_feed.specs.Items.{Rules, rules_with}
+use Rattle.std.proofs.Common.{true, reverse}
+use Rattle.std.specs.Prelude.{◌||◌}
+use Rattle.spf_feed.specs.Items.{context_in}
+use Rattle.spf_feed.specs.Run.{ask_of}
 use Rattle.spf_feeder.specs.Kept.{Published, rules_by}
+use Rattle.spf_feeder.specs.Orderly.{IsOrderly, does_answer, is_moment}
+use Rattle.spf_feeder.proofs.OrderLemmas.{orderly_more}
 use Rattle.spf_feeder.proofs.RunLemmas.{advanced_by, advanced_of, going_at, lent_picker}
 use Rattle.spf_feeder.proofs.RunLemmas.{refused_by, refused_of}
 use Rattle.spf_feeder.proofs.session.Session.advance.Goals as goal
@@ -40,6 +46,13 @@ invariant_of-self-in_err-record_all g c =
       subst (λ run. Published (g.P.Publisher.steps c.publish_turn.new.publisher) rule run) (sym items)
           done.published,
       λ f. absurd cc,
+      subst (λ run. IsOrderly rule (reverse run)) (sym items)
+          (orderly_more rule before.events.items c.args.event
+          (subst (λ core.
+          (is_moment c.args.event || does_answer (ask_of context_in
+          (rules_by g.K.SvidPicker.picks core.settings core.picker) (reverse core.run))
+          c.args.event) ≡ true) (sym c.self.view_is) c.requires.fits)
+          done.none c.self.invariant.3),
     )
 
 pub returns-clause-published : goal.returns-clause-published
@@ -75,6 +88,13 @@ invariant_of-self-2 g c =
       subst (λ run. Published (g.P.Publisher.steps c.publish_turn.new.publisher) rule run) (sym items)
           done.published,
       λ f. going_at rule _ _ _ _ _ _ _ items done.going,
+      subst (λ run. IsOrderly rule (reverse run)) (sym items)
+          (orderly_more rule before.events.items c.args.event
+          (subst (λ core.
+          (is_moment c.args.event || does_answer (ask_of context_in
+          (rules_by g.K.SvidPicker.picks core.settings core.picker) (reverse core.run))
+          c.args.event) ≡ true) (sym c.self.view_is) c.requires.fits)
+          done.none c.self.invariant.3),
     )
 
 pub returns-clause-advances : goal.returns-clause-advances
