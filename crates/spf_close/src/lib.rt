@@ -1,11 +1,14 @@
 //! A cell that is closed once, by a caller or by the supervisor. It takes the memory of a mark when
-//! a `Closer` is made, so closing takes none. A reader looks without a lock.
+//! a `Closer` is made, so closing takes none. A reader looks without a lock. Beside it stands the
+//! bell that is rung at each change of a source.
 #![tactic(auto)]
 
+mod bell;
 mod cell;
 mod maker;
 #[cfg(test)]
 mod tests;
 
+pub use bell::Bell;
 pub use cell::{Closed, Closer, Watch, closed_cell};
 pub use maker::Maker;

@@ -1,4 +1,4 @@
-use crate::{Closer, Maker, Watch, closed_cell};
+use crate::{Bell, Closer, Maker, Watch, closed_cell};
 use std::test::Fail;
 use std::thread;
 
@@ -48,5 +48,21 @@ fn mark_is_seen_by_other_threads(rt: HostRuntime) -> Result<(), Fail> {
     );
     let seen = thread::join(&rt, || maker_seen(&watch), || maker_seen(&watch));
     assert_eq!(rt; seen, (Some(Maker::Caller), Some(Maker::Caller)));
+    Ok(())
+}
+
+/// A ring is counted by every clone, and nobody waits for a ring that has been.
+#[test]
+fn rings_are_counted(rt: HostRuntime) -> Result<(), Fail> {
+    let bell = Bell::new(rt.alloc())?;
+    let other = bell.try_clone()?;
+    let seen = bell.now();
+    assert_eq!(rt; other.now(), seen);
+    other.ring();
+    bell.wait_past(&rt, seen);
+    assert!(rt; bell.now() != seen);
+    bell.ring();
+    assert_eq!(rt; bell.now().wrapping_sub(seen), 2);
+    assert_eq!(rt; other.now(), bell.now());
     Ok(())
 }

@@ -1,6 +1,6 @@
 //! Opening a board, and the last read while its writer is there.
 
-ghost use Rattle.std.specs.Prelude.{◌≡◌, ◌∷◌, [], true, Some, IfOk};
+ghost use Rattle.std.specs.Prelude.{◌≡◌, ◌∷◌, [], true, None, Some, IfOk};
 ghost use mathlib.Core.List.{IsPrefix};
 ghost use Rattle.spf_history.specs.declared.entry.Entry.TheVariants as entry;
 ghost use Rattle.spf_history.specs.Lists.{is_ended};
@@ -26,7 +26,7 @@ pub fn open<R: Wait + Drop>(
     requires { MayFollow (Some []) step }
     ensures step { IfOk result (λ r. r.0.list ≡ entry.Step step ∷ []) }
     ensures pass { IfOk result (λ r. (r.1.book ≡ r.0.book) × (r.1.seen ≡ r.0.list)
-        × (r.1.entered ≡ r.0.list) × (r.1.missed ≡ 0)) }
+        × (r.1.entered ≡ r.0.list) × (r.1.missed ≡ 0) × (r.1.closed ≡ None)) }
 {
     let (writer, scribe, memory, mut readers) = open_board::<X509, R>(alloc, &rt, step)?;
     let held = Held::new(writer, scribe, rt);
@@ -47,6 +47,7 @@ pub fn settle<R: Wait + Drop>(ended: Ended<R>, pass: &mut Pass) -> Result<Front<
     ensures settled { IfOk result (λ f. pass.new.seen ≡ f.list) }
     ensures book { pass.new.book ≡ pass.old.book }
     ensures seen { IsPrefix pass.old.seen pass.new.seen }
+    ensures closed { pass.new.closed ≡ pass.old.closed }
 {
     if !ended.is_whole() {
         return Err(OutOfMemory);

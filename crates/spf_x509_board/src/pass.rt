@@ -1,16 +1,20 @@
 //! What one reader has seen, and its reads. They take no lock and never wait.
 
-ghost use Rattle.std.specs.Prelude.{◌≡◌, IfOk, OnOk, OnErr, All};
+ghost use Rattle.std.specs.Prelude.{◌≡◌, None, IfOk, OnOk, OnErr, All};
+ghost use Rattle.std.specs.Option.{option_map};
 ghost use mathlib.Core.List.{IsPrefix};
 ghost use Rattle.left_right.specs.Sides.{view};
 ghost use Rattle.spf_history.specs.Lists.{steps_of, IsBoardList};
 ghost use Rattle.spf_board.specs.Board.{IsBoundTo};
 ghost use Rattle.spf_board.specs.Passes.{Renews, Peeks};
+ghost use Rattle.spf_close.specs.Marks.{Held};
+ghost use Rattle.spf_x509_board.specs.Passes.{read_of};
 ghost use Rattle.spf_x509_board.specs.Steps.{Legal, Replays, is_usable};
 ghost use Rattle.spf_x509_board.specs.States.{IsStateOf};
 
 use crate::kind::{UsableAt, X509};
 use spf_board::{Memory, PlaceFault, PostReader};
+use spf_close::{Closed, Maker};
 use spf_feed::X509SourceState;
 use spf_history::Front;
 use spf_io::OutOfMemory;
@@ -24,20 +28,20 @@ pub struct Pass {
     reader: Option<PostReader<X509>>,
     memory: Memory<X509>,
     spares: Vec<PostReader<X509>>,
+    closed: Option<Closed>,
     alloc: Global,
 }
 
 impl Model for Pass {
     ghost use Rattle.std.specs.Prelude.{option_map, unwrap_or, IsSomeAnd, All};
     ghost use Rattle.left_right.specs.Sides.{view as known};
-    ghost use Rattle.spf_feed.specs.Steps.{PlainStep};
     ghost use Rattle.spf_board.specs.Board.{IsBoundTo, unbound};
-    ghost use Rattle.spf_board.specs.Passes.{Passed, passed};
+    ghost use Rattle.spf_x509_board.specs.Passes.{PassView, pass_view};
 
-    ghost Value = { Passed PlainStep };
+    ghost Value = { PassView };
 
-    ghost view = { λ p. passed p.memory
-        (unwrap_or (option_map (λ r. known r.place) p.reader) unbound) };
+    ghost view = { λ p. pass_view p.memory
+        (unwrap_or (option_map (λ r. known r.place) p.reader) unbound) p.closed };
 
     ghost invariant = { λ p. IsSomeAnd p.reader (λ r. IsBoundTo (known r.place) p.memory.book)
         × All (λ r. IsBoundTo (known r.place) p.memory.book) p.spares.items };
@@ -53,12 +57,14 @@ impl Pass {
         requires reader { IsBoundTo (view reader.place) memory.book }
         requires spares { All (λ r. IsBoundTo (view r.place) memory.book) spares.items }
         ensures { (result.book ≡ memory.book) × (result.seen ≡ memory.seen)
-            × (result.entered ≡ memory.entered) × (result.missed ≡ memory.missed) }
+            × (result.entered ≡ memory.entered) × (result.missed ≡ memory.missed)
+            × (result.closed ≡ None) }
     {
         Pass {
             reader: Some(reader),
             memory,
             spares,
+            closed: None,
             alloc,
         }
     }
@@ -69,7 +75,8 @@ impl Pass {
         ensures book { self.new.book ≡ self.old.book }
         ensures seen { IsPrefix self.old.seen self.new.seen }
         ensures entered { IsPrefix self.old.entered self.new.entered }
-        ensures ok { OnOk result (Renews Legal self.old self.new) }
+        ensures closed { self.new.closed ≡ self.old.closed }
+        ensures ok { OnOk result (Renews Legal (read_of self.old) (read_of self.new)) }
         ensures err { OnErr result (self.new.seen ≡ self.old.seen) }
     {
         let Some(reader) = self.reader.take() else {
@@ -93,8 +100,9 @@ impl Pass {
         ensures book { self.new.book ≡ self.old.book }
         ensures seen { IsPrefix self.old.seen self.new.seen }
         ensures entered { IsPrefix self.old.entered self.new.entered }
+        ensures closed { self.new.closed ≡ self.old.closed }
         ensures state { IfOk result (λ s. IsStateOf self.new.seen closed s) }
-        ensures renews { OnOk result (Renews Legal self.old self.new) }
+        ensures renews { OnOk result (Renews Legal (read_of self.old) (read_of self.new)) }
     {
         self.renew()?;
         self.kept_state(closed)
@@ -105,8 +113,9 @@ impl Pass {
     pub fn is_usable(&mut self, now: Option<i64>) -> bool
         ensures book { self.new.book ≡ self.old.book }
         ensures entered { IsPrefix self.old.entered self.new.entered }
+        ensures closed { self.new.closed ≡ self.old.closed }
         ensures found { Peeks Legal Replays (λ shown found. found ≡ is_usable shown now)
-            self.old self.new result }
+            (read_of self.old) (read_of self.new) result }
     {
         let Some(reader) = self.reader.take() else {
             unreachable!()
@@ -116,6 +125,23 @@ impl Pass {
         usable
     }
 
+    /// Keeps what a look at the closed cell of its source has found, and nothing older.
+    pub fn note(&mut self, found: Option<Closed>)
+        ensures { self.new ≡ record self.old { closed = found } }
+    {
+        self.closed = found;
+    }
+
+    /// Who closed the source, where the look that was noted last has found that.
+    pub fn closed_by(&self) -> Option<Maker>
+        ensures { result ≡ option_map (λ (mark : Held). mark.maker) self.now.closed }
+    {
+        match &self.closed {
+            Some(closed) => Some(closed.maker()),
+            None => None,
+        }
+    }
+
     /// What the pass has seen.
     pub fn seen(&self) -> &Front<X509>
         ensures { (result.now.book ≡ self.now.book) × (result.now.list ≡ self.now.seen) }
@@ -123,11 +149,12 @@ impl Pass {
         self.memory.seen()
     }
 
-    /// Another pass of the board, which has seen what this one has seen.
+    /// Another pass of the board, which has seen what this one has seen. It knows nothing of the
+    /// closed cell.
     pub fn another(&mut self) -> Result<Pass, PlaceFault>
         ensures giver { self.new ≡ self.old }
         ensures pass { IfOk result (λ p. (p.book ≡ self.old.book) × (p.seen ≡ self.old.seen)
-            × (p.entered ≡ self.old.entered) × (p.missed ≡ 0)) }
+            × (p.entered ≡ self.old.entered) × (p.missed ≡ 0) × (p.closed ≡ None)) }
     {
         let memory = match self.memory.again() {
             Ok(memory) => memory,
@@ -149,6 +176,7 @@ impl Pass {
             reader,
             memory: _memory,
             spares,
+            closed: _closed,
             alloc: _,
         } = self;
         if giver.spares.is_empty() {

@@ -1,6 +1,6 @@
 -- What the calls of a source return, and what they do to the pass that they are lent.
 use Rattle.std.specs.Prelude.{◌≡◌, ◌≢◌, ◌⊎◌, ◌≤◌, ℕ, ℤ, Bool, true, false, List, Option, Some, None}
-use Rattle.std.specs.Prelude.{Result, Ok, Err}
+use Rattle.std.specs.Prelude.{Result, Ok, Err, IfSome, IsSomeAnd, is_some}
 use Rattle.std.specs.Option.{option_map, option_and_then}
 use Rattle.std.specs.Arc.{arc_value}
 use Rattle.std.specs.declared.alloc.Global.{Global}
@@ -10,9 +10,12 @@ use Rattle.spf_x509.specs.Bundle.{Bundle, find_entry}
 use Rattle.spf_feed.specs.declared.state.X509SourceError.{X509SourceError}
 use Rattle.spf_feed.specs.declared.state.X509SourceError.TheVariants as errors
 use Rattle.spf_feed.specs.declared.step.Denial.{Denial}
-use Rattle.spf_feed.specs.Steps.{PlainStep, StateView, View, Material, held_in, reason_of}
+use Rattle.spf_feed.specs.Steps.{StateView, View, Material, held_in, reason_of}
 use Rattle.spf_io.specs.declared.memory.OutOfMemory.{OutOfMemory}
-use Rattle.spf_board.specs.Passes.{Passed, Peeks, Renews, Rose}
+use Rattle.spf_board.specs.Passes.{Peeks, Renews, Rose}
+use Rattle.spf_close.specs.Marks.{Held, held}
+use Rattle.spf_close.specs.declared.maker.Maker.TheVariants as makers
+use Rattle.spf_x509_board.specs.Passes.{PassView, read_of}
 use Rattle.spf_x509_board.specs.Steps.{Legal, Replays, is_usable}
 use Rattle.spf_x509_board.specs.States.{IsStateOf}
 use Rattle.spiffe.specs.Sources.{Source, Updates}
@@ -21,41 +24,58 @@ use Rattle.spiffe.specs.Sources.{Source, Updates}
 abbrev pub Bundles : Type 0
 Bundles = List (List ℕ × Bundle)
 
--- an error that says nothing of what is published
-abbrev pub is_unread : X509SourceError → Bool
-is_unread errors.Closed = true
-is_unread errors.OutOfMemory = true
-is_unread _ = false
+-- A pass that is told whether the source of this cell is closed: it knows a mark of the cell, or
+-- none, and all else of it is as before.
+pub record LooksAt (cell : ℕ) (old new : PassView) : Type 0 where
+  pub read : new ≡ record old { closed = new.closed }
+  pub mark : IfSome new.closed (λ known. known.cell ≡ cell)
+
+-- a caller closed this cell, which the pass knows by a note
+abbrev pub IsClosedByCaller : ℕ → PassView → Type 0
+IsClosedByCaller cell pass = pass.closed ≡ Some (held cell makers.Caller)
+
+-- Why a call refuses without a read: a caller closed the cell, or memory ran out.
+abbrev pub HasClosedCause : ℕ → PassView → X509SourceError → Type 0
+HasClosedCause cell pass errors.Closed = IsClosedByCaller cell pass
+HasClosedCause cell pass errors.OutOfMemory = Unit {0}
+HasClosedCause cell pass _ = ⊥
+
+-- A state says that the source of this cell is closed exactly where a mark of it is known.
+pub record SaysClosed (cell : ℕ) (pass : PassView) (closed : Bool) : Type 0 where
+  pub mark : IfSome pass.closed (λ known. known.cell ≡ cell)
+  pub exact : closed ≡ is_some pass.closed
 
 -- a pass that has seen no less than before, of the same board
-pub record SeesNoLess (old new : Passed PlainStep) : Type 0 where
+pub record SeesNoLess (old new : PassView) : Type 0 where
   pub book : new.book ≡ old.book
   pub seen : IsPrefix old.seen new.seen
   pub entered : IsPrefix old.entered new.entered
 
--- something is so of a state that the pass has read
-pub record Reads (old new : Passed PlainStep) (holds : View Material Denial → Type 0) : Type 0 where
+-- something is so of a state that the pass has read, and it knows of no mark of the closed cell
+pub record Reads (old new : PassView) (holds : View Material Denial → Type 0) : Type 0 where
   pub state : StateView
   pub read : IsStateOf new.seen state.closed state
-  pub renews : Renews Legal old new
+  pub renews : Renews Legal (read_of old) (read_of new)
   pub is_so : holds state.view
+  pub open_source : new.closed ≡ None
 
--- What a getter returns: what the getter of a state returns that the pass has read. Where the
--- source is closed, nothing is read.
+-- What a getter returns: what the getter of a state returns that the pass has read. Where a caller
+-- closed this cell, the pass knows that by a note, and nothing is read.
 abbrev pub Gets : {T : Type 0} → (View Material Denial → Result T X509SourceError → Type 0)
-    → Passed PlainStep → Passed PlainStep → Result T X509SourceError → Type 0
-Gets answer old new (Err errors.Closed) = new ≡ old
-Gets answer old new (Err errors.OutOfMemory) = Unit {0}
-Gets answer old new (Err e) = Reads old new (λ view. answer view (Err e))
-Gets answer old new (Ok x) = Reads old new (λ view. answer view (Ok x))
+    → ℕ → PassView → PassView → Result T X509SourceError → Type 0
+Gets answer cell old new (Err errors.Closed) =
+    new ≡ record old { closed = Some (held cell makers.Caller) }
+Gets answer cell old new (Err errors.OutOfMemory) = Unit {0}
+Gets answer cell old new (Err e) = Reads old new (λ view. answer view (Err e))
+Gets answer cell old new (Ok x) = Reads old new (λ view. answer view (Ok x))
 
 -- What a try form returns: the value of the getter, and none where the getter has none.
 abbrev pub Tries : {T : Type 0} → (View Material Denial → Result T X509SourceError → Type 0)
-    → Passed PlainStep → Passed PlainStep → Result (Option T) OutOfMemory → Type 0
-Tries answer old new (Ok (Some x)) = Gets answer old new (Ok x)
-Tries answer old new (Ok None) =
-    (e : X509SourceError) × (e ≢ errors.OutOfMemory) × Gets answer old new (Err e)
-Tries answer old new (Err e) = Unit {0}
+    → ℕ → PassView → PassView → Result (Option T) OutOfMemory → Type 0
+Tries answer cell old new (Ok (Some x)) = Gets answer cell old new (Ok x)
+Tries answer cell old new (Ok None) =
+    (e : X509SourceError) × (e ≢ errors.OutOfMemory) × Gets answer cell old new (Err e)
+Tries answer cell old new (Err e) = Unit {0}
 
 -- the bundles of the held context, or the reason of the withdrawal
 abbrev pub BundlesAnswer : View Material Denial → Result (Arc Bundles Global) X509SourceError
@@ -77,21 +97,25 @@ BundleAnswer view domain (Err errors.OutOfMemory) = Unit {0}
 BundleAnswer view domain (Err _) = ⊥
 
 -- the bundle of a trust domain, and none where there is no bundle or nothing is held
-abbrev pub TriesBundle : List ℕ → Passed PlainStep → Passed PlainStep
+abbrev pub TriesBundle : List ℕ → ℕ → PassView → PassView
     → Result (Option (Arc Bundle Global)) OutOfMemory → Type 0
-TriesBundle domain old new (Ok (Some bundle)) =
-    Gets (λ view. BundleAnswer view domain) old new (Ok (Some bundle))
-TriesBundle domain old new (Ok None) = Gets (λ view. BundleAnswer view domain) old new (Ok None)
+TriesBundle domain cell old new (Ok (Some bundle)) =
+    Gets (λ view. BundleAnswer view domain) cell old new (Ok (Some bundle))
+TriesBundle domain cell old new (Ok None) =
+    Gets (λ view. BundleAnswer view domain) cell old new (Ok None)
     ⊎ ((e : X509SourceError) × (e ≢ errors.OutOfMemory)
-    × Gets (λ view. BundleAnswer view domain) old new (Err e))
-TriesBundle domain old new (Err e) = Unit {0}
+    × Gets (λ view. BundleAnswer view domain) cell old new (Err e))
+TriesBundle domain cell old new (Err e) = Unit {0}
 
--- Whether a source is healthy: where it is closed it is not, and nothing is read; otherwise its
--- choice is usable in what is published, which the pass does not keep.
-abbrev pub IsHealthy : Option ℤ → Passed PlainStep → Passed PlainStep → Bool → Type 0
-IsHealthy now old new healthy =
-    ((healthy ≡ false) × (new ≡ old))
-    ⊎ Peeks Legal Replays (λ shown found. found ≡ is_usable shown now) old new healthy
+-- Whether a source is healthy: where a mark of its cell is known it is not, and nothing is read;
+-- otherwise its choice is usable in what is published, which the pass does not keep.
+abbrev pub IsHealthy : Option ℤ → ℕ → PassView → PassView → Bool → Type 0
+IsHealthy now cell old new healthy =
+    ((healthy ≡ false) × IsSomeAnd new.closed (λ known. known.cell ≡ cell)
+    × (new ≡ record old { closed = new.closed }))
+    ⊎ ((new.closed ≡ None)
+    × Peeks Legal Replays (λ shown found. found ≡ is_usable shown now)
+    (read_of old) (read_of new) healthy)
 
 -- No place comes only where the count of refused places rose, and no other error but out of memory.
 abbrev pub HasPlaceCause : {T : Type 0} → ℕ → ℕ → Result T X509SourceError → Type 0
@@ -101,19 +125,32 @@ HasPlaceCause before now (Err errors.OutOfMemory) = before ≤ now
 HasPlaceCause before now (Err _) = ⊥
 
 -- the revision of the state that a pass has read
-abbrev pub IsRevision : Passed PlainStep → ℕ → Type 0
+abbrev pub IsRevision : PassView → ℕ → Type 0
 IsRevision pass revision =
     (state : StateView) × IsStateOf pass.seen state.closed state × (revision ≡ state.revision)
 
+-- a pass that has read, once it had seen no less than before
+pub record ReadsOn (old new : PassView) : Type 0 where
+  pub between : PassView
+  pub seen : SeesNoLess old between
+  pub renews : Renews Legal (read_of between) (read_of new)
+
+-- Why a wait for another revision than this one ends without it: a caller closed the cell, while
+-- this one is published, or memory ran out.
+abbrev pub Stays : ℕ → ℕ → PassView → X509SourceError → Type 0
+Stays cell revision pass errors.Closed = IsClosedByCaller cell pass × IsRevision pass revision
+Stays cell revision pass errors.OutOfMemory = Unit {0}
+Stays cell revision pass _ = ⊥
+
 -- Updates of a source: their pass is of its board and has seen at least what the giver has seen,
 -- and the revision of what it has read is marked as seen.
-pub record Follows (source : Source) (giver : Passed PlainStep) (updates : Updates) : Type 0 where
+pub record Follows (source : Source) (giver : PassView) (updates : Updates) : Type 0 where
   pub cell : updates.cell ≡ source.cell
   pub board : updates.pass.book ≡ source.board
   pub seen : IsPrefix giver.seen updates.pass.seen
   pub marked : IsRevision updates.pass updates.marked
 
 -- what a source gives to a pass that has read a state
-abbrev pub OfState : Passed PlainStep → (View Material Denial → Type 0) → Type 0
+abbrev pub OfState : PassView → (View Material Denial → Type 0) → Type 0
 OfState pass holds =
     (state : StateView) × IsStateOf pass.seen state.closed state × holds state.view

@@ -1,8 +1,7 @@
 -- A source, and the updates of one reader.
 use Rattle.std.specs.Prelude.{ℕ}
 use Rattle.logbook.specs.Pages.{Book}
-use Rattle.spf_board.specs.Passes.{Passed}
-use Rattle.spf_feed.specs.Steps.{PlainStep}
+use Rattle.spf_x509_board.specs.Passes.{PassView}
 
 -- the board that its passes read, and the cell that says whether it is closed
 pub record Source : Type 0 where
@@ -12,5 +11,5 @@ pub record Source : Type 0 where
 -- the cell, the pass of the updates, and the revision that is marked as seen
 pub record Updates : Type 0 where
   pub cell : ℕ
-  pub pass : Passed PlainStep
+  pub pass : PassView
   pub marked : ℕ

@@ -1,21 +1,24 @@
 //! How a source is closed, and what says that it is.
 
-ghost use Rattle.std.specs.Prelude.{◌≡◌, IfErr, IfOk, IsTrue, is_some};
+ghost use Rattle.std.specs.Prelude.{◌≡◌, None, IfErr, IfOk, OnOk};
 ghost use Rattle.spf_close.specs.declared.maker.Maker.TheVariants as makers;
-ghost use Rattle.spiffe.specs.Reads.{is_unread};
+ghost use Rattle.spiffe.specs.Reads.{HasClosedCause, LooksAt, SaysClosed};
 
-use spf_close::{Closer, Maker, Watch};
+use spf_close::{Bell, Closer, Maker, Watch};
 use spf_feed::X509SourceError;
 use spf_io::OutOfMemory;
 use spf_system::StopFlag;
+use spf_x509_board::Pass;
 use std::alloc::Global;
 use std::marker::Model;
 
-/// Closes a source in the name of a caller, and ends the waits of its supervisor.
+/// Closes a source in the name of a caller, ends the waits of its supervisor, and wakes those who
+/// wait for a change.
 #[derive(Drop)]
 pub(crate) struct Closing {
     closer: Closer,
     stop: StopFlag,
+    bell: Bell,
 }
 
 impl Model for Closing {
@@ -30,11 +33,11 @@ impl Model for Closing {
 }
 
 impl Closing {
-    pub(crate) fn new(closer: Closer, stop: StopFlag) -> Closing
+    pub(crate) fn new(closer: Closer, stop: StopFlag, bell: Bell) -> Closing
         requires { closer.maker ≡ makers.Caller }
         ensures { result ≡ closer.cell }
     {
-        Closing { closer, stop }
+        Closing { closer, stop, bell }
     }
 
     pub(crate) fn close(&mut self)
@@ -42,6 +45,12 @@ impl Closing {
     {
         self.closer.close();
         self.stop.set();
+        self.bell.ring();
+    }
+
+    /// What it rings.
+    pub(crate) fn bell(&self) -> Result<Bell, OutOfMemory> {
+        self.bell.try_clone()
     }
 
     pub(crate) fn another(&mut self, alloc: Global) -> Result<Closing, OutOfMemory>
@@ -51,6 +60,7 @@ impl Closing {
         Ok(Closing {
             closer: self.closer.another(alloc)?,
             stop: self.stop.try_clone()?,
+            bell: self.bell.try_clone()?,
         })
     }
 }
@@ -73,16 +83,26 @@ impl Drop for LastHandle {
     }
 }
 
-/// Refuses where the source is closed: a source that no caller closed ended by itself, which it
-/// does only for want of memory.
-pub(crate) fn check_open(watch: &Watch) -> Result<(), X509SourceError>
-    ensures { IfErr result (λ e. IsTrue (is_unread e)) }
+/// Whether the source is closed. The pass knows the mark from then on, by a note.
+pub(crate) fn look(watch: &Watch, pass: &mut Pass) -> bool
+    ensures looks { LooksAt watch.now pass.old pass.new }
+    ensures closed { SaysClosed watch.now pass.new result }
 {
-    match watch.look() {
+    pass.note(watch.look());
+    pass.closed_by().is_some()
+}
+
+/// Refuses where the source is closed, which the pass then knows: a source that no caller closed
+/// ended by itself, which it does only out of memory.
+pub(crate) fn check_open(watch: &Watch, pass: &mut Pass) -> Result<(), X509SourceError>
+    ensures looks { LooksAt watch.now pass.old pass.new }
+    ensures open { OnOk result (pass.new.closed ≡ None) }
+    ensures cause { IfErr result (HasClosedCause watch.now pass.new) }
+{
+    pass.note(watch.look());
+    match pass.closed_by() {
         None => Ok(()),
-        Some(closed) => match closed.maker() {
-            Maker::Caller => Err(X509SourceError::Closed),
-            Maker::Supervisor => Err(X509SourceError::OutOfMemory),
-        },
+        Some(Maker::Caller) => Err(X509SourceError::Closed),
+        Some(Maker::Supervisor) => Err(X509SourceError::OutOfMemory),
     }
 }

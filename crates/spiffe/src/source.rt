@@ -4,14 +4,15 @@ ghost use Rattle.std.specs.Prelude.{◌≡◌, IfOk, IfErr, IsTrue, OnOk, is_som
 ghost use Rattle.spf_close.specs.declared.maker.Maker.TheVariants as makers;
 ghost use Rattle.spf_feed.specs.States.{ContextAnswer, SvidAnswer};
 ghost use Rattle.spf_board.specs.Passes.{Renews};
+ghost use Rattle.spf_x509_board.specs.Passes.{read_of};
 ghost use Rattle.spf_x509_board.specs.Steps.{Legal};
 ghost use Rattle.spf_x509_board.specs.States.{IsStateOf};
-ghost use Rattle.spiffe.specs.Reads.{BundleAnswer, BundlesAnswer, Gets, IsHealthy, SeesNoLess};
-ghost use Rattle.spiffe.specs.Reads.{Follows, HasPlaceCause, Tries, TriesBundle};
+ghost use Rattle.spiffe.specs.Reads.{BundleAnswer, BundlesAnswer, Gets, IsHealthy, SaysClosed};
+ghost use Rattle.spiffe.specs.Reads.{Follows, HasPlaceCause, SeesNoLess, Tries, TriesBundle};
 
-use crate::closing::{Closing, LastHandle, check_open};
+use crate::closing::{Closing, LastHandle, check_open, look};
 use crate::updates::X509SourceUpdates;
-use spf_close::{Closer, Watch};
+use spf_close::{Bell, Closer, Watch};
 use spf_feed::{X509SourceError, X509SourceState};
 use spf_id::TrustDomain;
 use spf_io::OutOfMemory;
@@ -52,22 +53,24 @@ impl fmt::Debug for X509Source {
 }
 
 impl X509Source {
-    /// A handle of the board of a front, and of the cell that its closer closes.
+    /// A handle of the board of a front, and of the cell that its closer closes. The bell is rung
+    /// at each change.
     pub(crate) fn new(
         alloc: Global,
         front: Front<X509>,
         mut closer: Closer,
         stop: StopFlag,
+        bell: Bell,
     ) -> Result<X509Source, OutOfMemory>
         requires { closer.maker ≡ makers.Caller }
         ensures { IfOk result (λ s. (s.board ≡ front.book) × (s.cell ≡ closer.cell)) }
     {
         let watch = closer.watch()?;
-        let last = Closing::new(closer.another(alloc)?, stop.try_clone()?);
+        let last = Closing::new(closer.another(alloc)?, stop.try_clone()?, bell.try_clone()?);
         Ok(X509Source {
             front,
             watch,
-            closing: Closing::new(closer, stop),
+            closing: Closing::new(closer, stop, bell),
             last: Arc::new(alloc, LastHandle::new(last))?,
             alloc,
         })
@@ -77,39 +80,41 @@ impl X509Source {
     pub fn state(&self, pass: &mut Pass) -> Result<X509SourceState, OutOfMemory>
         requires { pass.old.book ≡ self.now.board }
         ensures state { IfOk result (λ s. IsStateOf pass.new.seen s.closed s) }
-        ensures renews { OnOk result (Renews Legal pass.old pass.new) }
+        ensures closed { IfOk result (λ s. SaysClosed self.now.cell pass.new s.closed) }
+        ensures renews { OnOk result (Renews Legal (read_of pass.old) (read_of pass.new)) }
         ensures pass { SeesNoLess pass.old pass.new }
     {
-        let closed = self.watch.look().is_some();
+        let closed = look(&self.watch, pass);
         pass.state(closed)
     }
 
     /// The context that is held. Closed comes first.
     pub fn x509_context(&self, pass: &mut Pass) -> Result<Arc<X509Context>, X509SourceError>
         requires { pass.old.book ≡ self.now.board }
-        ensures gets { Gets ContextAnswer pass.old pass.new result }
+        ensures gets { Gets ContextAnswer self.now.cell pass.old pass.new result }
         ensures pass { SeesNoLess pass.old pass.new }
     {
-        check_open(&self.watch)?;
-        let state = self.state(pass)?;
+        check_open(&self.watch, pass)?;
+        let state = pass.state(false)?;
         state.context()
     }
 
     /// The chosen SVID, where its expiry is above the moment. Closed comes first.
     pub fn svid(&self, pass: &mut Pass, now: Option<i64>) -> Result<Arc<X509Svid>, X509SourceError>
         requires { pass.old.book ≡ self.now.board }
-        ensures gets { Gets (λ view. SvidAnswer view now) pass.old pass.new result }
+        ensures gets { Gets (λ view. SvidAnswer view now) self.now.cell pass.old pass.new
+            result }
         ensures pass { SeesNoLess pass.old pass.new }
     {
-        check_open(&self.watch)?;
-        let state = self.state(pass)?;
+        check_open(&self.watch, pass)?;
+        let state = pass.state(false)?;
         state.svid(now)
     }
 
     /// The bundles of the held context. Closed comes first.
     pub fn bundle_set(&self, pass: &mut Pass) -> Result<Arc<X509BundleSet>, X509SourceError>
         requires { pass.old.book ≡ self.now.board }
-        ensures gets { Gets BundlesAnswer pass.old pass.new result }
+        ensures gets { Gets BundlesAnswer self.now.cell pass.old pass.new result }
         ensures pass { SeesNoLess pass.old pass.new }
     {
         let context = self.x509_context(pass)?;
@@ -123,7 +128,8 @@ impl X509Source {
         trust_domain: &TrustDomain,
     ) -> Result<Option<Arc<X509Bundle>>, X509SourceError>
         requires { pass.old.book ≡ self.now.board }
-        ensures gets { Gets (λ view. BundleAnswer view trust_domain.now) pass.old pass.new result }
+        ensures gets { Gets (λ view. BundleAnswer view trust_domain.now) self.now.cell pass.old
+            pass.new result }
         ensures pass { SeesNoLess pass.old pass.new }
     {
         let context = self.x509_context(pass)?;
@@ -137,7 +143,8 @@ impl X509Source {
         now: Option<i64>,
     ) -> Result<Option<Arc<X509Svid>>, OutOfMemory>
         requires { pass.old.book ≡ self.now.board }
-        ensures tries { Tries (λ view. SvidAnswer view now) pass.old pass.new result }
+        ensures tries { Tries (λ view. SvidAnswer view now) self.now.cell pass.old pass.new
+            result }
         ensures pass { SeesNoLess pass.old pass.new }
     {
         match self.svid(pass, now) {
@@ -154,7 +161,7 @@ impl X509Source {
         trust_domain: &TrustDomain,
     ) -> Result<Option<Arc<X509Bundle>>, OutOfMemory>
         requires { pass.old.book ≡ self.now.board }
-        ensures tries { TriesBundle trust_domain.now pass.old pass.new result }
+        ensures tries { TriesBundle trust_domain.now self.now.cell pass.old pass.new result }
         ensures pass { SeesNoLess pass.old pass.new }
     {
         match self.bundle_of(pass, trust_domain) {
@@ -168,10 +175,10 @@ impl X509Source {
     /// memory, and the pass keeps nothing of what it reads.
     pub fn is_healthy(&self, pass: &mut Pass, now: Option<i64>) -> bool
         requires { pass.old.book ≡ self.now.board }
-        ensures healthy { IsHealthy now pass.old pass.new result }
+        ensures healthy { IsHealthy now self.now.cell pass.old pass.new result }
         ensures book { pass.new.book ≡ pass.old.book }
     {
-        if self.watch.look().is_some() {
+        if look(&self.watch, pass) {
             return false;
         }
         pass.is_usable(now)
@@ -208,7 +215,8 @@ impl X509Source {
         ensures cause { HasPlaceCause (H.refusals places.old) (H.refusals places.new) result }
     {
         let pass = self.another_pass(giver, places)?;
-        let mut updates = X509SourceUpdates::new(self.watch.try_clone()?, pass);
+        let bell = self.closing.bell()?;
+        let mut updates = X509SourceUpdates::new(self.watch.try_clone()?, pass, bell);
         updates.state()?;
         Ok(updates)
     }

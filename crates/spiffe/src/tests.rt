@@ -1,13 +1,15 @@
 //! A source before and after it is closed.
 
-ghost use Rattle.std.specs.Prelude.{◌≡◌, Some, [], IfOk};
+ghost use Rattle.std.specs.Prelude.{◌≡◌, ◌≢◌, Some, [], IfOk};
+ghost use Rattle.spf_history.specs.Lists.{steps_of};
 ghost use Rattle.spf_feed.specs.Steps.{MayFollow};
 
-use crate::X509Source;
+use crate::{X509Source, X509SourceUpdates};
 use spf_api::context_from;
-use spf_close::closed_cell;
+use spf_close::{Bell, closed_cell};
 use spf_feed::{
-    NoPicker, Prepared, ResourceLimits, Step, X509SourceError, select_svid, validate_limits,
+    Denial, NoPicker, Prepared, Publisher, ResourceLimits, Step, X509SourceError, select_svid,
+    validate_limits,
 };
 use spf_id::TrustDomain;
 use spf_io::OutOfMemory;
@@ -18,6 +20,7 @@ use spf_x509_board::{BoardPlaces, Desk, Pass, RefusingPlaces, open};
 use std::alloc::Global;
 use std::sync::{Arc, Wait};
 use std::test::Fail;
+use std::time::Clock;
 
 /// A step that accepts the context, with its first SVID.
 fn accepting(alloc: Global, context: X509Context) -> Result<Prepared, OutOfMemory>
@@ -87,13 +90,15 @@ fn opened<R: Wait + Drop>(
     rt: R,
     alloc: Global,
 ) -> Result<(X509Source, Pass, Desk<R>, StopFlag), Fail>
-    ensures { IfOk result (λ r. r.1.book ≡ r.0.board) }
+    ensures pass { IfOk result (λ r. r.1.book ≡ r.0.board) }
+    ensures step { IfOk result (λ r. steps_of r.2.list ≢ []) }
 {
     let step = accepting(alloc, first_context(alloc)?)?;
     let (desk, pass) = open(alloc, rt, step)?;
     let (caller, _supervisor, _watch) = closed_cell(alloc)?;
     let stop = StopFlag::new(alloc)?;
-    let source = X509Source::new(alloc, desk.front(), caller, stop.try_clone()?)?;
+    let bell = Bell::new(alloc)?;
+    let source = X509Source::new(alloc, desk.front(), caller, stop.try_clone()?, bell)?;
     Ok((source, pass, desk, stop))
 }
 
@@ -142,6 +147,40 @@ fn updates_of_a_source(rt: HostRuntime) -> Result<(), Fail> {
         .another_pass(&mut pass, &mut RefusingPlaces::new())
         .err();
     assert!(rt; refused == Some(X509SourceError::NoPlace));
+    Ok(())
+}
+
+/// Publishes a denial.
+fn withdraw<R: Wait + Drop>(alloc: Global, desk: &mut Desk<R>) -> Result<(), OutOfMemory>
+    requires { steps_of desk.old.list ≢ [] }
+{
+    let reason = Arc::new(alloc, Denial::NoIdentityIssued)?;
+    desk.publish(Step::Deny { reason })
+}
+
+/// What waits for a revision return: `changed`, and `wait_for` with those from that one on.
+fn awaited<R: Wait + Clock>(
+    rt: &R,
+    updates: &mut X509SourceUpdates,
+    least: u64,
+) -> (Result<u64, X509SourceError>, Result<u64, X509SourceError>) {
+    let taken = updates.wait_for(rt, |revision| *revision >= least);
+    (taken, updates.changed(rt))
+}
+
+/// Waits end at once where there is another revision, or the source is closed.
+#[test]
+fn waits_for_a_change(rt: HostRuntime) -> Result<(), Fail> {
+    let alloc = rt.alloc();
+    let (mut source, mut pass, mut desk, _stop) = opened(rt, alloc)?;
+    let mut updates = source.updated(&mut pass, &mut BoardPlaces::new())?;
+    let mut late = source.updated(&mut pass, &mut BoardPlaces::new())?;
+    withdraw(alloc, &mut desk)?;
+    assert!(rt; awaited(&rt, &mut updates, 1) == (Ok(1), Ok(1)));
+    source.shutdown();
+    let closed = || Err(X509SourceError::Closed);
+    assert!(rt; awaited(&rt, &mut late, 1) == (closed(), Ok(1)));
+    assert!(rt; awaited(&rt, &mut late, 1) == (closed(), closed()));
     Ok(())
 }
 

@@ -1,17 +1,23 @@
 //! What one reader follows of a source: its own pass, and the revision that it has seen.
 
-ghost use Rattle.std.specs.Prelude.{◌≡◌, IfOk, OnErr, OnOk};
+ghost use Rattle.std.specs.Prelude.{◌≡◌, ◌≢◌, ◌⊎◌, true, IfErr, IfOk, MatchOption, OnErr, OnOk};
+ghost use Rattle.std.specs.Fn.{CalledAt};
 ghost use Rattle.spf_board.specs.Passes.{Renews};
+ghost use Rattle.spf_x509_board.specs.Passes.{read_of};
 ghost use Rattle.spf_x509_board.specs.Steps.{Legal};
 ghost use Rattle.spf_x509_board.specs.States.{IsStateOf};
-ghost use Rattle.spiffe.specs.Reads.{IsRevision, SeesNoLess};
+ghost use Rattle.spiffe.specs.Reads.{HasClosedCause, IsRevision, ReadsOn, SaysClosed, SeesNoLess};
+ghost use Rattle.spiffe.specs.Reads.{Stays};
 
-use spf_close::Watch;
-use spf_feed::X509SourceState;
+use crate::closing::{check_open, look};
+use spf_close::{Bell, Watch};
+use spf_feed::{X509SourceError, X509SourceState};
 use spf_io::OutOfMemory;
 use spf_x509_board::Pass;
 use std::fmt;
 use std::marker::Model;
+use std::sync::Wait;
+use std::time::Clock;
 
 /// The updates of a source, read through a pass of their own. One revision is marked as seen.
 #[derive(Drop)]
@@ -19,6 +25,7 @@ pub struct X509SourceUpdates {
     watch: Watch,
     pass: Pass,
     marked: u64,
+    bell: Bell,
 }
 
 impl Model for X509SourceUpdates {
@@ -38,21 +45,84 @@ impl fmt::Debug for X509SourceUpdates {
 /// The revision that is published now.
 fn revision_of(pass: &mut Pass) -> Result<u64, OutOfMemory>
     ensures revision { IfOk result (IsRevision pass.new) }
-    ensures renews { OnOk result (Renews Legal pass.old pass.new) }
+    ensures closed { pass.new.closed ≡ pass.old.closed }
+    ensures renews { OnOk result (Renews Legal (read_of pass.old) (read_of pass.new)) }
     ensures pass { SeesNoLess pass.old pass.new }
 {
     let state = pass.state(false)?;
     Ok(state.revision())
 }
 
+/// The revision that is published now, where it is not the marked one.
+fn unseen(pass: &mut Pass, marked: u64) -> Result<Option<u64>, OutOfMemory>
+    ensures revision { IfOk result (λ r. MatchOption r (IsRevision pass.new marked)
+        (λ revision. IsRevision pass.new revision × (revision ≢ marked))) }
+    ensures closed { pass.new.closed ≡ pass.old.closed }
+    ensures renews { OnOk result (Renews Legal (read_of pass.old) (read_of pass.new)) }
+    ensures pass { SeesNoLess pass.old pass.new }
+{
+    let revision = revision_of(pass)?;
+    if revision == marked {
+        Ok(None)
+    } else {
+        Ok(Some(revision))
+    }
+}
+
+/// One look for a change. That the source is closed counts where nothing else is published than
+/// what is marked.
+fn look_for_change(
+    watch: &Watch,
+    pass: &mut Pass,
+    marked: u64,
+) -> Result<Option<u64>, X509SourceError>
+    ensures revision { IfOk result (λ r. MatchOption r (IsRevision pass.new marked)
+        (λ revision. IsRevision pass.new revision × (revision ≢ marked))) }
+    ensures closed { IfErr result (Stays watch.now marked pass.new) }
+    ensures renews { OnOk result (Renews Legal (read_of pass.old) (read_of pass.new)) }
+    ensures pass { SeesNoLess pass.old pass.new }
+{
+    let open = check_open(watch, pass);
+    if let Some(revision) = unseen(pass, marked)? {
+        return Ok(Some(revision));
+    }
+    open?;
+    Ok(None)
+}
+
+/// Waits until another revision is published than the marked one, or the source is closed.
+fn await_change<R: Wait + Clock>(
+    rt: &R,
+    watch: &Watch,
+    bell: &Bell,
+    pass: &mut Pass,
+    marked: u64,
+) -> Result<u64, X509SourceError>
+    ensures revision { IfOk result (λ revision. IsRevision pass.new revision
+        × (revision ≢ marked)) }
+    ensures closed { IfErr result (Stays watch.now marked pass.new) }
+    ensures reads { OnOk result (ReadsOn pass.old pass.new) }
+    ensures pass { SeesNoLess pass.old pass.new }
+{
+    'looks: for _ in rt.forever() {
+        let rings = bell.now();
+        if let Some(revision) = look_for_change(watch, pass, marked)? {
+            return Ok(revision);
+        }
+        bell.wait_past(rt, rings);
+    }
+    unreachable!()
+}
+
 impl X509SourceUpdates {
-    pub(crate) fn new(watch: Watch, pass: Pass) -> X509SourceUpdates
+    pub(crate) fn new(watch: Watch, pass: Pass, bell: Bell) -> X509SourceUpdates
         ensures { result ≡ record { cell = watch; pass = pass; marked = 0 } }
     {
         X509SourceUpdates {
             watch,
             pass,
             marked: 0,
+            bell,
         }
     }
 
@@ -60,12 +130,14 @@ impl X509SourceUpdates {
     pub fn state(&mut self) -> Result<X509SourceState, OutOfMemory>
         ensures cell { self.new.cell ≡ self.old.cell }
         ensures state { IfOk result (λ s. IsStateOf self.new.pass.seen s.closed s) }
+        ensures closed { IfOk result (λ s. SaysClosed self.old.cell self.new.pass s.closed) }
         ensures marked { IfOk result (λ s. self.new.marked ≡ s.revision) }
         ensures unmarked { OnErr result (self.new.marked ≡ self.old.marked) }
-        ensures renews { OnOk result (Renews Legal self.old.pass self.new.pass) }
+        ensures renews { OnOk result (Renews Legal (read_of self.old.pass)
+            (read_of self.new.pass)) }
         ensures pass { SeesNoLess self.old.pass self.new.pass }
     {
-        let closed = self.watch.look().is_some();
+        let closed = look(&self.watch, &mut self.pass);
         let state = self.pass.state(closed)?;
         self.marked = state.revision();
         Ok(state)
@@ -76,10 +148,73 @@ impl X509SourceUpdates {
         ensures cell { self.new.cell ≡ self.old.cell }
         ensures revision { IfOk result (IsRevision self.new.pass) }
         ensures marked { self.new.marked ≡ self.old.marked }
-        ensures renews { OnOk result (Renews Legal self.old.pass self.new.pass) }
+        ensures renews { OnOk result (Renews Legal (read_of self.old.pass)
+            (read_of self.new.pass)) }
         ensures pass { SeesNoLess self.old.pass self.new.pass }
     {
         revision_of(&mut self.pass)
+    }
+
+    /// Waits until another revision is published than the marked one, which it then marks. Where
+    /// the source is closed there is none: an unseen revision comes first.
+    pub fn changed<R: Wait + Clock>(&mut self, rt: &R) -> Result<u64, X509SourceError>
+        ensures cell { self.new.cell ≡ self.old.cell }
+        ensures revision { IfOk result (λ revision. IsRevision self.new.pass revision
+            × (revision ≢ self.old.marked) × (self.new.marked ≡ revision)) }
+        ensures closed { IfErr result (Stays self.old.cell self.old.marked self.new.pass) }
+        ensures unmarked { OnErr result (self.new.marked ≡ self.old.marked) }
+        ensures reads { OnOk result (ReadsOn self.old.pass self.new.pass) }
+        ensures pass { SeesNoLess self.old.pass self.new.pass }
+    {
+        let revision = await_change(rt, &self.watch, &self.bell, &mut self.pass, self.marked)?;
+        self.marked = revision;
+        Ok(revision)
+    }
+
+    /// The revision that is published now, which is not marked as seen. Closed comes first.
+    fn current(&mut self) -> Result<u64, X509SourceError>
+        ensures cell { self.new.cell ≡ self.old.cell }
+        ensures revision { IfOk result (IsRevision self.new.pass) }
+        ensures marked { self.new.marked ≡ self.old.marked }
+        ensures cause { IfErr result (HasClosedCause self.old.cell self.new.pass) }
+        ensures renews { OnOk result (Renews Legal (read_of self.old.pass)
+            (read_of self.new.pass)) }
+        ensures pass { SeesNoLess self.old.pass self.new.pass }
+    {
+        check_open(&self.watch, &mut self.pass)?;
+        Ok(revision_of(&mut self.pass)?)
+    }
+
+    /// The current revision, not marked as seen, where `f` takes it; otherwise the first one of
+    /// [`X509SourceUpdates::changed`] that `f` takes. Closed comes first.
+    pub fn wait_for<R: Wait + Clock, F: FnMut(&u64) -> bool>(
+        &mut self,
+        rt: &R,
+        f: F,
+    ) -> Result<u64, X509SourceError>
+        requires { F.IsAlwaysCallable f }
+        ensures cell { self.new.cell ≡ self.old.cell }
+        ensures taken { IfOk result (λ revision. (before : F) × (after : F)
+            × CalledAt F.FnMut before revision true after) }
+        ensures revision { IfOk result (IsRevision self.new.pass) }
+        ensures marked { IfOk result (λ revision. (self.new.marked ≡ revision)
+            ⊎ (self.new.marked ≡ self.old.marked)) }
+        ensures cause { IfErr result (HasClosedCause self.old.cell self.new.pass) }
+        ensures reads { OnOk result (ReadsOn self.old.pass self.new.pass) }
+        ensures pass { SeesNoLess self.old.pass self.new.pass }
+    {
+        let mut f = f;
+        let current = self.current()?;
+        if f(&current) {
+            return Ok(current);
+        }
+        'changes: for _ in rt.forever() {
+            let revision = self.changed(rt)?;
+            if f(&revision) {
+                return Ok(revision);
+            }
+        }
+        unreachable!()
     }
 
     /// The pass, with all that it has seen.
@@ -90,6 +225,7 @@ impl X509SourceUpdates {
             watch: _watch,
             pass,
             marked: _,
+            bell: _bell,
         } = self;
         pass
     }
