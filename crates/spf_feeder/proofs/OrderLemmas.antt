@@ -17,14 +17,15 @@ use Rattle.spf_link.specs.declared.connector.Connector as connectors
 use Rattle.spf_link.specs.declared.link.Link as links
 use Rattle.spf_view.specs.Views.{Accepted, Outcome, Passed, Subject, brings, denied_or_passed}
 use Rattle.spf_view.specs.Views.{has_synced, last_moment, outcome, outcomes}
-use Rattle.spf_view.specs.Steps.{steps_back, steps_of, step_in}
+use Rattle.spf_view.specs.Steps.{IsLegal, steps_back, steps_of, step_in}
+use Rattle.spf_view.proofs.EventLemmas.{steps_legal}
 use Rattle.spf_view.proofs.ViewLemmas.{last_first, steps_more}
 use Rattle.spf_feed.specs.declared.event.SessionEvent.TheVariants as events
 use Rattle.spf_feed.specs.declared.phase.Phase.{Phase}
 use Rattle.spf_feed.specs.declared.phase.Phase.TheVariants as phases
 use Rattle.spf_feed.specs.declared.record.MetricsRecord.{MetricsRecord}
 use Rattle.spf_feed.specs.Items.{Event, Rules, context_in, subject}
-use Rattle.spf_feed.specs.Steps.{Accept, Material, PlainStep}
+use Rattle.spf_feed.specs.Steps.{Accept, Material, PlainStep, fits}
 use Rattle.spf_feed.specs.Run.{ask_of, stream}
 use Rattle.spf_pace.specs.declared.pacer.AttemptEnd.{AttemptEnd}
 use Rattle.spf_feeder.specs.Asking.{Asked, Asks, AsksOnce, refused_as}
@@ -32,7 +33,7 @@ use Rattle.spf_feeder.specs.Asking.{told_by_connect, told_by_next, told_by_start
 use Rattle.spf_feeder.specs.Fed.{AsksInVain, Fed, IsIdle, TurnedAway, TurnedOnce, Turns}
 use Rattle.spf_feeder.specs.Asking.{is_client}
 use Rattle.spf_feeder.specs.Orderly.{AddsAnswer, IsAboutToAsk, IsOneStep, IsOpening, IsTimed}
-use Rattle.spf_feeder.specs.Orderly.{ends_with_moment, is_of_client, is_timed}
+use Rattle.spf_feeder.specs.Orderly.{IsSynced, ends_with_moment, is_of_client, is_timed}
 use Rattle.spf_feeder.specs.Orderly.{GoesOn, IsOrderly, MayStand, does_answer, has_moment, is_moment}
 
 -- ---- what is told answers the ask
@@ -313,13 +314,8 @@ ends_not rules (events.Moment m ∷ past) timed synced =
     not_both false true h k = cc
     not_both false false h k = cc
 
--- what stays of a run, newest first, that is synchronised and goes on
-pub record Synced (rules : Rules) (past : List Event) : Type 0 where
-  pub timed : IsTimed rules past
-  pub synced : has_synced (subject rules) past ≡ true
-
 synced_more : (rules : Rules) (past : List Event) (e : Event) → is_moment e ≡ false
-    → Synced rules past → Synced rules (e ∷ past)
+    → IsSynced rules past → IsSynced rules (e ∷ past)
 synced_more rules past e h s = record {
   timed = (
     timed_later e (ends_with_moment past) (has_synced (subject rules) past)
@@ -330,19 +326,19 @@ synced_more rules past e h s = record {
 }
 
 synced_later : (rules : Rules) (run later : List Event) → has_moment later ≡ false
-    → Synced rules (reverse run) → Synced rules (reverse (run ++ later))
-synced_later rules run [] h s = subst (λ l. Synced rules (reverse l)) (sym (append-nil run)) s
+    → IsSynced rules (reverse run) → IsSynced rules (reverse (run ++ later))
+synced_later rules run [] h s = subst (λ l. IsSynced rules (reverse l)) (sym (append-nil run)) s
 synced_later rules run (e ∷ later) h s =
-    let once : Synced rules (reverse (run ++ e ∷ [])) =
-    subst (Synced rules) (sym (last_first run e))
+    let once : IsSynced rules (reverse (run ++ e ∷ [])) =
+    subst (IsSynced rules) (sym (last_first run e))
     (synced_more rules (reverse run) e (first_none e later h) s) in
-    subst (λ l. Synced rules (reverse l)) (append_assoc run (e ∷ []) later)
+    subst (λ l. IsSynced rules (reverse l)) (append_assoc run (e ∷ []) later)
     (synced_later rules (run ++ e ∷ []) later (rest_none e later h) once)
 
 pub synced_on : (rules : Rules) (old new : List Event) → GoesOn old new
-    → Synced rules (reverse old) → Synced rules (reverse new)
+    → IsSynced rules (reverse old) → IsSynced rules (reverse new)
 synced_on rules old new h s =
-    subst (λ l. Synced rules (reverse l)) (sym h.run_is) (synced_later rules old h.later h.timeless s)
+    subst (λ l. IsSynced rules (reverse l)) (sym h.run_is) (synced_later rules old h.later h.timeless s)
 
 -- ---- the first step
 
@@ -385,8 +381,10 @@ first_step rules run run' e is none synced =
     ap (has_synced s) (sym (last_first run e)) ∙ ap (λ l. has_synced s (reverse l)) (sym is) ∙ synced in
     let step = one_step rules past e (brings s (has_synced s past) (last_moment s past) e)
     (has_synced s past) none more in
-    let empty : steps_of s run ≡ [] = ap reverse (no_steps s past none) in (
-      Accept step.0 rules.limits,
-      ap (steps_of s) is ∙ steps_more s run e
-          ∙ (λ i. empty i ++ option_to_list (step_in rules.limits (step.1 i))),
-    )
+    let empty : steps_of s run ≡ [] = ap reverse (no_steps s past none) in
+    let is_one : steps_of s run' ≡ Accept step.0 rules.limits ∷ [] =
+    ap (steps_of s) is ∙ steps_more s run e
+    ∙ (λ i. empty i ++ option_to_list (step_in rules.limits (step.1 i))) in
+    let legal = subst (IsLegal fits) is_one
+    (steps_legal s run' (λ none. let bad : Accept step.0 rules.limits ∷ [] ≡ [] = sym is_one ∙ none in cc)) in
+    (Accept step.0 rules.limits, is_one, legal.each.0)

@@ -1,13 +1,13 @@
 -- What the events of a feeder are: each is what the ask before it tells, or a moment, and none is
 -- terminal.
-use Rattle.std.specs.Prelude.{◌≡◌, Bool, true, false, not, ◌||◌, ◌&&◌, if◌then◌else◌, List, [], ◌∷◌, ◌++◌, None, reverse}
+use Rattle.std.specs.Prelude.{◌≡◌, Bool, true, false, not, ◌||◌, ◌&&◌, if◌then◌else◌, List, [], ◌∷◌, ◌++◌, None, Some, reverse}
 use Rattle.spf_view.specs.Views.{has_synced}
 use Rattle.spf_feed.specs.declared.event.SessionEvent.TheVariants as events
 use Rattle.spf_feed.specs.declared.phase.Phase.{Phase}
 use Rattle.spf_feed.specs.declared.phase.Phase.TheVariants as phases
 use Rattle.spf_feed.specs.Items.{Event, Rules, context_in, subject}
 use Rattle.spf_feed.specs.Run.{ask_of, stream}
-use Rattle.spf_feed.specs.Steps.{PlainStep}
+use Rattle.spf_feed.specs.Steps.{MayFollow, PlainStep}
 use Rattle.spf_feeder.specs.Asking.{is_client}
 
 abbrev pub is_moment : Event → Bool
@@ -92,6 +92,11 @@ pub record IsAboutToAsk (rules : Rules) (run : List Event) : Type 0 where
   pub unsynced : has_synced (subject rules) (reverse run) ≡ false
   pub ends : ends_with_moment (reverse run) ≡ is_client (ask_of context_in rules (reverse run))
 
--- there is exactly one step
+-- something is accepted, and the moments before it stand where they should; the newest first
+pub record IsSynced (rules : Rules) (past : List Event) : Type 0 where
+  pub timed : IsTimed rules past
+  pub synced : has_synced (subject rules) past ≡ true
+
+-- there is exactly one step, which may be the first of all
 abbrev pub IsOneStep : List PlainStep → Type 0
-IsOneStep steps = (step : PlainStep) × (steps ≡ step ∷ [])
+IsOneStep steps = (step : PlainStep) × (steps ≡ step ∷ []) × MayFollow (Some []) step
