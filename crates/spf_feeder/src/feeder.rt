@@ -231,6 +231,15 @@ where
         self.session.picker()
     }
 
+    /// The publisher, which has exactly the steps of the run.
+    pub fn publisher(&self) -> &P
+        ensures publisher { result.now ≡ self.now.core.publisher }
+        ensures published { Published (P.steps self.now.core.publisher)
+            (rules_by K.picks self.now.core.settings self.now.core.picker) self.now.core.run }
+    {
+        self.session.publisher()
+    }
+
     /// The same with another publisher, which has published the same steps, and the publisher
     /// until now.
     pub fn with_publisher<Q: Publisher + Drop>(self, publisher: Q) -> (Feeder<C, Q, M, K>, P)

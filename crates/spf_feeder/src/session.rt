@@ -223,6 +223,15 @@ impl<P: Publisher + Drop, M: MetricsRecorder + Drop, K: SvidPicker + Drop> Sessi
         &self.picker
     }
 
+    /// The publisher, which has exactly the steps of the run.
+    pub(crate) fn publisher(&self) -> &P
+        ensures publisher { result.now ≡ self.now.publisher }
+        ensures published { Published (P.steps self.now.publisher)
+            (rules_by K.picks self.now.settings self.now.picker) self.now.run }
+    {
+        &self.publisher
+    }
+
     /// The same with another publisher, which has published the same steps, and the publisher
     /// until now.
     pub(crate) fn with_publisher<Q: Publisher + Drop>(self, publisher: Q) -> (Session<Q, M, K>, P)
