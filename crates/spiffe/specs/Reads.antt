@@ -1,5 +1,5 @@
 -- What the calls of a source return, and what they do to the pass that they are lent.
-use Rattle.std.specs.Prelude.{◌≡◌, ◌≢◌, ◌⊎◌, ◌≤◌, ℕ, ℤ, Bool, true, false, List, Option, Some, None}
+use Rattle.std.specs.Prelude.{◌≡◌, ◌≢◌, ◌⊎◌, ◌≤◌, ℕ, ℤ, Bool, false, List, Option, Some, None}
 use Rattle.std.specs.Prelude.{Result, Ok, Err, IfSome, IsSomeAnd, is_some}
 use Rattle.std.specs.Option.{option_map, option_and_then}
 use Rattle.std.specs.Arc.{arc_value}
@@ -13,7 +13,7 @@ use Rattle.spf_feed.specs.declared.step.Denial.{Denial}
 use Rattle.spf_feed.specs.Steps.{StateView, View, Material, held_in, reason_of}
 use Rattle.spf_io.specs.declared.memory.OutOfMemory.{OutOfMemory}
 use Rattle.spf_board.specs.Passes.{Peeks, Renews, Rose}
-use Rattle.spf_close.specs.Marks.{Held, held}
+use Rattle.spf_close.specs.Marks.{held}
 use Rattle.spf_close.specs.declared.maker.Maker.TheVariants as makers
 use Rattle.spf_x509_board.specs.Passes.{PassView, read_of}
 use Rattle.spf_x509_board.specs.Steps.{Legal, Replays, is_usable}
