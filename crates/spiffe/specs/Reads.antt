@@ -135,12 +135,13 @@ pub record ReadsOn (old new : PassView) : Type 0 where
   pub seen : SeesNoLess old between
   pub renews : Renews Legal (read_of between) (read_of new)
 
--- Why a wait for another revision than this one ends without it: a caller closed the cell, while
--- this one is published, or memory ran out.
-abbrev pub Stays : ℕ → ℕ → PassView → X509SourceError → Type 0
-Stays cell revision pass errors.Closed = IsClosedByCaller cell pass × IsRevision pass revision
-Stays cell revision pass errors.OutOfMemory = Unit {0}
-Stays cell revision pass _ = ⊥
+-- Why a wait for another revision than this one ends without it: a caller closed the cell, and this
+-- one was read even so; or memory ran out.
+abbrev pub Stays : ℕ → ℕ → PassView → PassView → X509SourceError → Type 0
+Stays cell revision old new errors.Closed =
+    IsClosedByCaller cell new × IsRevision new revision × ReadsOn old new
+Stays cell revision old new errors.OutOfMemory = Unit {0}
+Stays cell revision old new _ = ⊥
 
 -- Updates of a source: their pass is of its board and has seen at least what the giver has seen,
 -- and the revision of what it has read is marked as seen.
