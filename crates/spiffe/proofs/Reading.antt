@@ -1,8 +1,10 @@
 -- Reads one after another.
-use Rattle.std.proofs.Common.{◌∙◌}
+use Rattle.std.proofs.Common.{◌≡◌, ℕ, ◌∙◌}
+use Rattle.spf_feed.specs.declared.state.X509SourceError.{X509SourceError}
+use Rattle.spf_feed.specs.declared.state.X509SourceError.TheVariants as errors
 use Rattle.spf_history.proofs.Prefixes.{begins_trans}
 use Rattle.spf_x509_board.specs.Passes.{PassView}
-use Rattle.spiffe.specs.Reads.{ReadsOn, SeesNoLess}
+use Rattle.spiffe.specs.Reads.{HasClosedCause, IsRevision, ReadsOn, SeesNoLess, Stays}
 
 pub sees_on : (old mid new : PassView) → SeesNoLess old mid → SeesNoLess mid new
     → SeesNoLess old new
@@ -18,3 +20,19 @@ reads_later old mid new before after = record {
   seen = sees_on old mid after.between before after.seen;
   renews = after.renews;
 }
+
+pub stays_later : (cell revision : ℕ) (old mid new : PassView) (e : X509SourceError)
+    → SeesNoLess old mid → Stays cell revision mid new e → Stays cell revision old new e
+stays_later cell revision old mid new errors.Closed before stays =
+    (stays.0, stays.1, reads_later old mid new before stays.2)
+stays_later cell revision old mid new errors.OutOfMemory before stays = tt
+stays_later cell revision old mid new _ before stays = absurd stays
+
+-- what was known before the read is known after it
+pub stays_known : (cell revision : ℕ) (old mid new : PassView) (e : X509SourceError)
+    → HasClosedCause cell mid e → new.closed ≡ mid.closed → IsRevision new revision
+    → ReadsOn old new → Stays cell revision old new e
+stays_known cell revision old mid new errors.Closed cause same read reads =
+    (same ∙ cause, read, reads)
+stays_known cell revision old mid new errors.OutOfMemory cause same read reads = tt
+stays_known cell revision old mid new _ cause same read reads = absurd cause

@@ -1,5 +1,5 @@
 -- What the calls of a source return, and what they do to the pass that they are lent.
-use Rattle.std.specs.Prelude.{◌≡◌, ◌≢◌, ◌⊎◌, ◌≤◌, ℕ, ℤ, Bool, true, false, List, Option, Some, None}
+use Rattle.std.specs.Prelude.{◌≡◌, ◌≢◌, ◌⊎◌, ◌≤◌, ℕ, ℤ, Bool, false, List, Option, Some, None}
 use Rattle.std.specs.Prelude.{Result, Ok, Err, IfSome, IsSomeAnd, is_some}
 use Rattle.std.specs.Option.{option_map, option_and_then}
 use Rattle.std.specs.Arc.{arc_value}
@@ -13,7 +13,7 @@ use Rattle.spf_feed.specs.declared.step.Denial.{Denial}
 use Rattle.spf_feed.specs.Steps.{StateView, View, Material, held_in, reason_of}
 use Rattle.spf_io.specs.declared.memory.OutOfMemory.{OutOfMemory}
 use Rattle.spf_board.specs.Passes.{Peeks, Renews, Rose}
-use Rattle.spf_close.specs.Marks.{Held, held}
+use Rattle.spf_close.specs.Marks.{held}
 use Rattle.spf_close.specs.declared.maker.Maker.TheVariants as makers
 use Rattle.spf_x509_board.specs.Passes.{PassView, read_of}
 use Rattle.spf_x509_board.specs.Steps.{Legal, Replays, is_usable}
@@ -135,12 +135,13 @@ pub record ReadsOn (old new : PassView) : Type 0 where
   pub seen : SeesNoLess old between
   pub renews : Renews Legal (read_of between) (read_of new)
 
--- Why a wait for another revision than this one ends without it: a caller closed the cell, while
--- this one is published, or memory ran out.
-abbrev pub Stays : ℕ → ℕ → PassView → X509SourceError → Type 0
-Stays cell revision pass errors.Closed = IsClosedByCaller cell pass × IsRevision pass revision
-Stays cell revision pass errors.OutOfMemory = Unit {0}
-Stays cell revision pass _ = ⊥
+-- Why a wait for another revision than this one ends without it: a caller closed the cell, and this
+-- one was read even so; or memory ran out.
+abbrev pub Stays : ℕ → ℕ → PassView → PassView → X509SourceError → Type 0
+Stays cell revision old new errors.Closed =
+    IsClosedByCaller cell new × IsRevision new revision × ReadsOn old new
+Stays cell revision old new errors.OutOfMemory = Unit {0}
+Stays cell revision old new _ = ⊥
 
 -- Updates of a source: their pass is of its board and has seen at least what the giver has seen,
 -- and the revision of what it has read is marked as seen.

@@ -1,6 +1,6 @@
 //! A handle of a live source of X.509 identities.
 
-ghost use Rattle.std.specs.Prelude.{◌≡◌, IfOk, IfErr, IsTrue, OnOk, is_some};
+ghost use Rattle.std.specs.Prelude.{◌≡◌, IfOk, OnOk};
 ghost use Rattle.spf_close.specs.declared.maker.Maker.TheVariants as makers;
 ghost use Rattle.spf_feed.specs.States.{ContextAnswer, SvidAnswer};
 ghost use Rattle.spf_board.specs.Passes.{Renews};

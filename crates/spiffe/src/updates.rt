@@ -78,7 +78,7 @@ fn look_for_change(
 ) -> Result<Option<u64>, X509SourceError>
     ensures revision { IfOk result (λ r. MatchOption r (IsRevision pass.new marked)
         (λ revision. IsRevision pass.new revision × (revision ≢ marked))) }
-    ensures closed { IfErr result (Stays watch.now marked pass.new) }
+    ensures closed { IfErr result (Stays watch.now marked pass.old pass.new) }
     ensures renews { OnOk result (Renews Legal (read_of pass.old) (read_of pass.new)) }
     ensures pass { SeesNoLess pass.old pass.new }
 {
@@ -100,7 +100,7 @@ fn await_change<R: Wait + Clock>(
 ) -> Result<u64, X509SourceError>
     ensures revision { IfOk result (λ revision. IsRevision pass.new revision
         × (revision ≢ marked)) }
-    ensures closed { IfErr result (Stays watch.now marked pass.new) }
+    ensures closed { IfErr result (Stays watch.now marked pass.old pass.new) }
     ensures reads { OnOk result (ReadsOn pass.old pass.new) }
     ensures pass { SeesNoLess pass.old pass.new }
 {
@@ -161,7 +161,8 @@ impl X509SourceUpdates {
         ensures cell { self.new.cell ≡ self.old.cell }
         ensures revision { IfOk result (λ revision. IsRevision self.new.pass revision
             × (revision ≢ self.old.marked) × (self.new.marked ≡ revision)) }
-        ensures closed { IfErr result (Stays self.old.cell self.old.marked self.new.pass) }
+        ensures closed { IfErr result (Stays self.old.cell self.old.marked self.old.pass
+            self.new.pass) }
         ensures unmarked { OnErr result (self.new.marked ≡ self.old.marked) }
         ensures reads { OnOk result (ReadsOn self.old.pass self.new.pass) }
         ensures pass { SeesNoLess self.old.pass self.new.pass }
