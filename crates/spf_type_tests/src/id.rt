@@ -1,5 +1,6 @@
 //! Trust domains and SPIFFE IDs.
 
+use crate::shown::{has_text, is_same};
 use spf_id::{SpiffeId, SpiffeIdError, TrustDomain, uri_has_spiffe_scheme};
 use std::alloc::Global;
 use std::test::Fail;
@@ -13,29 +14,21 @@ fn is_refused(alloc: Global, text: &str, error: SpiffeIdError) -> bool {
 }
 
 /// Texts that are no IDs, and the first rule that each breaks.
+const BROKEN_IDS: [(&str, SpiffeIdError); 7] = [
+    ("", SpiffeIdError::Empty),
+    ("spiffe://example.org/", SpiffeIdError::TrailingSlash),
+    ("spiffe://example.org//a", SpiffeIdError::EmptySegment),
+    ("spiffe://example.org/..", SpiffeIdError::DotSegment),
+    ("spiffe://example.org/a b", SpiffeIdError::BadPathChar),
+    ("SPIFFE://example.org/w", SpiffeIdError::WrongScheme),
+    ("spiffe:///w", SpiffeIdError::MissingTrustDomain),
+];
+
 #[test]
-fn broken_ids(rt: HostRuntime) -> Result<(), Fail> {
-    let alloc = rt.alloc();
-    assert!(rt; is_refused(alloc, "", SpiffeIdError::Empty));
-    assert!(rt; is_refused(alloc, "spiffe://example.org/", SpiffeIdError::TrailingSlash));
-    assert!(rt;
-        is_refused(
-            alloc,
-            "spiffe://example.org//a",
-            SpiffeIdError::EmptySegment
-        )
-    );
-    assert!(rt; is_refused(alloc, "spiffe://example.org/..", SpiffeIdError::DotSegment));
-    assert!(rt;
-        is_refused(
-            alloc,
-            "spiffe://example.org/a b",
-            SpiffeIdError::BadPathChar
-        )
-    );
-    assert!(rt; is_refused(alloc, "SPIFFE://example.org/w", SpiffeIdError::WrongScheme));
-    assert!(rt; is_refused(alloc, "spiffe:///w", SpiffeIdError::MissingTrustDomain));
-    Ok(())
+fn broken_ids(rt: HostRuntime) {
+    for (text, error) in BROKEN_IDS {
+        assert!(rt; is_refused(rt.alloc(), text, error), "{text}");
+    }
 }
 
 /// `start` and then as many octets `x` as make `length`.
@@ -47,115 +40,114 @@ fn filled(alloc: Global, start: &str, length: usize) -> Result<String, Fail> {
     Ok(text)
 }
 
+/// How an ID of that length is refused; none where it is taken.
+fn id_refusal(alloc: Global, length: usize) -> Result<Option<SpiffeIdError>, Fail> {
+    let text = filled(alloc, "spiffe://example.org/", length)?;
+    Ok(SpiffeId::new(alloc, text.as_str()).err())
+}
+
 /// The longest ID is taken, and one octet more is refused.
 #[test]
 fn id_lengths(rt: HostRuntime) -> Result<(), Fail> {
-    let alloc = rt.alloc();
-    let longest = filled(alloc, "spiffe://example.org/", 2048)?;
-    assert!(rt; SpiffeId::new(alloc, longest.as_str()).is_ok());
-    let longer = filled(alloc, "spiffe://example.org/", 2049)?;
-    assert!(rt; is_refused(alloc, longer.as_str(), SpiffeIdError::TooLong));
+    assert!(rt; id_refusal(rt.alloc(), 2048)?.is_none());
+    assert!(rt; id_refusal(rt.alloc(), 2049)? == Some(SpiffeIdError::TooLong));
     Ok(())
 }
 
-/// Whether a text is refused as a trust domain with that error.
-fn is_refused_domain(alloc: Global, text: &str, error: SpiffeIdError) -> bool {
-    TrustDomain::new(alloc, text).err() == Some(error)
+/// How a trust domain of that length is refused; none where it is taken.
+fn domain_refusal(alloc: Global, length: usize) -> Result<Option<SpiffeIdError>, Fail> {
+    let text = filled(alloc, "", length)?;
+    Ok(TrustDomain::new(alloc, text.as_str()).err())
 }
 
 /// The longest trust domain is taken, and one octet more is refused.
 #[test]
 fn trust_domain_lengths(rt: HostRuntime) -> Result<(), Fail> {
-    let alloc = rt.alloc();
-    let longest = filled(alloc, "", 255)?;
-    assert!(rt; TrustDomain::new(alloc, longest.as_str()).is_ok());
-    let longer = filled(alloc, "", 256)?;
-    assert!(rt; is_refused_domain(alloc, longer.as_str(), SpiffeIdError::TrustDomainTooLong));
+    assert!(rt; domain_refusal(rt.alloc(), 255)?.is_none());
+    assert!(rt; domain_refusal(rt.alloc(), 256)? == Some(SpiffeIdError::TrustDomainTooLong));
     Ok(())
+}
+
+/// Whether the text makes the same trust domain where it is owned.
+fn is_owned_as(alloc: Global, text: &str, domain: &TrustDomain) -> Result<bool, Fail> {
+    let text = String::from_str(alloc, text)?;
+    Ok(is_same(TrustDomain::try_from_owned(alloc, text), domain))
 }
 
 #[test]
 fn trust_domain(rt: HostRuntime) -> Result<(), Fail> {
     let alloc = rt.alloc();
     let other = TrustDomain::new(alloc, "spiffe://other.org")?;
-    assert_eq!(rt; other.as_str(), "other.org");
-    let same = TrustDomain::try_from_owned(alloc, String::from_str(alloc, "other.org")?)?;
-    assert!(rt; same == other);
-    let shown = format!(in alloc; "{}", other.try_clone(alloc)?)?;
-    assert_eq!(rt; shown.as_str(), "other.org");
+    assert!(rt; other.as_str() == "other.org");
+    assert!(rt; is_owned_as(alloc, "other.org", &other)?);
+    assert!(rt; is_same(other.try_clone(alloc), &other));
+    assert!(rt; has_text(alloc, &other, "other.org"));
     Ok(())
 }
 
 #[test]
-fn broken_trust_domains(rt: HostRuntime) -> Result<(), Fail> {
+fn broken_trust_domains(rt: HostRuntime) {
     let alloc = rt.alloc();
     let upper = TrustDomain::try_from(alloc, "Example.org").err();
     assert!(rt; upper == Some(SpiffeIdError::BadTrustDomainChar));
     let empty = TrustDomain::from_str(alloc, "").err();
     assert!(rt; empty == Some(SpiffeIdError::Empty));
-    assert!(rt; is_refused_domain(alloc, "a:/b", SpiffeIdError::WrongScheme));
-    Ok(())
+    let colon = TrustDomain::new(alloc, "a:/b").err();
+    assert!(rt; colon == Some(SpiffeIdError::WrongScheme));
 }
 
 #[test]
 fn spiffe_id(rt: HostRuntime) -> Result<(), Fail> {
     let alloc = rt.alloc();
     let id = SpiffeId::new(alloc, "spiffe://example.org/w")?;
-    assert_eq!(rt; id.path(), "/w");
-    assert_eq!(rt; id.trust_domain().as_str(), "example.org");
-    assert_eq!(rt; id.as_str(), "spiffe://example.org/w");
-    assert!(rt; id.try_clone(alloc)? == SpiffeId::from_str(alloc, "spiffe://example.org/w")?);
-    assert!(rt; id > SpiffeId::try_from(alloc, "spiffe://example.org")?);
+    assert!(rt; id.path() == "/w");
+    assert!(rt; id.trust_domain().as_str() == "example.org");
+    assert!(rt; id.as_str() == "spiffe://example.org/w");
+    assert!(rt; is_same(SpiffeId::from_str(alloc, "spiffe://example.org/w"), &id));
+    assert!(rt; is_same(id.try_clone(alloc), &id));
     shared(&id);
     shared(&SpiffeIdError::Empty);
     Ok(())
 }
 
+/// Whether the one text is of the greater ID.
+fn is_greater(alloc: Global, greater: &str, less: &str) -> Result<bool, Fail> {
+    let greater = SpiffeId::new(alloc, greater)?;
+    let less = SpiffeId::try_from(alloc, less)?;
+    Ok(greater > less)
+}
+
 #[test]
-fn spiffe_scheme(rt: HostRuntime) -> Result<(), Fail> {
+fn ids_are_ordered(rt: HostRuntime) -> Result<(), Fail> {
+    assert!(rt; is_greater(rt.alloc(), "spiffe://example.org/w", "spiffe://example.org")?);
+    Ok(())
+}
+
+#[test]
+fn spiffe_scheme(rt: HostRuntime) {
     assert!(rt; uri_has_spiffe_scheme("SpIfFe:x"));
     assert!(rt; !uri_has_spiffe_scheme("https://a"));
     assert!(rt; !uri_has_spiffe_scheme("spiffe"));
-    Ok(())
 }
 
-/// Whether an error is written as that text.
-fn is_written(alloc: Global, error: SpiffeIdError, text: &str) -> Result<bool, Fail> {
-    Ok(format!(in alloc; "{error}")?.as_str() == text)
-}
+const ERROR_TEXTS: [(SpiffeIdError, &str); 11] = [
+    (SpiffeIdError::Empty, "Empty"),
+    (SpiffeIdError::TooLong, "TooLong"),
+    (SpiffeIdError::WrongScheme, "WrongScheme"),
+    (SpiffeIdError::MissingTrustDomain, "MissingTrustDomain"),
+    (SpiffeIdError::TrustDomainTooLong, "TrustDomainTooLong"),
+    (SpiffeIdError::BadTrustDomainChar, "BadTrustDomainChar"),
+    (SpiffeIdError::EmptySegment, "EmptySegment"),
+    (SpiffeIdError::DotSegment, "DotSegment"),
+    (SpiffeIdError::BadPathChar, "BadPathChar"),
+    (SpiffeIdError::TrailingSlash, "TrailingSlash"),
+    (SpiffeIdError::OutOfMemory, "out of memory"),
+];
 
 /// The text of each error.
 #[test]
-fn error_texts(rt: HostRuntime) -> Result<(), Fail> {
-    let alloc = rt.alloc();
-    assert!(rt; is_written(alloc, SpiffeIdError::Empty, "Empty")?);
-    assert!(rt; is_written(alloc, SpiffeIdError::TooLong, "TooLong")?);
-    assert!(rt; is_written(alloc, SpiffeIdError::WrongScheme, "WrongScheme")?);
-    assert!(rt;
-        is_written(
-            alloc,
-            SpiffeIdError::MissingTrustDomain,
-            "MissingTrustDomain"
-        )?
-    );
-    assert!(rt;
-        is_written(
-            alloc,
-            SpiffeIdError::TrustDomainTooLong,
-            "TrustDomainTooLong"
-        )?
-    );
-    assert!(rt;
-        is_written(
-            alloc,
-            SpiffeIdError::BadTrustDomainChar,
-            "BadTrustDomainChar"
-        )?
-    );
-    assert!(rt; is_written(alloc, SpiffeIdError::EmptySegment, "EmptySegment")?);
-    assert!(rt; is_written(alloc, SpiffeIdError::DotSegment, "DotSegment")?);
-    assert!(rt; is_written(alloc, SpiffeIdError::BadPathChar, "BadPathChar")?);
-    assert!(rt; is_written(alloc, SpiffeIdError::TrailingSlash, "TrailingSlash")?);
-    assert!(rt; is_written(alloc, SpiffeIdError::OutOfMemory, "out of memory")?);
-    Ok(())
+fn error_texts(rt: HostRuntime) {
+    for (error, text) in ERROR_TEXTS {
+        assert!(rt; has_text(rt.alloc(), &error, text), "{text}");
+    }
 }

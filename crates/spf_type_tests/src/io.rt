@@ -1,47 +1,68 @@
 //! Sources, sinks and small values.
 ghost use Rattle.std.specs.Prelude.{◌≡◌};
 
+use crate::shown::{has_text, is_same};
 use spf_io::{
     Bytes, Failed, List, MemSink, MemSource, OutOfMemory, Sink, Source, StdSink, StdSource, Text,
 };
+use std::alloc::Global;
 use std::io::{self, ErrorKind, Read};
 use std::test::Fail;
+
+/// Four octets, of which the first read gives at most one and
+/// the second, cut to 0, one too, while the third read fails.
+fn source(alloc: Global) -> Result<MemSource, Fail> {
+    let bytes = [1, 2, 3, 4].to_vec(alloc)?;
+    let cuts = [1, 0].to_vec(alloc)?;
+    let failing = [3].to_vec(alloc)?;
+    Ok(MemSource::new(bytes, cuts, failing))
+}
+
+/// What reads return, and what the buffer then begins with.
+const READS: [(Result<usize, Failed>, u8); 5] = [
+    (Ok(1), 1),
+    (Ok(1), 2),
+    (Err(Failed), 2),
+    (Ok(2), 3),
+    (Ok(0), 3),
+];
 
 /// A cut of 0 counts as 1, the third read fails and loses
 /// nothing, and after the cuts any number is given.
 #[test]
 fn memory_source(rt: HostRuntime) -> Result<(), Fail> {
-    let alloc = rt.alloc();
-    let bytes = [1, 2, 3, 4].to_vec(alloc)?;
-    let mut source = MemSource::new(bytes, [1, 0].to_vec(alloc)?, [3].to_vec(alloc)?);
+    let mut source = source(rt.alloc())?;
     let mut buf = [0; 8];
-    for (result, first) in [
-        (Ok(1), 1),
-        (Ok(1), 2),
-        (Err(Failed), 2),
-        (Ok(2), 3),
-        (Ok(0), 3),
-    ] {
-        assert_eq!(rt; source.read(&mut buf), result);
-        assert_eq!(rt; buf[0], first);
+    for (result, first) in READS {
+        assert!(rt; source.read(&mut buf) == result);
+        assert!(rt; buf[0] == first);
     }
-    assert_eq!(rt; buf[1], 4);
+    assert!(rt; buf[1] == 4);
     Ok(())
 }
+
+/// A sink of three octets, whose second put fails.
+fn sink(alloc: Global) -> Result<MemSink, Fail> {
+    let failing = [2].to_vec(alloc)?;
+    Ok(MemSink::new(alloc, 3, failing)?)
+}
+
+/// Pieces that are put, and what that returns.
+const PUTS: [(&str, Result<(), Failed>); 4] = [
+    ("ab", Ok(())),
+    ("c", Err(Failed)),
+    ("cd", Err(Failed)),
+    ("c", Ok(())),
+];
 
 /// The second put fails, the third does not fit, and neither leaves anything.
 #[test]
 fn memory_sink(rt: HostRuntime) -> Result<(), Fail> {
-    let mut sink = MemSink::new(rt.alloc(), 3, [2].to_vec(rt.alloc())?)?;
-    for (piece, result) in [
-        ("ab", Ok(())),
-        ("c", Err(Failed)),
-        ("cd", Err(Failed)),
-        ("c", Ok(())),
-    ] {
-        assert_eq!(rt; sink.put(piece.as_bytes()), result, "{piece}");
+    let mut sink = sink(rt.alloc())?;
+    for (piece, result) in PUTS {
+        assert!(rt; sink.put(piece.as_bytes()) == result, "{piece}");
     }
-    assert_eq!(rt; sink.bytes(), b"abc".as_slice());
+    assert!(rt; sink.bytes() == b"abc".as_slice());
     Ok(())
 }
 
@@ -55,43 +76,85 @@ impl Read for BrokenReader {
     }
 }
 
-/// The adapters over a reader and a writer of std: all bytes
-/// pass, and a writer that takes nothing is a failure.
+/// What reads of the octets `abc` return, and what the buffer then holds.
+const ADAPTER_READS: [(Result<usize, Failed>, [u8; 2]); 3] = [
+    (Ok(2), *b"ab"),
+    (Ok(1), *b"cb"),
+    (Ok(0), *b"cb"),
+];
+
+/// The adapter over a reader of std: all bytes pass, and a failure is one.
 #[test]
-fn adapters(rt: HostRuntime) -> Result<(), Fail> {
+fn reader(rt: HostRuntime) {
     let mut source = StdSource::new(b"abc".as_slice());
     let mut buf = [0; 2];
-    assert_eq!(rt; source.read(&mut buf), Ok(2));
-    assert_eq!(rt; buf.as_slice(), b"ab".as_slice());
-    assert_eq!(rt; source.read(&mut buf), Ok(1));
-    assert_eq!(rt; buf.as_slice(), b"cb".as_slice());
-    assert_eq!(rt; source.read(&mut buf), Ok(0));
-    assert_eq!(rt; StdSource::new(BrokenReader).read(&mut buf), Err(Failed));
+    for (result, held) in ADAPTER_READS {
+        assert!(rt; source.read(&mut buf) == result);
+        assert!(rt; buf == held);
+    }
+    let mut broken = StdSource::new(BrokenReader);
+    assert!(rt; broken.read(&mut buf) == Err(Failed));
+}
+
+/// The adapter over a writer of std: all bytes pass, and
+/// a writer that takes nothing is a failure.
+#[test]
+fn writer(rt: HostRuntime) {
     let mut written = Vec::new(rt.alloc());
-    assert_eq!(rt; StdSink::new(&mut written).put(b"abc"), Ok(()));
-    assert_eq!(rt; written.as_slice(), b"abc".as_slice());
+    assert!(rt; StdSink::new(&mut written).put(b"abc") == Ok(()));
+    assert!(rt; written.as_slice() == b"abc".as_slice());
     let mut room = [0; 2];
-    assert_eq!(rt; StdSink::new(room.as_mut_slice()).put(b"abc"), Err(Failed));
-    assert_eq!(rt; room.as_slice(), b"ab".as_slice());
+    assert!(rt; StdSink::new(room.as_mut_slice()).put(b"abc") == Err(Failed));
+    assert!(rt; room == *b"ab");
+}
+
+/// Whether what the text is made of makes the same text.
+fn is_made_again(text: Text, wanted: &Text) -> bool {
+    let again = Text::new(text.into_string());
+    again == *wanted
+}
+
+#[test]
+fn texts(rt: HostRuntime) -> Result<(), Fail> {
+    let alloc = rt.alloc();
+    let text = Text::copy_of(alloc, "a")?;
+    let greater = Text::copy_of(alloc, "b")?;
+    assert!(rt; is_same(text.try_clone(alloc), &text));
+    assert!(rt; text < greater);
+    assert!(rt; is_made_again(Text::copy_of(alloc, "a")?, &text));
     Ok(())
 }
 
 #[test]
-fn values(rt: HostRuntime) -> Result<(), Fail> {
+fn bytes(rt: HostRuntime) -> Result<(), Fail> {
     let alloc = rt.alloc();
-    let text = Text::copy_of(alloc, "a")?;
-    assert!(rt; text.try_clone(alloc)? == text);
-    assert!(rt; Text::new(text.try_clone(alloc)?.into_string()) == text);
-    assert!(rt; text < Text::copy_of(alloc, "b")?);
     let bytes = Bytes::copy_of(alloc, b"a")?;
-    assert!(rt; bytes.try_clone(alloc)? == bytes);
-    assert!(rt; bytes != Bytes::copy_of(alloc, b"b")?);
-    assert_eq!(rt; bytes.into_vec().as_slice(), b"a".as_slice());
-    let list = List::new(vec![in alloc; text]?);
-    assert!(rt; list == List::new(vec![in alloc; Text::copy_of(alloc, "a")?]?));
-    assert_eq!(rt; list.as_slice().len(), 1);
-    assert_eq!(rt; list.into_vec().len(), 1);
-    let shown = format!(in alloc; "{OutOfMemory}, {Failed}")?;
-    assert_eq!(rt; shown.as_str(), "out of memory, failed");
+    let other = Bytes::copy_of(alloc, b"b")?;
+    assert!(rt; is_same(bytes.try_clone(alloc), &bytes));
+    assert!(rt; bytes != other);
+    assert!(rt; bytes.into_vec().as_slice() == b"a".as_slice());
     Ok(())
+}
+
+/// A list of one text.
+fn list(alloc: Global) -> Result<List<Text>, OutOfMemory> {
+    let text = Text::copy_of(alloc, "a")?;
+    let mut texts = Vec::new(alloc);
+    texts.push(text)?;
+    Ok(List::new(texts))
+}
+
+#[test]
+fn lists(rt: HostRuntime) -> Result<(), Fail> {
+    let first = list(rt.alloc())?;
+    assert!(rt; is_same(list(rt.alloc()), &first));
+    assert!(rt; first.as_slice().len() == 1);
+    assert!(rt; first.into_vec().len() == 1);
+    Ok(())
+}
+
+#[test]
+fn error_texts(rt: HostRuntime) {
+    assert!(rt; has_text(rt.alloc(), &OutOfMemory, "out of memory"));
+    assert!(rt; has_text(rt.alloc(), &Failed, "failed"));
 }

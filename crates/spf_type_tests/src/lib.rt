@@ -10,6 +10,10 @@ mod io;
 #[cfg(test)]
 mod pace;
 #[cfg(test)]
+mod shown;
+#[cfg(test)]
+mod written;
+#[cfg(test)]
 mod x509;
 #[cfg(test)]
 mod x509_texts;

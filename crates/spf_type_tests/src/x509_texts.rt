@@ -1,5 +1,6 @@
 //! The texts of the errors of certificates, keys, SVIDs and bundles, and of the extensions.
 
+use crate::shown::has_text;
 use spf_der::{Pkcs8DecodeError, X509ParseError, X509ParseKind};
 use spf_id::SpiffeIdError;
 use spf_io::Text;
@@ -8,169 +9,138 @@ use spf_x509::{
 };
 use std::test::Fail;
 
-fn malformed() -> X509ParseError {
-    X509ParseError::new(X509ParseKind::InvalidCertificate)
-}
+/// Errors of a certificate, and their texts.
+const CERTIFICATE_TEXTS: [(CertificateError, &str); 9] = [
+    (
+        CertificateError::MissingX509Extension(X509ExtensionId::KeyUsage),
+        "X.509 extension is missing: 2.5.29.15",
+    ),
+    (
+        CertificateError::TooManyCertificates { max: 16 },
+        "certificate chain has too many certificates (max 16)",
+    ),
+    (CertificateError::OutOfMemory, "out of memory"),
+    (
+        CertificateError::MissingSpiffeId,
+        "certificate is missing SPIFFE ID in URI SAN",
+    ),
+    (
+        CertificateError::MultipleUriSanEntries,
+        "certificate contains multiple URI SAN entries",
+    ),
+    (
+        CertificateError::OversizedUriSan { max: 2048 },
+        "URI SAN exceeds maximum length (2048 bytes)",
+    ),
+    (
+        CertificateError::MultipleSpiffeIds,
+        "certificate contains multiple SPIFFE IDs in URI SAN",
+    ),
+    (
+        CertificateError::TooManyUriSanEntries { max: 3 },
+        "certificate has too many URI SAN entries (max 3)",
+    ),
+    (
+        CertificateError::InvalidSpiffeId(SpiffeIdError::Empty),
+        "failed to parse SPIFFE ID from URI SAN: Empty",
+    ),
+];
 
-/// The text of each error of a certificate that is not of its names.
 #[test]
 fn certificate_error_texts(rt: HostRuntime) -> Result<(), Fail> {
     let alloc = rt.alloc();
-    let name = X509ExtensionId::KeyUsage;
-    let rows = [
-        (
-            CertificateError::MissingX509Extension(name),
-            "X.509 extension is missing: 2.5.29.15",
-        ),
-        (
-            CertificateError::UnexpectedExtension(Text::copy_of(alloc, "Names")?),
-            "unexpected X.509 extension: Names",
-        ),
-        (
-            CertificateError::ParseX509Certificate(malformed()),
-            "failed parsing X.509 certificate",
-        ),
-        (
-            CertificateError::TooManyCertificates { max: 16 },
-            "certificate chain has too many certificates (max 16)",
-        ),
-        (CertificateError::OutOfMemory, "out of memory"),
-    ];
-    for (error, text) in rows.iter() {
-        assert_eq!(rt; format!(in alloc; "{error}")?.as_str(), *text);
+    for (error, text) in CERTIFICATE_TEXTS.iter() {
+        assert!(rt; has_text(alloc, error, text), "{text}");
     }
+    let parse = X509ParseError::new(X509ParseKind::InvalidCertificate);
+    let parse = CertificateError::ParseX509Certificate(parse);
+    assert!(rt; has_text(alloc, &parse, "failed parsing X.509 certificate"));
+    let names = CertificateError::UnexpectedExtension(Text::copy_of(alloc, "Names")?);
+    assert!(rt; has_text(alloc, &names, "unexpected X.509 extension: Names"));
     Ok(())
 }
 
-/// The text of each error of the URI names of a certificate.
-#[test]
-fn san_error_texts(rt: HostRuntime) -> Result<(), Fail> {
-    let alloc = rt.alloc();
-    let rows = [
-        (
-            CertificateError::MissingSpiffeId,
-            "certificate is missing SPIFFE ID in URI SAN",
-        ),
-        (
-            CertificateError::MultipleUriSanEntries,
-            "certificate contains multiple URI SAN entries",
-        ),
-        (
-            CertificateError::OversizedUriSan { max: 2048 },
-            "URI SAN exceeds maximum length (2048 bytes)",
-        ),
-        (
-            CertificateError::MultipleSpiffeIds,
-            "certificate contains multiple SPIFFE IDs in URI SAN",
-        ),
-        (
-            CertificateError::TooManyUriSanEntries { max: 3 },
-            "certificate has too many URI SAN entries (max 3)",
-        ),
-        (
-            CertificateError::InvalidSpiffeId(SpiffeIdError::Empty),
-            "failed to parse SPIFFE ID from URI SAN: Empty",
-        ),
-    ];
-    for (error, text) in rows.iter() {
-        assert_eq!(rt; format!(in alloc; "{error}")?.as_str(), *text);
-    }
-    Ok(())
-}
+/// Errors of an SVID, and their texts.
+const SVID_TEXTS: [(X509SvidError, &str); 11] = [
+    (
+        X509SvidError::LeafCertificateHasCaFlag,
+        "leaf certificate must not have CA flag set to true",
+    ),
+    (
+        X509SvidError::LeafCertificateHasCrlSign,
+        "leaf certificate must not have 'cRLSign' set as key usage",
+    ),
+    (
+        X509SvidError::LeafCertificateHasKeyCertSign,
+        "leaf certificate must not have 'keyCertSign' set as key usage",
+    ),
+    (
+        X509SvidError::LeafCertificateMissingDigitalSignature,
+        "leaf certificate must have 'digitalSignature' set as key usage",
+    ),
+    (
+        X509SvidError::LeafSpiffeIdMissingPath,
+        "leaf certificate SPIFFE ID must have a non-root path component",
+    ),
+    (X509SvidError::EmptyChain, "no certificates found in chain"),
+    (
+        X509SvidError::SigningCertificateMissingCaFlag,
+        "signing certificate must have CA flag set to true",
+    ),
+    (
+        X509SvidError::SigningCertificateMissingKeyCertSign,
+        "signing certificate must have 'keyCertSign' set as key usage",
+    ),
+    (
+        X509SvidError::Certificate(CertificateError::MissingSpiffeId),
+        "certificate is missing SPIFFE ID in URI SAN",
+    ),
+    (
+        X509SvidError::PrivateKey(PrivateKeyError::DecodePkcs8(Pkcs8DecodeError)),
+        "failed decoding PKCS#8 private key",
+    ),
+    (X509SvidError::OutOfMemory, "out of memory"),
+];
 
-/// The text of each error of a leaf.
-#[test]
-fn leaf_error_texts(rt: HostRuntime) -> Result<(), Fail> {
-    let alloc = rt.alloc();
-    let rows = [
-        (
-            X509SvidError::LeafCertificateHasCaFlag,
-            "leaf certificate must not have CA flag set to true",
-        ),
-        (
-            X509SvidError::LeafCertificateHasCrlSign,
-            "leaf certificate must not have 'cRLSign' set as key usage",
-        ),
-        (
-            X509SvidError::LeafCertificateHasKeyCertSign,
-            "leaf certificate must not have 'keyCertSign' set as key usage",
-        ),
-        (
-            X509SvidError::LeafCertificateMissingDigitalSignature,
-            "leaf certificate must have 'digitalSignature' set as key usage",
-        ),
-        (
-            X509SvidError::LeafSpiffeIdMissingPath,
-            "leaf certificate SPIFFE ID must have a non-root path component",
-        ),
-    ];
-    for (error, text) in rows.iter() {
-        assert_eq!(rt; format!(in alloc; "{error}")?.as_str(), *text);
-    }
-    Ok(())
-}
-
-/// The text of each other error of an SVID.
 #[test]
 fn svid_error_texts(rt: HostRuntime) -> Result<(), Fail> {
     let alloc = rt.alloc();
-    let key = PrivateKeyError::DecodePkcs8(Pkcs8DecodeError);
-    let rows = [
-        (X509SvidError::EmptyChain, "no certificates found in chain"),
-        (
-            X509SvidError::SigningCertificateMissingCaFlag,
-            "signing certificate must have CA flag set to true",
-        ),
-        (
-            X509SvidError::SigningCertificateMissingKeyCertSign,
-            "signing certificate must have 'keyCertSign' set as key usage",
-        ),
-        (
-            X509SvidError::UnparseableExtension {
-                extension: Text::copy_of(alloc, "KeyUsage")?,
-            },
-            "KeyUsage extension is present but could not be parsed",
-        ),
-        (
-            X509SvidError::Certificate(CertificateError::MissingSpiffeId),
-            "certificate is missing SPIFFE ID in URI SAN",
-        ),
-        (
-            X509SvidError::PrivateKey(key),
-            "failed decoding PKCS#8 private key",
-        ),
-        (X509SvidError::OutOfMemory, "out of memory"),
-    ];
-    for (error, text) in rows.iter() {
-        assert_eq!(rt; format!(in alloc; "{error}")?.as_str(), *text);
+    for (error, text) in SVID_TEXTS.iter() {
+        assert!(rt; has_text(alloc, error, text), "{text}");
     }
+    let usage = X509SvidError::UnparseableExtension {
+        extension: Text::copy_of(alloc, "KeyUsage")?,
+    };
+    let text = "KeyUsage extension is present but could not be parsed";
+    assert!(rt; has_text(alloc, &usage, text));
     Ok(())
 }
 
+/// Extensions, and their texts.
+const EXTENSIONS: [(X509ExtensionId, &str); 3] = [
+    (X509ExtensionId::KeyUsage, "2.5.29.15"),
+    (X509ExtensionId::SubjectAlternativeName, "2.5.29.17"),
+    (X509ExtensionId::BasicConstraints, "2.5.29.19"),
+];
+
 /// The texts of the other errors, and of the extensions.
 #[test]
-fn other_texts(rt: HostRuntime) -> Result<(), Fail> {
+fn other_texts(rt: HostRuntime) {
     let alloc = rt.alloc();
+    let key = PrivateKeyError::DecodePkcs8(Pkcs8DecodeError);
+    assert!(rt; has_text(alloc, &key, "failed decoding PKCS#8 private key"));
+    assert!(rt; has_text(alloc, &PrivateKeyError::OutOfMemory, "out of memory"));
     let bundle = X509BundleError::Certificate(CertificateError::MissingSpiffeId);
-    let shown = format!(in alloc;
-        "{}; {}; {}; {}",
-        PrivateKeyError::DecodePkcs8(Pkcs8DecodeError),
-        PrivateKeyError::OutOfMemory,
-        bundle,
-        X509BundleError::OutOfMemory
-    )?;
-    assert_eq!(rt;
-        shown.as_str(),
-        "failed decoding PKCS#8 private key; out of memory; certificate is missing SPIFFE ID in \
-         URI SAN; out of memory"
+    assert!(rt;
+        has_text(
+            alloc,
+            &bundle,
+            "certificate is missing SPIFFE ID in URI SAN"
+        )
     );
-    for (extension, dotted) in [
-        (X509ExtensionId::KeyUsage, "2.5.29.15"),
-        (X509ExtensionId::SubjectAlternativeName, "2.5.29.17"),
-        (X509ExtensionId::BasicConstraints, "2.5.29.19"),
-    ] {
-        assert_eq!(rt; extension.as_str(), dotted);
-        assert_eq!(rt; format!(in alloc; "{extension}")?.as_str(), dotted);
+    assert!(rt; has_text(alloc, &X509BundleError::OutOfMemory, "out of memory"));
+    for (extension, dotted) in EXTENSIONS {
+        assert!(rt; extension.as_str() == dotted);
+        assert!(rt; has_text(alloc, &extension, dotted), "{dotted}");
     }
-    Ok(())
 }

@@ -1,99 +1,127 @@
 //! Bundles, bundle sets and contexts.
 
-use super::{URI, leaf_named, root};
-use spf_der::write_key;
+use super::URI;
+use crate::shown::is_same;
+use crate::written::{Kind, ROOT, written};
+use spf_fixtures::octets;
 use spf_id::TrustDomain;
 use spf_io::{Bytes, OutOfMemory};
 use spf_x509::{
-    BundleSource, X509Bundle, X509BundleSet, X509Context, X509Svid, sorted_authorities,
-    sorted_svids,
+    BundleSource, X509Bundle, X509BundleIter, X509BundleSet, X509Context, X509Svid,
+    sorted_authorities, sorted_svids,
 };
 use std::alloc::Global;
 use std::sync::Arc;
 use std::test::Fail;
 
-/// The certificates of ROOT1 and ROOT2, one after the other.
-fn roots(alloc: Global) -> Result<Vec<u8>, OutOfMemory> {
-    let mut both = root(alloc, 1)?;
-    both.extend_from_slice(root(alloc, 2)?.as_slice())?;
-    Ok(both)
-}
-
-/// A bundle of ROOT1 and ROOT2.
+/// A bundle of `example.org` with ROOT1 and ROOT2.
 fn two_roots(alloc: Global) -> Result<X509Bundle, Fail> {
-    let both = roots(alloc)?;
+    let both = octets(alloc, "ROOT1 ROOT2")?;
     let domain = TrustDomain::new(alloc, "example.org")?;
     Ok(X509Bundle::parse_from_der(alloc, domain, both.as_slice())?)
+}
+
+/// Whether these indices are returned.
+fn are_indices(found: Result<Vec<usize>, OutOfMemory>, wanted: &[usize]) -> bool {
+    match found {
+        Ok(found) => found.as_slice() == wanted,
+        Err(_) => false,
+    }
 }
 
 #[test]
 fn bundle(rt: HostRuntime) -> Result<(), Fail> {
     let alloc = rt.alloc();
-    let third = root(alloc, 3)?;
+    let third = octets(alloc, "ROOT3")?;
     let mut bundle = two_roots(alloc)?;
     assert!(rt; bundle.add_authority(b"\0").is_err());
-    assert_eq!(rt; bundle.authorities().len(), 2);
-    bundle.add_authority(third.as_slice())?;
-    assert_eq!(rt; bundle.authorities().len(), 3);
-    assert_eq!(rt; bundle.trust_domain().as_str(), "example.org");
-    assert_eq!(rt;
-        sorted_authorities(alloc, &bundle)?.as_slice(),
-        [0, 1, 2].as_slice()
-    );
+    assert!(rt; bundle.authorities().len() == 2);
+    assert!(rt; bundle.add_authority(third.as_slice()).is_ok());
+    assert!(rt; bundle.authorities().len() == 3);
+    assert!(rt; bundle.trust_domain().as_str() == "example.org");
+    assert!(rt; are_indices(sorted_authorities(alloc, &bundle), &[0, 1, 2]));
     Ok(())
+}
+
+/// The octets of ROOT1 and of ROOT2.
+fn root_texts(alloc: Global) -> Result<Vec<Bytes>, Fail> {
+    let mut texts = Vec::new(alloc);
+    for name in ["ROOT1", "ROOT2"] {
+        let der = octets(alloc, name)?;
+        texts.push(Bytes::new(der))?;
+    }
+    Ok(texts)
+}
+
+/// The bundle of `example.org` with ROOT1 and ROOT2, one by one.
+fn listed_roots(alloc: Global) -> Result<X509Bundle, Fail> {
+    let texts = root_texts(alloc)?;
+    let domain = TrustDomain::new(alloc, "example.org")?;
+    Ok(X509Bundle::from_x509_authorities(alloc, domain, texts.as_slice())?)
 }
 
 #[test]
 fn bundles_equal_their_copies(rt: HostRuntime) -> Result<(), Fail> {
-    let alloc = rt.alloc();
-    let first = Bytes::new(root(alloc, 1)?);
-    let second = Bytes::new(root(alloc, 2)?);
-    let texts = vec![in alloc; first, second]?;
-    let domain = TrustDomain::new(alloc, "example.org")?;
-    let listed = X509Bundle::from_x509_authorities(alloc, domain, texts.as_slice())?;
-    assert!(rt; two_roots(alloc)? == listed);
-    assert!(rt; listed.try_clone(alloc)? == listed);
+    let parsed = two_roots(rt.alloc())?;
+    let listed = listed_roots(rt.alloc())?;
+    assert!(rt; parsed == listed);
+    assert!(rt; is_same(listed.try_clone(rt.alloc()), &listed));
     Ok(())
 }
 
-/// Whether a bundle is parsed from that trust domain and those bytes.
-fn is_parsed_from(
-    alloc: Global,
-    bundle: &X509Bundle,
-    name: &str,
-    der: &[u8],
-) -> Result<bool, Fail> {
+/// Whether the bundle of ROOT1 and ROOT2 is parsed from that trust domain and those octets.
+fn is_parsed_from(alloc: Global, name: &str, authorities: &str) -> Result<bool, Fail> {
+    let der = octets(alloc, authorities)?;
     let domain = TrustDomain::new(alloc, name)?;
-    Ok(bundle.is_parsed_from(&domain, der))
+    let bundle = two_roots(alloc)?;
+    Ok(bundle.is_parsed_from(&domain, der.as_slice()))
 }
+
+/// A trust domain and octets, and whether the bundle is parsed from them.
+const SOURCES: [(&str, &str, bool); 4] = [
+    ("example.org", "ROOT1 ROOT2", true),
+    ("other.org", "ROOT1 ROOT2", false),
+    ("example.org", "ROOT1", false),
+    ("example.org", "", false),
+];
 
 /// A bundle is parsed from its own trust domain and bytes, and from nothing else.
 #[test]
 fn bundle_is_parsed_from(rt: HostRuntime) -> Result<(), Fail> {
-    let alloc = rt.alloc();
-    let bundle = two_roots(alloc)?;
-    let first = root(alloc, 1)?;
-    let both = roots(alloc)?;
-    assert!(rt; is_parsed_from(alloc, &bundle, "example.org", both.as_slice())?);
-    assert!(rt; !is_parsed_from(alloc, &bundle, "other.org", both.as_slice())?);
-    assert!(rt; !is_parsed_from(alloc, &bundle, "example.org", first.as_slice())?);
-    assert!(rt; !is_parsed_from(alloc, &bundle, "example.org", b"")?);
+    for (name, authorities, wanted) in SOURCES {
+        assert!(rt;
+            is_parsed_from(rt.alloc(), name, authorities)? == wanted,
+            "{authorities}"
+        );
+    }
     Ok(())
 }
 
 /// A bundle with the authority of that serial.
 fn one_root(alloc: Global, name: &str, serial: u8) -> Result<X509Bundle, Fail> {
-    let authority = root(alloc, serial)?;
+    let authority = written(alloc, Kind { serial, ..ROOT }, 1000, &[])?;
     let domain = TrustDomain::new(alloc, name)?;
     Ok(X509Bundle::parse_from_der(alloc, domain, authority.as_slice())?)
 }
 
+/// Three bundles, of which the last is of the trust domain of the first.
+const THREE: [(&str, u8); 3] = [("example.org", 1), ("other.org", 2), ("example.org", 3)];
+
 fn three_bundles(alloc: Global) -> Result<X509BundleSet, Fail> {
     let mut bundles = Vec::new(alloc);
-    bundles.push(one_root(alloc, "example.org", 1)?)?;
-    bundles.push(one_root(alloc, "other.org", 2)?)?;
-    bundles.push(one_root(alloc, "example.org", 3)?)?;
+    for (name, serial) in THREE {
+        let bundle = one_root(alloc, name, serial)?;
+        bundles.push(bundle)?;
+    }
     Ok(X509BundleSet::from_iter(alloc, bundles)?)
+}
+
+/// Whether that bundle is returned.
+fn is_given<E: Drop>(found: Result<Option<Arc<X509Bundle>>, E>, wanted: &X509Bundle) -> bool {
+    match found {
+        Ok(Some(bundle)) => *bundle == *wanted,
+        _ => false,
+    }
 }
 
 #[test]
@@ -102,93 +130,134 @@ fn bundle_set(rt: HostRuntime) -> Result<(), Fail> {
     let domain = TrustDomain::new(alloc, "example.org")?;
     let third = one_root(alloc, "example.org", 3)?;
     let mut set = three_bundles(alloc)?;
-    set.extend(Vec::new(alloc))?;
-    assert_eq!(rt; set.len(), 2);
+    assert!(rt; set.extend(Vec::new(alloc)).is_ok());
+    assert!(rt; set.len() == 2);
     assert!(rt; !set.is_empty());
-    match set.get(&domain)? {
-        Some(bundle) => assert!(rt; *bundle == third),
-        None => assert!(rt; false),
-    }
-    let answer = set.bundle_for_trust_domain(&mut (), &domain)?;
-    assert!(rt; answer.is_some_and(|bundle| *bundle == third));
-    assert!(rt; set.try_clone(alloc)? == set);
+    assert!(rt; is_given(set.get(&domain), &third));
+    assert!(rt; is_given(set.bundle_for_trust_domain(&mut (), &domain), &third));
+    assert!(rt; is_same(set.try_clone(alloc), &set));
     Ok(())
+}
+
+/// Bundles that are added one after the other.
+const SHARED: [(&str, u8); 5] = [
+    ("d.org", 1),
+    ("b.org", 2),
+    ("a.org", 3),
+    ("c.org", 4),
+    ("b.org", 5),
+];
+
+/// The bundles that then stand.
+const STANDING: [(&str, u8); 4] = [("a.org", 3), ("b.org", 5), ("c.org", 4), ("d.org", 1)];
+
+fn shared_root(alloc: Global, name: &str, serial: u8) -> Result<Arc<X509Bundle>, Fail> {
+    let bundle = one_root(alloc, name, serial)?;
+    Ok(Arc::new(alloc, bundle)?)
+}
+
+fn shared_set(alloc: Global) -> Result<X509BundleSet, Fail> {
+    let mut set = X509BundleSet::new(alloc);
+    for (name, serial) in SHARED {
+        let bundle = shared_root(alloc, name, serial)?;
+        set.add_shared(bundle)?;
+    }
+    Ok(set)
+}
+
+/// Whether the bundle of that trust domain has the authority of that serial.
+fn holds(alloc: Global, set: &X509BundleSet, name: &str, serial: u8) -> Result<bool, Fail> {
+    let domain = TrustDomain::new(alloc, name)?;
+    let wanted = one_root(alloc, name, serial)?;
+    match set.get_ref(&domain) {
+        Some(bundle) => Ok(**bundle == wanted),
+        None => Ok(false),
+    }
 }
 
 /// Four trust domains stand beside one another, and a share replaces the bundle of its own alone.
 #[test]
 fn shared_bundles(rt: HostRuntime) -> Result<(), Fail> {
-    let alloc = rt.alloc();
-    let mut set = X509BundleSet::new(alloc);
-    for (name, serial) in [
-        ("d.org", 1),
-        ("b.org", 2),
-        ("a.org", 3),
-        ("c.org", 4),
-        ("b.org", 5),
-    ] {
-        set.add_shared(Arc::new(alloc, one_root(alloc, name, serial)?)?)?;
+    let set = shared_set(rt.alloc())?;
+    assert!(rt; set.len() == 4);
+    for (name, serial) in STANDING {
+        assert!(rt; holds(rt.alloc(), &set, name, serial)?, "{name}");
     }
-    assert_eq!(rt; set.len(), 4);
-    for (name, serial) in [("a.org", 3), ("b.org", 5), ("c.org", 4), ("d.org", 1)] {
-        let domain = TrustDomain::new(alloc, name)?;
-        let wanted = one_root(alloc, name, serial)?;
-        assert!(rt;
-            set.get_ref(&domain)
-                .is_some_and(|bundle| **bundle == wanted),
-            "{name}"
-        );
-    }
-    let shown = format!(in alloc; "{:?}", X509BundleSet::new(alloc).iter())?;
-    assert!(rt; shown.as_str().starts_with("X509BundleIter"));
     Ok(())
+}
+
+/// Whether the text of the walk for debugging begins with its name.
+fn is_named(alloc: Global, bundles: X509BundleIter<'_>) -> bool {
+    match format!(in alloc; "{bundles:?}") {
+        Ok(shown) => shown.as_str().starts_with("X509BundleIter"),
+        Err(_) => false,
+    }
+}
+
+/// The trust domain of the next bundle.
+fn next_name<'a>(bundles: &mut X509BundleIter<'a>) -> Option<&'a str> {
+    let (domain, _) = bundles.next()?;
+    Some(domain.as_str())
 }
 
 #[test]
 fn bundles_stand_in_order(rt: HostRuntime) -> Result<(), Fail> {
     let set = three_bundles(rt.alloc())?;
-    let mut names = set.iter();
-    assert!(rt;
-        names
-            .next()
-            .is_some_and(|pair| pair.0.as_str() == "example.org")
-    );
-    assert!(rt;
-        names
-            .next()
-            .is_some_and(|pair| pair.0.as_str() == "other.org")
-    );
-    assert!(rt; names.next().is_none());
+    let mut bundles = set.iter();
+    assert!(rt; next_name(&mut bundles) == Some("example.org"));
+    assert!(rt; next_name(&mut bundles) == Some("other.org"));
+    assert!(rt; next_name(&mut bundles).is_none());
+    assert!(rt; is_named(rt.alloc(), set.iter()));
     Ok(())
 }
 
-fn named_svid(alloc: Global, name: &str) -> Result<Arc<X509Svid>, Fail> {
-    let key = write_key(alloc, 1)?;
-    let chain = leaf_named(alloc, &[name])?;
+fn shared_svid(alloc: Global, leaf: &str) -> Result<Arc<X509Svid>, Fail> {
+    let chain = octets(alloc, leaf)?;
+    let key = octets(alloc, "KEY1")?;
     let svid = X509Svid::parse_from_der(alloc, chain.as_slice(), key.as_slice())?;
     Ok(Arc::new(alloc, svid)?)
 }
 
+/// The SVIDs of LEAF1 and of LEAF2.
+fn two_svids(alloc: Global) -> Result<Vec<Arc<X509Svid>>, Fail> {
+    let mut svids = Vec::new(alloc);
+    for leaf in ["LEAF1", "LEAF2"] {
+        let svid = shared_svid(alloc, leaf)?;
+        svids.push(svid)?;
+    }
+    Ok(svids)
+}
+
+fn one_crl(alloc: Global) -> Result<Vec<Bytes>, OutOfMemory> {
+    let crl = Bytes::copy_of(alloc, b"\x0a")?;
+    let mut crls = Vec::new(alloc);
+    crls.push(crl)?;
+    Ok(crls)
+}
+
+/// The context of both SVIDs and one revocation list.
+fn context_of_two(alloc: Global) -> Result<X509Context, Fail> {
+    let svids = two_svids(alloc)?;
+    let crls = one_crl(alloc)?;
+    let set = Arc::new(alloc, X509BundleSet::new(alloc))?;
+    Ok(X509Context::new(svids, set, crls))
+}
+
+/// The ID of the default SVID.
+fn default_id(context: &X509Context) -> Option<&str> {
+    match context.default_svid() {
+        Some(svid) => Some(svid.spiffe_id().as_str()),
+        None => None,
+    }
+}
+
 #[test]
 fn context(rt: HostRuntime) -> Result<(), Fail> {
-    let alloc = rt.alloc();
-    let mut svids = Vec::new(alloc);
-    svids.push(named_svid(alloc, URI)?)?;
-    svids.push(named_svid(alloc, "spiffe://example.org/v")?)?;
-    let crls = vec![in alloc; Bytes::copy_of(alloc, b"\x0a")?]?;
-    let set = Arc::new(alloc, X509BundleSet::new(alloc))?;
-    let context = X509Context::new(svids, set, crls);
-    assert_eq!(rt;
-        sorted_svids(alloc, &context)?.as_slice(),
-        [1, 0].as_slice()
-    );
-    assert!(rt;
-        context
-            .default_svid()
-            .is_some_and(|svid| svid.spiffe_id().as_str() == URI)
-    );
-    assert_eq!(rt; context.crls().len(), 1);
+    let context = context_of_two(rt.alloc())?;
+    assert!(rt; are_indices(sorted_svids(rt.alloc(), &context), &[1, 0]));
+    assert!(rt; default_id(&context) == Some(URI));
+    assert!(rt; context.crls().len() == 1);
     assert!(rt; context.bundle_set().is_empty());
-    assert!(rt; context.try_clone(alloc)? == context);
+    assert!(rt; is_same(context.try_clone(rt.alloc()), &context));
     Ok(())
 }
