@@ -10,3 +10,6 @@ pub mod ReceivedLemmas
 pub mod TranslatorLemmas
 pub mod EndLemmas
 pub mod BodyErrorLemmas
+pub mod LaidMessages
+pub mod BodySessions
+pub mod FollowedLemmas
