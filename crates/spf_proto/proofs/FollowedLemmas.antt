@@ -238,11 +238,11 @@ body_of (suc max) text rest (m ∷ ms) allowed (front, others, is, one, body) co
 
 -- ---- the answer
 
-some_rest : (rest : List ℕ) → rest ≢ [] → (length rest == 0) ≡ false
+pub some_rest : (rest : List ℕ) → rest ≢ [] → (length rest == 0) ≡ false
 some_rest [] some = absurd (some refl)
 some_rest (x ∷ rest) some = grind (arith, nat_tests)
 
-answer_synced : (rules : Rules) (start : ℤ) (max : ℕ) (ms : List ContextResponse) (b : Bool)
+pub answer_synced : (rules : Rules) (start : ℤ) (max : ℕ) (ms : List ContextResponse) (b : Bool)
     → has_synced (subject rules) (onto [] (session_of rules start ms)) ≡ b
     → answer_of rules start max ms []
     ≡ cond b (Ok (length (session_of rules start ms))) (Err (errors.Follow answers.NeverSynced))

@@ -13,3 +13,6 @@ pub mod BodyErrorLemmas
 pub mod LaidMessages
 pub mod BodySessions
 pub mod FollowedLemmas
+pub mod Numbers
+pub mod Pieces
+pub mod WatchLemmas
