@@ -1,8 +1,9 @@
 -- The frames of the messages of a body are read as the session that they stand for.
-use Rattle.std.proofs.Common.{◌≡◌, ◌∙◌, ℕ, ◌+◌, ◌*◌, ◌^◌, ◌≤◌, ◌<◌, Bool, true, false, cond, List, []}
+use Rattle.std.proofs.Common.{◌≡◌, ◌∙◌, ℕ, ◌+◌, ◌*◌, ◌^◌, ◌≤◌, ◌<◌, Bool, true, false, cond, List}
+use Rattle.std.proofs.Common.{[]}
 use Rattle.std.proofs.Common.{◌∷◌, ◌++◌, length, Option, Some, None, refl, sym, ap, subst, arith}
 use Rattle.std.proofs.Common.{append_assoc, length-append}
-use Rattle.std.specs.Prelude.{ℤ, pos, ◌&&◌, ◌||◌, ◌==◌, is_some, nat_lt, int_le}
+use Rattle.std.specs.Prelude.{ℤ, pos, ◌&&◌, ◌||◌, is_some, nat_lt}
 use Rattle.std.specs.Int.{w64, to_be_bytes, from_be_bytes}
 use Rattle.std.specs.List.{AllByRecursion}
 use Rattle.std.specs.Option.{option_map}
@@ -19,7 +20,7 @@ use Rattle.spf_api.specs.Reading.{context_at}
 use Rattle.spf_api.proofs.Payloads.{laid_is_read}
 use Rattle.spf_frame.specs.declared.frame_kind.TheConstants.{CLIENT_MADE, CONNECTED, ITEM, MOMENT}
 use Rattle.spf_view.specs.Frames.{raw_text}
-use Rattle.spf_view.specs.Sessions.{Stream, IsFrame, IsReading, onto}
+use Rattle.spf_view.specs.Sessions.{IsFrame, IsReading, onto}
 use Rattle.spf_view.specs.Views.{keep_if, brings, has_synced, last_moment}
 use Rattle.spf_view.proofs.SessionLemmas.{IsOpen, IsPassing, reading_stuck}
 use Rattle.spf_feed.specs.declared.event.SessionEvent.TheVariants as events

@@ -1,16 +1,15 @@
 -- What a body that is followed gives.
-use Rattle.std.proofs.Common.{◌≡◌, ◌≢◌, ◌∙◌, ℕ, zero, suc, ◌+◌, ◌-◌, ◌*◌, ◌^◌, ◌≤◌, ◌<◌, Bool, true}
-use Rattle.std.proofs.Common.{false, cond, eqb, List, [], ◌∷◌, ◌++◌, length, take, Option, Some, None}
+use Rattle.std.proofs.Common.{◌≡◌, ◌≢◌, ◌∙◌, ℕ, zero, suc, ◌+◌, ◌-◌, ◌^◌, ◌<◌, Bool, true}
+use Rattle.std.proofs.Common.{false, cond, List, [], ◌∷◌, ◌++◌, length, Option, Some, None}
 use Rattle.std.proofs.Common.{Result, Ok, Err, inl, inr, refl, sym, ap, subst, arith, append_assoc}
 use Rattle.std.proofs.Common.{take_all}
 use Rattle.std.specs.Prelude.{ℤ, pos, ◌⊎◌, ◌&&◌, ◌==◌, IsTrue, IfSome}
-use Rattle.std.specs.List.{AllByRecursion}
 use Rattle.std.specs.Option.{option_map, option_map_or}
 use Rattle.std.specs.Io.KnownBytes.{Consumes, IsAtEnd, Keeps}
 use Rattle.std.proofs.lemmas.Bool.Decides.{nat_tests}
 use Rattle.std.proofs.lemmas.List.{append-nil}
 use Rattle.spf_api.specs.declared.response.ContextResponse.{ContextResponse}
-use Rattle.spf_view.specs.Sessions.{Stream, IsSession, Reads, IsReading, onto, End, Whole, NeverSynced}
+use Rattle.spf_view.specs.Sessions.{IsReading, onto, End, Whole, NeverSynced}
 use Rattle.spf_view.specs.Sessions.{ReadFault, end_of, IsEndOf, all_of, Ports, Grows, GrowsUpTo}
 use Rattle.spf_view.specs.Sessions.{cuts_line, cuts_steps, Followed}
 use Rattle.spf_view.specs.Views.{has_synced}
@@ -30,15 +29,15 @@ use Rattle.spf_proto.specs.declared.proto_error.ProtoError.TheVariants as errors
 use Rattle.spf_proto.specs.declared.taking.Stop.{Stop}
 use Rattle.spf_proto.specs.declared.taking.Stop.TheVariants as stops
 use Rattle.spf_proto.specs.Beginning.{Beginning}
-use Rattle.spf_proto.specs.Body.{message_at, body_within, IsMessage, IsBody}
-use Rattle.spf_proto.specs.Ends.{IsEndedBy, IsReasonOf, IsResultOf, begun, error_of}
+use Rattle.spf_proto.specs.Body.{message_at, body_within, IsBody}
+use Rattle.spf_proto.specs.Ends.{IsReasonOf, IsResultOf, begun, error_of}
 use Rattle.spf_proto.specs.FrameEnds.{end_by}
 use Rattle.spf_proto.specs.Following.{is_due, is_free, answer_of, Held, HandsOnAll, FollowsBody}
 use Rattle.spf_proto.specs.Following.{BodyFollowed}
 use Rattle.spf_proto.specs.Translated.{frames_from, moment_frame, session_of}
 use Rattle.spf_proto.specs.Translator.{Translating, IsTranslator, left_of}
 use Rattle.spf_proto.proofs.BodySessions.{undated, shut, body_frames, open_session, read_session}
-use Rattle.spf_proto.proofs.LaidMessages.{HasPayload, body_laid, body_count}
+use Rattle.spf_proto.proofs.LaidMessages.{body_laid, body_count}
 
 -- ---- what following the frames gives
 
@@ -154,7 +153,8 @@ given_by rules max bytes es old new (Ok n) going reading left f =
         → IsGiven rules es old new (ends.Whole n)
     by (inl free) = absurd cc
     by (inr e) =
-        let read = all_read rules max bytes [] es old new (Whole n) f reading e left f.taken_at_end.1 in
+        let read =
+        all_read rules max bytes [] es old new (Whole n) f reading e left f.taken_at_end.1 in
         let same = reading_same (stream rules) max bytes f.es es e.rest [] e.reading reading in
         let b = has_synced (subject rules) (onto [] es) in
         let end : Whole n ≡ end_with b (length es) =
@@ -173,7 +173,8 @@ given_by rules max bytes es old new (Err answers.NeverSynced) going reading left
         → IsGiven rules es old new ends.NeverSynced
     by (inl free) = absurd cc
     by (inr e) =
-        let read = all_read rules max bytes [] es old new NeverSynced f reading e left f.taken_at_end in
+        let read =
+        all_read rules max bytes [] es old new NeverSynced f reading e left f.taken_at_end in
         let same = reading_same (stream rules) max bytes f.es es e.rest [] e.reading reading in
         let b = has_synced (subject rules) (onto [] es) in
         let end : NeverSynced ≡ end_with b (length es) =
@@ -216,7 +217,7 @@ none_more (suc max) rest none =
     (λ (m : ContextResponse × List ℕ).
     (m.0 ∷ (body_within max m.1).0, (body_within max m.1).1)) m ([], rest)) none
 
--- whole messages, and then none or as many as are allowed
+-- whole messages, and then none, or the most that are allowed
 body_of : (max : ℕ) (text rest : List ℕ) (ms : List ContextResponse) (allowed : ℕ) → IsBody text ms
     → length ms + allowed ≡ max → (body_within allowed rest ≡ ([], rest))
     → body_within max (text ++ rest) ≡ (ms, rest)
@@ -344,9 +345,11 @@ stopped : {T : Type 0} (loan : T → ℕ) (left : T → Option (List ℕ)) (fail
     → r ≡ Err (error_of b.max t.allowed stop) → IsReasonOf left failures b t stop
     → Answered rules b.start b.max bytes old new r
 stopped loan left failures b t rules bytes old new r stops.SourceFailed i first g is reason =
-    subst (λ (r : Result ℕ ProtoError). Answered rules b.start b.max bytes old new r) (sym is) (inl refl)
+    subst (λ (r : Result ℕ ProtoError). Answered rules b.start b.max bytes old new r) (sym is)
+    (inl refl)
 stopped loan left failures b t rules bytes old new r stops.OutOfMemory i first g is reason =
-    subst (λ (r : Result ℕ ProtoError). Answered rules b.start b.max bytes old new r) (sym is) (inl refl)
+    subst (λ (r : Result ℕ ProtoError). Answered rules b.start b.max bytes old new r) (sym is)
+    (inl refl)
 stopped loan left failures b t rules bytes old new r stops.TooManyMessages i first g is
     (some, full, ready) =
     let more = tells loan left failures b t bytes i first in
@@ -472,9 +475,11 @@ answered loan left failures b t rules bytes old new ends.ReadFault r i first
     stopped loan left failures b t rules bytes old new r stop i first
     (λ none. g (kept_none new.left (left_of left b.rules b.start t) here keeps none)) is reason
 answered loan left failures b t rules bytes old new ends.WriteFault r i first g is =
-    subst (λ (r : Result ℕ ProtoError). Answered rules b.start b.max bytes old new r) (sym is) (inl refl)
+    subst (λ (r : Result ℕ ProtoError). Answered rules b.start b.max bytes old new r) (sym is)
+    (inl refl)
 answered loan left failures b t rules bytes old new ends.OutOfMemory r i first g is =
-    subst (λ (r : Result ℕ ProtoError). Answered rules b.start b.max bytes old new r) (sym is) (inl refl)
+    subst (λ (r : Result ℕ ProtoError). Answered rules b.start b.max bytes old new r) (sym is)
+    (inl refl)
 
 early : (deadline : Option ℤ) (start : ℤ) → is_due deadline start ≡ false
     → timed_out deadline start ≡ None
@@ -502,10 +507,12 @@ followed_body loan left failures b t rules seconds old new followed end r i star
     by None first = tt
     by (Some bytes) first =
         let ms = (body_within b.max bytes).0 in
-        let going = open_session rules seconds ms small (early rules.deadline (pos seconds) deadline)
+        let going = open_session rules seconds ms small
+        (early rules.deadline (pos seconds) deadline)
         (body_laid b.max bytes) in
         let count = body_count b.max bytes in
-        let reading = read_session rules seconds ms (2 ^ 64 - 1) going (omega (arith, count, few)) in
+        let reading =
+        read_session rules seconds ms (2 ^ 64 - 1) going (omega (arith, count, few)) in
         let is : old.left ≡ Some (body_frames rules seconds ms) =
         frames
         ∙ ap (option_map (λ bytes. body_frames rules seconds (body_within b.max bytes).0)) first in
@@ -527,7 +534,8 @@ pub begun_left : {T : Type 0} (left : T → Option (List ℕ)) (b : Beginning) (
 begun_left left b rules seconds source frames allowed t view made same start known max =
     ap (left_of left b.rules b.start) view
     ∙ (λ i. option_map
-    (λ bytes. made i ++ frames_from (same i) (start i) shut (body_within (max i) bytes).0) (known i))
+    (λ bytes. made i ++ frames_from (same i) (start i) shut (body_within (max i) bytes).0)
+    (known i))
 
 pub followed_since : (rules : Rules) (b c : Beginning) (old new : Held) (r : Result ℕ ProtoError)
     → b ≡ c → BodyFollowed rules b.start b.max b.left old new r

@@ -1,6 +1,6 @@
 -- The response of a message that is read has a payload, which fits in a frame.
 use Rattle.std.proofs.Common.{◌≡◌, ◌∙◌, ℕ, zero, suc, ◌+◌, ◌^◌, ◌≤◌, ◌<◌, Bool, true, false, cond}
-use Rattle.std.proofs.Common.{List, [], ◌∷◌, ◌++◌, length, Option, Some, None, refl, sym, ap, subst}
+use Rattle.std.proofs.Common.{List, [], ◌∷◌, ◌++◌, length, Option, Some, None, refl, ap, subst}
 use Rattle.std.proofs.Common.{arith, length-append, ⊎_elim, unwrap_or}
 use Rattle.std.specs.Prelude.{◌&&◌, ◌||◌, not, nat_lt, ◌==◌}
 use Rattle.std.specs.Int.{w32, to_be_bytes}
@@ -14,7 +14,7 @@ use Rattle.spf_io.specs.Option.{◌>>=◌}
 use Rattle.spf_api.specs.declared.response.SvidEntry.{SvidEntry}
 use Rattle.spf_api.specs.declared.response.BundleEntry.{BundleEntry}
 use Rattle.spf_api.specs.declared.response.ContextResponse.{ContextResponse}
-use Rattle.spf_api.specs.Layout.{field_text, list_text, HasLength32, IsText, IsListOf, IsSvidEntry}
+use Rattle.spf_api.specs.Layout.{field_text, list_text, HasLength32, IsListOf, IsSvidEntry}
 use Rattle.spf_api.specs.Layout.{svid_entry_text, IsBundleEntry, bundle_entry_text, IsContext}
 use Rattle.spf_api.specs.Layout.{context_payload}
 use Rattle.spf_api.specs.Reading.{byte_field_at}
@@ -129,21 +129,24 @@ members_texts : (fs : List WireField) (r : ContextResponse) → members_of fs �
 members_texts fs r is =
     bind_then (each svid_message (values_of 1 fs)) _ r is (λ svids svids_are next.
     bind_then (each bundle_message (values_of 3 fs)) _ r next (λ federated federated_are made.
-    subst HasTexts (some_is (record { svids = svids; federated = federated; crls = values_of 2 fs }) r
+    subst HasTexts
+    (some_is (record { svids = svids; federated = federated; crls = values_of 2 fs }) r
     made) (record {
       svids = each_all svid_message SvidTexts svid_texts (values_of 1 fs) svids svids_are;
       federated = each_all bundle_message BundleTexts bundle_texts (values_of 3 fs) federated
           federated_are;
     })))
 
-before_texts : (octets : List ℕ) (r : ContextResponse) → context_members octets ≡ Some r → HasTexts r
+before_texts : (octets : List ℕ) (r : ContextResponse) → context_members octets ≡ Some r
+    → HasTexts r
 unfolding context_members
 before_texts octets r is =
     bind_then (fields_of octets) _ r is (λ fs fs_are made. ⊎_elim
     (λ p. members_texts fs r p.1) (λ p. cc (p.1))
     (chosen (list_all (is_delimited 3) fs) (members_of fs) None (Some r) made))
 
-message_texts : (octets : List ℕ) (r : ContextResponse) → context_message octets ≡ Some r → HasTexts r
+message_texts : (octets : List ℕ) (r : ContextResponse) → context_message octets ≡ Some r
+    → HasTexts r
 unfolding context_message
 message_texts octets r is =
     bind_then (context_members octets) _ r is (λ m m_is made.
@@ -285,7 +288,8 @@ response_laid octets r is =
     bind_then (context_message o) _ r next (λ m m_is made. ⊎_elim
     (λ p. cc (p.1))
     (λ p.
-    let short : length (context_payload m) ≤ 2 ^ 24 = let is = p.0 in grind (arith, nat_tests, is) in
+    let short : length (context_payload m) ≤ 2 ^ 24 =
+    let is = p.0 in grind (arith, nat_tests, is) in
     subst HasPayload (some_is m r p.1)
     (record { laid = context_fits m (message_texts o m m_is) short; short = short }))
     (chosen (nat_lt (2 ^ 24) (length (context_payload m))) None (Some m) (Some r) made)))

@@ -1,5 +1,6 @@
 -- How a run of the program ends.
-use Rattle.std.proofs.Common.{◌≡◌, ◌≢◌, ◌∙◌, ℕ, ◌+◌, ◌<◌, Bool, true, false, cond, List, [], ◌∷◌, length}
+use Rattle.std.proofs.Common.{◌≡◌, ◌≢◌, ◌∙◌, ℕ, ◌+◌, ◌<◌, Bool, true, false, cond, List}
+use Rattle.std.proofs.Common.{[], ◌∷◌, length}
 use Rattle.std.proofs.Common.{Option, Some, None, Result, Ok, Err, inl, inr, refl, sym, ap, subst}
 use Rattle.std.proofs.Common.{arith}
 use Rattle.std.specs.Prelude.{ℤ, codes, ◌⊎◌, ◌↔◌, ◌==◌, IfSome}
@@ -10,7 +11,6 @@ use Rattle.spf_io.specs.Outside.{HasCause, PutAppends, Rose}
 use Rattle.spf_api.specs.declared.response.ContextResponse.{ContextResponse}
 use Rattle.spf_view.specs.Sessions.{onto}
 use Rattle.spf_view.specs.Views.{has_synced}
-use Rattle.spf_feed.specs.declared.follow_error.FollowError.{FollowError}
 use Rattle.spf_feed.specs.declared.follow_error.FollowError.TheVariants as answers
 use Rattle.spf_feed.specs.declared.limits.ResourceLimits.{ResourceLimits}
 use Rattle.spf_feed.specs.declared.ready.Ready.TheVariants as readiness
@@ -62,7 +62,8 @@ pub follows_by : (limits : ResourceLimits) (passed start : ℤ) (input input' ou
     → Follows start input input' output output' end
 follows_by limits passed start input input' output output' end is same followed refused only
     cause = record {
-      followed = subst (λ (s : ℤ). BodyFollowed program_rules s max_messages input.bytes (shown output)
+      followed = subst (λ (s : ℤ). BodyFollowed program_rules s max_messages input.bytes
+          (shown output)
           (shown output') end) same
           (subst (λ (l : ResourceLimits). BodyFollowed (rules_with l None readiness.Usable None)
           passed max_messages input.bytes (shown output) (shown output') end) is followed);
@@ -169,7 +170,8 @@ answer_whole rules start max ms (x ∷ rest) count is =
     (is ∙ ap (λ (b : Bool). cond b
     (cond (has_synced (subject rules) (onto [] (session_of rules start ms)))
     (Ok (length (session_of rules start ms))) (Err (errors.Follow answers.NeverSynced)))
-    (cond (length ms == max) (Err errors.TooManyMessages) (Err (errors.BadMessage (length ms + 1)))))
+    (cond (length ms == max) (Err errors.TooManyMessages)
+    (Err (errors.BadMessage (length ms + 1)))))
     (some_rest (x ∷ rest) (λ none. cc))))
 
 printed : (start : ℤ) (left : Option (List ℕ)) (old new : Held) (count : ℕ)
@@ -211,11 +213,13 @@ free_end : (reads reads' writes writes' : ℕ) (end : Result ℕ ProtoError)
     → (Rose reads reads' → ⊥) → (Rose writes writes' → ⊥)
     → is_free end ≡ true → (status_of_end end ≡ 0) ⊎ (status_of_end end ≡ 2)
 free_end reads reads' writes writes' (Ok n) cause calm still free = inl refl
-free_end reads reads' writes writes' (Err (errors.Follow answers.OutOfMemory)) cause calm still free =
+free_end reads reads' writes writes' (Err (errors.Follow answers.OutOfMemory)) cause calm still
+    free =
     inr refl
 free_end reads reads' writes writes' (Err (errors.Follow answers.ReadFault)) cause calm still free =
     absurd (calm (cause.read refl))
-free_end reads reads' writes writes' (Err (errors.Follow answers.WriteFault)) cause calm still free =
+free_end reads reads' writes writes' (Err (errors.Follow answers.WriteFault)) cause calm still
+    free =
     absurd (still (cause.write refl))
 free_end reads reads' writes writes' (Err (errors.Follow answers.SessionTooLong)) cause calm still
     free = absurd cc

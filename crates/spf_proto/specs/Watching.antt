@@ -1,5 +1,5 @@
 -- The exit status of a run, and its line on the error output.
-use Rattle.std.specs.Prelude.{◌≡◌, ◌⊎◌, ℕ, ℤ, pos, true, List, [], ◌∷◌, ◌++◌, codes, decimal}
+use Rattle.std.specs.Prelude.{◌≡◌, ◌⊎◌, ℕ, ℤ, true, List, [], ◌∷◌, ◌++◌, codes, decimal}
 use Rattle.std.specs.Prelude.{Option, None, Some, IfSome, Result, Ok, Err}
 use Rattle.spf_io.specs.declared.memory.Failed.{Failed}
 use Rattle.spf_io.specs.Outside.{HasCause, PutAppends, Rose}

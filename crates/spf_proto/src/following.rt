@@ -33,7 +33,7 @@ fn is_due(deadline: Option<i64>, start: i64) -> bool
     }
 }
 
-/// The frame of a moment, so many seconds after the beginning of 1970.
+/// The frame of a moment, in Unix seconds.
 #[tactic(auto, unfolding(crate::specs::Translated::moment_frame, crate::specs::Translated::sized))]
 fn frame_of(alloc: Global, seconds: u64) -> Result<Vec<u8>, OutOfMemory>
     ensures { IfOk result (λ v. v.items ≡ moment_frame seconds) }
@@ -171,7 +171,7 @@ pub fn follow_proto<S: Source, K: Sink, P: Publisher, M: MetricsRecorder, C: Svi
     ensures cause { HasCauses (S.failures source.old) (S.failures source.new) (K.failures sink.old)
         (K.failures sink.new) result }
     // A message is refused where the bytes are whole messages up to it, and then none; too many are
-    // refused where octets stand behind as many messages as are allowed.
+    // refused where octets stand behind the most messages that are allowed.
     ensures refused { RefusedFor max_messages (S.left source.old) result }
     // Of the errors of a session only these come.
     ensures only { OnlyThese result }

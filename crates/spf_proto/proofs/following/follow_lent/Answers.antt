@@ -1,4 +1,4 @@
-use Rattle.std.proofs.Common.{◌∙◌, ◌<◌, ◌^◌, ap, sym, subst, arith}
+use Rattle.std.proofs.Common.{◌∙◌, ◌<◌, ◌^◌, ap, sym, arith}
 use Rattle.spf_feed.specs.Items.{rules_with}
 use Rattle.std.specs.Option.{option_map}
 use Rattle.spf_proto.specs.Beginning.{Beginning}
