@@ -16,3 +16,4 @@ pub mod FollowedLemmas
 pub mod Numbers
 pub mod Pieces
 pub mod WatchLemmas
+pub mod VarintLemmas

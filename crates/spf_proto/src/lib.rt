@@ -6,6 +6,7 @@ mod arguments;
 mod entry;
 mod following;
 mod frame_end;
+pub mod laws;
 mod lent;
 mod message;
 mod no_publisher;
