@@ -4,7 +4,6 @@ use Rattle.std.proofs.Common.{◌++◌}
 use Rattle.std.proofs.Common.{length, Result, Ok, Err, refl, sym, subst, append_assoc, arith, inl}
 use Rattle.std.proofs.Common.{inr}
 use Rattle.std.specs.Io.KnownBytes.{Consumes}
-use Rattle.std.proofs.lemmas.Bool.Decides.{nat_tests}
 use Rattle.spf_feed.specs.declared.follow_error.FollowError.TheVariants as answers
 use Rattle.spf_api.specs.declared.response.ContextResponse.{ContextResponse}
 use Rattle.spf_proto.specs.declared.frame_end.FrameEnd.{FrameEnd}

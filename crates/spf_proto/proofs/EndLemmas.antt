@@ -1,5 +1,5 @@
 -- How following a body ends, and what failed.
-use Rattle.std.proofs.Common.{◌≡◌, ◌≤◌, ◌∙◌, ℕ, Option, Some, None, List, Result, Ok, Err, refl}
+use Rattle.std.proofs.Common.{◌≡◌, ◌∙◌, ℕ, Option, List, Result, Ok, Err, refl}
 use Rattle.std.proofs.Common.{sym}
 use Rattle.std.proofs.Common.{inl, inr}
 use Rattle.spf_io.specs.Outside.{Rose}
@@ -32,7 +32,8 @@ ended_rose : {T : Type 0} (left : T → Option (List ℕ)) (failures : T → ℕ
     → (end ≡ Err (errors.Follow answers.ReadFault) → ⊥)
     → IsEndedBy left failures b before t end r
     → r ≡ Err (errors.Follow answers.ReadFault) → Rose b.failures (failures t.source)
-ended_rose left failures b before t end r other (keeps, inl both) h = absurd (other (sym both.0 ∙ h))
+ended_rose left failures b before t end r other (keeps, inl both) h =
+    absurd (other (sym both.0 ∙ h))
 ended_rose left failures b before t end r other (keeps, inr (stop, is, reason)) h =
     stop_rose left failures b t r stop is reason h
 

@@ -7,7 +7,7 @@ use Rattle.spf_proto.specs.Wire.{WireField, field_at}
 use Rattle.spf_proto.specs.Message.{fields_within}
 use Rattle.spf_proto.specs.Folded.{folded, message_from}
 
--- what the fields that are left make of a message, where so many steps are enough
+-- what the fields that are left make of a message, where that number of steps is enough
 abbrev pub Left : {M : Type 0} → (M → WireField → Option M) → M → List ℕ → Option M → Type 0
 Left step message bytes found =
     (n : ℕ) × (length bytes ≤ n) × ((fields_within n bytes >>= folded step message) ≡ found)

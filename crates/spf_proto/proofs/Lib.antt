@@ -10,3 +10,10 @@ pub mod ReceivedLemmas
 pub mod TranslatorLemmas
 pub mod EndLemmas
 pub mod BodyErrorLemmas
+pub mod LaidMessages
+pub mod BodySessions
+pub mod FollowedLemmas
+pub mod Numbers
+pub mod Pieces
+pub mod WatchLemmas
+pub mod VarintLemmas

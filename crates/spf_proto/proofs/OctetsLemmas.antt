@@ -1,9 +1,9 @@
 -- Messages that have come in part.
-use Rattle.std.proofs.Common.{◌≡◌, ◌≢◌, ◌∙◌, ℕ, zero, suc, ◌+◌, ◌-◌, ◌^◌, ◌≤◌, ◌<◌, List, [], ◌∷◌}
+use Rattle.std.proofs.Common.{◌≡◌, ◌∙◌, ℕ, zero, suc, ◌+◌, ◌-◌, ◌^◌, ◌≤◌, ◌<◌, List, [], ◌∷◌}
 use Rattle.std.proofs.Common.{◌++◌}
 use Rattle.std.proofs.Common.{length, take, drop, Option, Some, None, Bool, true, false, cond, refl}
 use Rattle.std.proofs.Common.{sym}
-use Rattle.std.proofs.Common.{ap, arith, length-append, take_at, drop_at, append_assoc}
+use Rattle.std.proofs.Common.{ap, arith, length-append, take_at, drop_at}
 use Rattle.std.proofs.Common.{length-take-le}
 use Rattle.std.specs.Prelude.{nat_lt, ◌==◌, if◌then◌else◌}
 use Rattle.std.specs.Int.{w32, from_be_bytes}
@@ -28,7 +28,8 @@ size_whole n octets more is =
     rw (enough, front, back) refl
 
 size_short : (n : ℕ) (octets : List ℕ) → length octets < n → field_of_size n octets ≡ None
-size_short n octets lt = let test : nat_lt (length octets) n ≡ true = grind (arith, nat_tests, lt) in
+size_short n octets lt =
+    let test : nat_lt (length octets) n ≡ true = grind (arith, nat_tests, lt) in
     rw test refl
 
 abbrev after_field : List ℕ × List ℕ → Option (ContextResponse × List ℕ)
@@ -36,7 +37,8 @@ after_field f = response_of f.0 >>= λ r. Some (r, f.1)
 
 too_long : (octets : List ℕ) → 2 ^ 24 < length octets → response_of octets ≡ None
 unfolding response_of
-too_long octets gt = let test : nat_lt (2 ^ 24) (length octets) ≡ true = grind (arith, nat_tests, gt) in
+too_long octets gt =
+    let test : nat_lt (2 ^ 24) (length octets) ≡ true = grind (arith, nat_tests, gt) in
     rw test refl
 
 size_bad : (n : ℕ) (octets : List ℕ) (b : Bool) → nat_lt (length octets) n ≡ b → 2 ^ 24 < n

@@ -1,5 +1,5 @@
 -- Octets that come in parts.
-use Rattle.std.proofs.Common.{◌≡◌, ◌≤◌, ◌∙◌, ℕ, List, [], ◌++◌, length, Option, sym, ap}
+use Rattle.std.proofs.Common.{◌≤◌, ◌∙◌, ℕ, List, [], ◌++◌, length, Option, sym, ap}
 use Rattle.std.proofs.Common.{append_assoc}
 use Rattle.std.proofs.lemmas.List.{append-nil}
 use Rattle.std.proofs.KnownBytes.{Consumes-trans, Consumes-nil}

@@ -1,10 +1,9 @@
 -- What a translating source knows, and what it has left.
-use Rattle.std.proofs.Common.{◌≡◌, ◌≢◌, ◌∙◌, ℕ, ℤ, zero, suc, ◌+◌, ◌-◌, ◌≤◌, ◌<◌, Bool, true, false}
+use Rattle.std.proofs.Common.{◌≡◌, ◌≢◌, ◌∙◌, ℕ, ℤ, zero, suc, ◌-◌, ◌≤◌, ◌<◌, Bool, true, false}
 use Rattle.std.proofs.Common.{List}
 use Rattle.std.proofs.Common.{[], ◌∷◌, ◌++◌, length, drop, Option, Some, None, refl, sym, ap, subst}
 use Rattle.std.proofs.Common.{arith}
 use Rattle.std.proofs.Common.{append_assoc, length-append, length-take-le, take}
-use Rattle.std.specs.Prelude.{if◌then◌else◌}
 use Rattle.std.specs.Option.{option_map}
 use Rattle.std.specs.Io.KnownBytes.{Consumes, IsAtEnd, Keeps}
 use Rattle.std.proofs.lemmas.List.{append-nil}
@@ -12,7 +11,7 @@ use Rattle.std.proofs.KnownBytes.{Consumes-trans}
 use Rattle.spf_io.specs.Option.{◌>>=◌}
 use Rattle.spf_view.specs.Frames.{sized}
 use Rattle.spf_api.specs.declared.response.ContextResponse.{ContextResponse}
-use Rattle.spf_api.specs.Layout.{IsContext, context_payload}
+use Rattle.spf_api.specs.Layout.{IsContext}
 use Rattle.spf_feed.specs.Items.{Rules, context_in}
 use Rattle.spf_proto.specs.declared.taking.Stop.{Stop}
 use Rattle.spf_proto.specs.Beginning.{Beginning}
@@ -163,7 +162,8 @@ pub after_translating : {T : Type 0} (loan : T → ℕ) (left : T → Option (Li
     (b : Beginning) (t v : Translating T) (rules : Rules) (start : ℤ) (before after : Position)
     (octets frames got : List ℕ)
     → t ≡ v → IsTranslator loan left failures b t → v.stop ≡ None → IsWhole v.got (drop 5 v.got)
-    → v.allowed ≢ 0 → octets ≡ drop 5 t.got → IsMade rules start before after octets frames → got ≡ []
+    → v.allowed ≢ 0 → octets ≡ drop 5 t.got → IsMade rules start before after octets frames
+    → got ≡ []
     → IsTranslator loan left failures b (record {
       source = t.source;
       ready = frames;

@@ -1,5 +1,5 @@
 -- The body of a gRPC response: messages one after another, each a flag octet 0 (not
--- compressed), its length in four octets, big-endian, and as many octets (gRPC over HTTP/2).
+-- compressed), its length in four octets, big-endian, and its octets (gRPC over HTTP/2).
 use Rattle.std.specs.Prelude.{◌≡◌, ℕ, zero, suc, ◌+◌, ◌^◌, nat_lt, ◌==◌, List, [], ◌∷◌, ◌++◌}
 use Rattle.std.specs.Prelude.{length}
 use Rattle.std.specs.Prelude.{Option, Some, None, if◌then◌else◌}

@@ -11,8 +11,7 @@ use Rattle.spf_proto.specs.declared.proto_error.ProtoError.TheVariants as errors
 use Rattle.spf_proto.specs.declared.taking.Stop.{Stop}
 use Rattle.spf_proto.specs.declared.taking.Stop.TheVariants as stops
 use Rattle.spf_proto.specs.Beginning.{Beginning}
-use Rattle.spf_proto.specs.Translated.{Standing}
-use Rattle.spf_proto.specs.Translator.{Translating, IsTranslator, IsStopped, left_of}
+use Rattle.spf_proto.specs.Translator.{Translating, IsStopped, left_of}
 
 abbrev pub error_of : ℕ → ℕ → Stop → ProtoError
 error_of max allowed stops.BadMessage = errors.BadMessage (max - allowed + 1)

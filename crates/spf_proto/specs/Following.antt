@@ -4,7 +4,7 @@ use Rattle.std.specs.Prelude.{List, []}
 use Rattle.std.specs.Prelude.{length, Option, None, Some, IfSome, Result, Ok, Err, if◌then◌else◌}
 use Rattle.spf_io.specs.Outside.{Rose}
 use Rattle.spf_api.specs.declared.response.ContextResponse.{ContextResponse}
-use Rattle.spf_view.specs.Sessions.{Ports, Grows, all_of, onto}
+use Rattle.spf_view.specs.Sessions.{Grows, all_of, onto}
 use Rattle.spf_view.specs.Views.{has_synced}
 use Rattle.spf_feed.specs.declared.follow_error.FollowError.{FollowError}
 use Rattle.spf_feed.specs.declared.follow_error.FollowError.TheVariants as answers
@@ -62,23 +62,30 @@ answer_of rules start max messages rest =
     else (if length messages == max then Err errors.TooManyMessages
     else Err (errors.BadMessage (length messages + 1)))
 
--- The messages with which a body begins, at most so many, are followed: the sink,
--- the publisher and the recorder hold all that the session of them gives.
-pub record FollowsBody (rules : Rules) (start : ℤ) (max : ℕ) (bytes : List ℕ)
-    (old new : Ports PlainStep MetricsRecord) (r : Result ℕ ProtoError) : Type 0 where
+-- what the sink, the publisher and the recorder hold at one moment, each where it says so
+pub record Held : Type 0 where
+  pub held : Option (List ℕ)
+  pub steps : Option (List PlainStep)
+  pub records : Option (List MetricsRecord)
+
+-- All that a session gives is handed on: its lines, its steps and its records.
+pub record HandsOnAll (rules : Rules) (es : List Event) (old new : Held) : Type 0 where
+  pub lines : Grows old.held new.held (all_of (stream rules) (outputs rules).line [] es)
+  pub steps : Grows old.steps new.steps (all_of (stream rules) (outputs rules).steps [] es)
+  pub records : Grows old.records new.records (all_of (stream rules) (outputs rules).records [] es)
+
+-- The messages with which a body begins, at most `max` of them, are followed:
+-- all that their session gives is handed on, and they fix the result.
+pub record FollowsBody (rules : Rules) (start : ℤ) (max : ℕ) (bytes : List ℕ) (old new : Held)
+    (r : Result ℕ ProtoError) : Type 0 where
   pub messages : List ContextResponse
   pub rest : List ℕ
   pub reading : body_within max bytes ≡ (messages, rest)
   pub answer : r ≡ answer_of rules start max messages rest
-  pub lines : Grows old.held new.held
-      (all_of (stream rules) (outputs rules).line [] (session_of rules start messages))
-  pub steps : Grows old.steps new.steps
-      (all_of (stream rules) (outputs rules).steps [] (session_of rules start messages))
-  pub records : Grows old.records new.records
-      (all_of (stream rules) (outputs rules).records [] (session_of rules start messages))
+  pub given : HandsOnAll rules (session_of rules start messages) old new
 
 -- the bytes fix the result, where they are known, unless it is a failure or memory ran out
-abbrev pub BodyFollowed : Rules → ℤ → ℕ → Ports PlainStep MetricsRecord
-    → Ports PlainStep MetricsRecord → Result ℕ ProtoError → Type 0
-BodyFollowed rules start max old new r =
-    IfSome old.left (λ bytes. IsTrue (is_free r) ⊎ FollowsBody rules start max bytes old new r)
+abbrev pub BodyFollowed : Rules → ℤ → ℕ → Option (List ℕ) → Held → Held → Result ℕ ProtoError
+    → Type 0
+BodyFollowed rules start max left old new r =
+    IfSome left (λ bytes. IsTrue (is_free r) ⊎ FollowsBody rules start max bytes old new r)

@@ -1,3 +1,4 @@
+pub mod Arguments
 pub mod Beginning
 pub mod Body
 pub mod BodyErrors
@@ -13,4 +14,5 @@ pub mod Taking
 pub mod Translated
 pub mod Translating
 pub mod Translator
+pub mod Watching
 pub mod Wire

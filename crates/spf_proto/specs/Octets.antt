@@ -1,6 +1,6 @@
 -- What a message that has come in part still needs.
-use Rattle.std.specs.Prelude.{◌≡◌, ◌≢◌, ℕ, ◌+◌, ◌^◌, ◌<◌, ◌≤◌, List, [], ◌∷◌, ◌++◌, length, drop}
-use Rattle.std.specs.Prelude.{Option, None, Some}
+use Rattle.std.specs.Prelude.{◌≡◌, ◌≢◌, ℕ, ◌+◌, ◌^◌, ◌<◌, ◌≤◌, List, [], ◌++◌, length, drop}
+use Rattle.std.specs.Prelude.{None, Some}
 unfoldable pub use Rattle.spf_api.specs.Reading.{number_at}
 use Rattle.spf_io.specs.Option.{◌>>=◌}
 use Rattle.spf_proto.specs.declared.octets.Needed.{Needed}
@@ -12,7 +12,7 @@ abbrev pub IsWhole : List ℕ → List ℕ → Type 0
 IsWhole got octets = (more : List ℕ)
     → message_at (got ++ more) ≡ (response_of octets >>= λ r. Some (r, more))
 
--- so many octets more are needed, and without them there is no message
+-- `count` octets more are needed, and without them there is no message
 pub record NeedsOctets (got : List ℕ) (count : ℕ) : Type 0 where
   pub some : 0 < count
   pub missing : length got + count ≤ total got

@@ -16,7 +16,7 @@ pub record Came (left left' : Option (List ℕ)) (got got' : List ℕ) : Type 0 
   pub taken : Consumes left left' given
   pub added : got' ≡ got ++ given
 
--- at most so many octets more; none only at the end of the source, or after a failure
+-- at most `missing` octets more; none only at the end of the source, or after a failure
 abbrev pub IsSome : ℕ → ℕ → ℕ → Option (List ℕ) → Result ℕ Stop → Type 0
 IsSome before after missing left (Ok n) =
     (after ≡ before + n) × (n ≤ missing) × (n ≡ 0 → IsAtEnd left)
@@ -33,7 +33,7 @@ pub record StopHasCause {T : Type 0} (before after : ℕ) (r : Result T Stop) : 
 abbrev pub IsNoMessage : List ℕ → Option (List ℕ) → Type 0
 IsNoMessage got left = IfSome left (λ bytes. message_at (got ++ bytes) ≡ None)
 
--- How far a message has come, where so many are allowed, and why none comes.
+-- How far a message has come, where `allowed` more may come, and why none comes.
 abbrev pub IsStep : ℕ → ℕ → List ℕ → Option (List ℕ) → Result Progress Stop → Type 0
 IsStep allowed before got left (Ok progress.More) =
     (before < length got) × (length got ≤ 5 + 2 ^ 24)

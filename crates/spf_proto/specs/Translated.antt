@@ -1,5 +1,5 @@
 -- The session that the messages of a body stand for.
-use Rattle.std.specs.Prelude.{ℕ, ℤ, Bool, true, false, ◌&&◌, ◌||◌, if◌then◌else◌, is_some}
+use Rattle.std.specs.Prelude.{ℕ, ℤ, Bool, false, ◌&&◌, ◌||◌, if◌then◌else◌, is_some}
 use Rattle.std.specs.Prelude.{List, [], ◌∷◌, ◌++◌, Option, Some, None}
 use Rattle.std.specs.Int.{w64, to_be_bytes}
 use Rattle.spf_x509.specs.Context.{Context}
@@ -8,12 +8,12 @@ use Rattle.spf_api.specs.Layout.{context_payload}
 use Rattle.spf_view.specs.Frames.{raw_text}
 unfoldable pub use Rattle.spf_view.specs.Frames.{sized}
 use Rattle.spf_view.specs.Sessions.{onto}
-use Rattle.spf_view.specs.Views.{keep_if, brings}
+use Rattle.spf_view.specs.Views.{keep_if}
 use Rattle.spf_frame.specs.declared.frame_kind.TheConstants.{CLIENT_MADE, CONNECTED, ITEM, MOMENT}
 use Rattle.spf_feed.specs.declared.event.SessionEvent.TheVariants as events
 use Rattle.spf_feed.specs.declared.phase.Phase.{Phase}
 use Rattle.spf_feed.specs.declared.phase.Phase.TheVariants as phases
-use Rattle.spf_feed.specs.Items.{Event, Rules, context_in, picked, may_sync, subject}
+use Rattle.spf_feed.specs.Items.{Event, Rules, context_in, picked, may_sync}
 use Rattle.spf_feed.specs.Run.{ask_of}
 use Rattle.spf_feed.specs.Steps.{fits}
 
@@ -47,7 +47,7 @@ unfoldable pub message_frames : Bool → ContextResponse → List ℕ
 message_frames is_open r =
     (if is_open then [] else client_frames) ++ raw_text ITEM (context_payload r)
 
--- the frame of a moment, so many seconds after the beginning of 1970
+-- the frame of a moment, in Unix seconds
 unfoldable pub moment_frame : ℕ → List ℕ
 moment_frame seconds = raw_text MOMENT (to_be_bytes w64 seconds)
 

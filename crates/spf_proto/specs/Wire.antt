@@ -23,11 +23,11 @@ varint_within (suc max) (octet ∷ bytes) =
 abbrev pub varint_at : List ℕ → Option (ℕ × List ℕ)
 varint_at bytes = varint_within 10 bytes
 
--- what follows so many octets
+-- what follows `count` octets
 abbrev pub after : ℕ → List ℕ → Option (List ℕ)
 after count bytes = if nat_lt (length bytes) count then None else Some (drop count bytes)
 
--- a length and that many octets, and what follows them
+-- a length and octets of that length, and what follows them
 unfoldable pub delimited_at : List ℕ → Option (List ℕ × List ℕ)
 delimited_at bytes = do
   n ← varint_at bytes

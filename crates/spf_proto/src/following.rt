@@ -1,11 +1,11 @@
 //! Following the body of a gRPC response: messages of updates, one after another.
 
-ghost use Rattle.std.specs.Prelude.{◌≡◌, ◌<◌, None, IfOk, IsTrue, int_le, pos, vec_len, false};
+ghost use Rattle.std.specs.Prelude.{◌≡◌, ◌<◌, ◌^◌, None, IfOk, IsTrue, int_le, pos, vec_len, false};
 ghost use Rattle.std.specs.Option.{ForSome, option_map};
 ghost use Rattle.spf_feed.specs.Items.{rules_with};
 ghost use Rattle.spf_proto.specs.Translated.{moment_frame};
 ghost use Rattle.spf_proto.specs.BodyErrors.{RefusedFor};
-ghost use Rattle.spf_proto.specs.Following.{is_due, timed_out, OnlyThese, HasCauses};
+ghost use Rattle.spf_proto.specs.Following.{is_due, timed_out, OnlyThese, HasCauses, BodyFollowed};
 
 use crate::frame_end::FrameEnd;
 use crate::lent::LentSource;
@@ -33,7 +33,7 @@ fn is_due(deadline: Option<i64>, start: i64) -> bool
     }
 }
 
-/// The frame of a moment, so many seconds after the beginning of 1970.
+/// The frame of a moment, in Unix seconds.
 #[tactic(auto, unfolding(crate::specs::Translated::moment_frame, crate::specs::Translated::sized))]
 fn frame_of(alloc: Global, seconds: u64) -> Result<Vec<u8>, OutOfMemory>
     ensures { IfOk result (λ v. v.items ≡ moment_frame seconds) }
@@ -75,6 +75,7 @@ fn follow_lent<N: Origin, T: LentSource, K: Sink, P: Publisher, M: MetricsRecord
 ) -> (Result<u64, ProtoError>, T)
     requires picker { ForSome picker (λ p. C.can_pick p.now) }
     requires moment { acceptance.start ≡ pos seconds }
+    requires small { seconds < 2 ^ 63 }
     requires early { is_due deadline acceptance.start ≡ false }
     requires begin { N.begin ≡ record {
       loan = T.loan source;
@@ -90,6 +91,20 @@ fn follow_lent<N: Origin, T: LentSource, K: Sink, P: Publisher, M: MetricsRecord
         (K.failures sink.new) result.0 }
     ensures only { OnlyThese result.0 }
     ensures refused { RefusedFor N.begin.max N.begin.left result.0 }
+    ensures followed { BodyFollowed
+        (rules_with acceptance.limits deadline acceptance.ready
+        (option_map (λ p. C.picks p.now) picker.entry)) acceptance.start max_messages
+        (T.left source)
+        (record {
+          held = K.held sink.old;
+          steps = P.steps publisher.old;
+          records = M.records recorder.old;
+        })
+        (record {
+          held = K.held sink.new;
+          steps = P.steps publisher.new;
+          records = M.records recorder.new;
+        }) result.0 }
 {
     let Ok((chunk, frames)) = buffers(alloc, seconds) else {
         return (Err(ProtoError::Follow(FollowError::OutOfMemory)), source);
@@ -137,11 +152,26 @@ pub fn follow_proto<S: Source, K: Sink, P: Publisher, M: MetricsRecorder, C: Svi
 ) -> Result<u64, ProtoError>
     requires picker { ForSome picker (λ p. C.can_pick p.now) }
     requires start { IsTrue (int_le (pos 0) start) }
+    // The bytes fix the result: the messages with which they begin are followed as the session that
+    // they stand for, whose lines, steps and records are handed on whole.
+    ensures followed { is_due deadline start ≡ false → BodyFollowed
+        (rules_with limits deadline ready (option_map (λ p. C.picks p.now) picker.entry)) start
+        max_messages (S.left source.old)
+        (record {
+          held = K.held sink.old;
+          steps = P.steps publisher.old;
+          records = M.records recorder.old;
+        })
+        (record {
+          held = K.held sink.new;
+          steps = P.steps publisher.new;
+          records = M.records recorder.new;
+        }) result }
     // A failure comes only where its count rose.
     ensures cause { HasCauses (S.failures source.old) (S.failures source.new) (K.failures sink.old)
         (K.failures sink.new) result }
     // A message is refused where the bytes are whole messages up to it, and then none; too many are
-    // refused where octets stand behind as many messages as are allowed.
+    // refused where octets stand behind the most messages that are allowed.
     ensures refused { RefusedFor max_messages (S.left source.old) result }
     // Of the errors of a session only these come.
     ensures only { OnlyThese result }

@@ -1,5 +1,7 @@
 //! Bodies of the program's sessions.
 
+mod watching;
+
 use super::*;
 use spf_feed::{FollowError, MemPublisher, MemRecorder, NoPicker, Ready, ResourceLimits};
 use spf_fixtures::octets;
@@ -8,7 +10,7 @@ use std::alloc::Global;
 use std::test::*;
 
 /// One message: the item I1.
-static Q: &str = "0000000106 0a8302 0a16 7370696666653a2f2f6578616d706c652e6f72672f77 128d01 LEAF1 \
+const Q: &str = "0000000106 0a8302 0a16 7370696666653a2f2f6578616d706c652e6f72672f77 128d01 LEAF1 \
                   1a0f KEY1 2248 ROOT1";
 
 /// Follows a body from the moment 999 on, with reads of one octet, and returns what was written.
@@ -22,6 +24,15 @@ fn followed(
         let some = octets(alloc, part)?;
         bytes.extend_from_slice(some.as_slice())?;
     }
+    followed_octets(alloc, bytes, max)
+}
+
+/// The same of octets.
+fn followed_octets(
+    alloc: Global,
+    bytes: Vec<u8>,
+    max: u32,
+) -> Result<(Result<u64, ProtoError>, Vec<u8>), Fail> {
     let mut cuts = Vec::new(alloc);
     cuts.resize(2000, 1)?;
     let mut source = MemSource::new(bytes, cuts, Vec::new(alloc));
@@ -81,23 +92,62 @@ fn bodies(rt: HostRuntime) -> Result<(), Fail> {
     Ok(())
 }
 
+/// Bodies whose first message is bad.
+static BAD_BODIES: [&str; 22] = [
+    // Compressed, and with a flag that is none.
+    "0100000000",
+    "0200000000",
+    // Cut in the flag and the length, and in the octets.
+    "00",
+    "0000",
+    "00000000",
+    "0000000002 0a",
+    "0001000000",
+    // More than 2^24 octets, more than 2^31 and 4 GiB less one are stated.
+    "0001000001",
+    "0080000001",
+    "00ffffffff",
+    // The number 0; groups; the types 6 and 7.
+    "0000000002 0200",
+    "0000000001 0b",
+    "0000000001 0c",
+    "0000000001 0e",
+    "0000000001 0f",
+    // A varint of eleven octets, and one above 2^64.
+    "000000000c 4880808080808080808080 01",
+    "000000000b 48ffffffffffffffffff 02",
+    // A length past the end of the message, past 2^31 and past 2^63.
+    "0000000003 0a02 0a",
+    "0000000006 0a8080808008",
+    "000000000b 0a80808080808080808001",
+    // A field that is named, of another type.
+    "0000000002 0801",
+    // Not UTF-8.
+    "0000000005 0a03 0a01ff",
+];
+
 #[test]
 fn bad_messages(rt: HostRuntime) -> Result<(), Fail> {
-    // Compressed; cut in its length and in its octets; 4 GiB; the number 0; a group; not UTF-8.
-    for body in [
-        "0100000000",
-        "0000",
-        "00000000",
-        "0000000002 0a",
-        "00ffffffff",
-        "0001000001",
-        "0000000002 0200",
-        "0000000001 0b",
-        "0000000005 0a03 0a01ff",
-    ] {
-        let (result, lines) = followed(rt.alloc(), &[body], 10)?;
+    for body in BAD_BODIES.iter() {
+        let (result, lines) = followed(rt.alloc(), &[*body], 10)?;
         assert!(rt; result == Err(ProtoError::BadMessage { message: 1 }));
         assert_eq!(rt; count(lines.as_slice()), 1);
+    }
+    Ok(())
+}
+
+/// Whether the first octets of the body Q come to a bad message, after the line of the moment.
+fn is_bad_at(alloc: Global, length: usize) -> Result<bool, Fail> {
+    let mut bytes = octets(alloc, Q)?;
+    bytes.truncate(length);
+    let (result, lines) = followed_octets(alloc, bytes, 10)?;
+    Ok(result == Err(ProtoError::BadMessage { message: 1 }) && count(lines.as_slice()) == 1)
+}
+
+#[test]
+fn truncated_bodies(rt: HostRuntime) -> Result<(), Fail> {
+    for length in 1..267 {
+        assert!(rt; is_bad_at(rt.alloc(), length)?);
     }
     Ok(())
 }

@@ -290,7 +290,8 @@ impl<'p, T: LentSource, C: SvidPicker, N: Origin> Translator<'p, T, C, N> {
     fn ended(&mut self, end: FrameEnd, max: u32) -> Result<u64, ProtoError>
         requires max { max ≡ N.begin.max }
         ensures { IsEndedBy T.left T.failures N.begin
-            (left_of T.left N.begin.rules N.begin.start self.old) self.new (result_of_end end) result }
+            (left_of T.left N.begin.rules N.begin.start self.old) self.new (result_of_end end)
+            result }
     {
         match self.prepare() {
             Ok(()) => end.result(),

@@ -21,7 +21,7 @@ fn skip(count: usize, bytes: &[u8]) -> Option<&[u8]>
     bytes.get(count..)
 }
 
-/// Reads a length and that many octets.
+/// Reads a length and octets of that length.
 #[tactic(auto, unfolding(crate::specs::Wire::delimited_at))]
 fn read_delimited(bytes: &[u8]) -> Option<(&[u8], &[u8])>
     ensures exact { option_map (λ x. (x.0.now, x.1.now)) result ≡ delimited_at bytes.now }

@@ -1,5 +1,11 @@
+use Rattle.std.proofs.Common.{◌∙◌, ◌<◌, ◌^◌, ap, sym, arith}
+use Rattle.spf_feed.specs.Items.{rules_with}
+use Rattle.std.specs.Option.{option_map}
+use Rattle.spf_proto.specs.Beginning.{Beginning}
+use Rattle.spf_proto.specs.Following.{is_due}
 use Rattle.spf_proto.proofs.BodyErrorLemmas.{result_tells}
 use Rattle.spf_proto.proofs.EndLemmas.{causes_of}
+use Rattle.spf_proto.proofs.FollowedLemmas.{begun_left, followed_body, followed_since}
 use Rattle.spf_proto.proofs.following.follow_lent.Goals as goal
 
 pub returns-clause-cause : goal.returns-clause-cause
@@ -15,3 +21,24 @@ returns-clause-refused g c =
     result_tells g.T.LentSource.loan g.T.LentSource.left g.T.LentSource.failures g.N.Origin.begin _
     c.result_of-result.new.self c.of-end.result c.result_of-result.result
     c.into_source.ensures.knows c.result_of-result.ensures
+
+pub returns-clause-followed : goal.returns-clause-followed
+returns-clause-followed g c =
+    let begin = c.requires.begin in
+    let rules = rules_with c.args.acceptance.limits c.args.deadline c.args.acceptance.ready
+    (option_map (λ p. g.C.SvidPicker.picks p.now) c.args.picker) in
+    let start = ap (λ (b : Beginning). b.start) begin ∙ c.requires.moment in
+    let max = ap (λ (b : Beginning). b.max) begin in
+    let few : g.N.Origin.begin.max < 2 ^ 32 =
+    let fits = c.ranges.max_messages.fits in omega (arith, max, fits) in
+    let due = ap (is_due c.args.deadline) (sym c.requires.moment) ∙ c.requires.early in
+    let frames = begun_left g.T.LentSource.left g.N.Origin.begin rules c.args.seconds c.args.source
+    _ c.args.max_messages _ c.new-translator.ensures.begun c.in-Ok.ensures.1
+    (ap (λ (b : Beginning). b.rules) begin) start (sym (ap (λ (b : Beginning). b.left) begin))
+    (sym max) in
+    followed_since rules g.N.Origin.begin _ _ _ c.result_of-result.result begin
+    (followed_body g.T.LentSource.loan g.T.LentSource.left g.T.LentSource.failures g.N.Origin.begin
+    c.result_of-result.new.self rules c.args.seconds _ _ c.follow_x509-followed.result
+    c.of-end.result c.result_of-result.result c.into_source.ensures.knows start c.requires.small
+    few due frames c.follow_x509-followed.ensures.followed c.of-end.ensures
+    c.result_of-result.ensures)

@@ -1,4 +1,4 @@
-use Rattle.std.proofs.Common.{◌≡◌, ◌≤◌, ◌<◌, ◌^◌, ◌∙◌, ℕ, [], ◌∷◌, ap, sym, length, arith, rules}
+use Rattle.std.proofs.Common.{◌≡◌, ◌≤◌, ◌<◌, ◌^◌, ◌∙◌, ◌∷◌, ap, sym, length, arith, rules}
 use Rattle.std.proofs.lemmas.Bool.Decides.{nat_tests}
 use Rattle.spf_proto.proofs.OctetsLemmas.{flag_bad, is_too_long, needs_first, needs_head}
 use Rattle.spf_proto.proofs.OctetsLemmas.{needs_nothing}
@@ -11,7 +11,10 @@ returns-in_default c = needs_first c.args.got.now (search rules)
 pub returns-then-flag-ne0 : goal.returns-then-flag-ne0
 returns-then-flag-ne0 c =
     let is : c.args.got.now ≡ c.in-Some.flag.now ∷ c.in-Some.rest.now = search rules in
-    rw is (flag_bad c.in-Some.flag.now c.in-Some.rest.now (grind (arith, nat_tests)), λ none. absurd cc)
+    rw is (
+      flag_bad c.in-Some.flag.now c.in-Some.rest.now (grind (arith, nat_tests)),
+      λ none. absurd cc,
+    )
 
 pub returns-in_default-read_length : goal.returns-in_default-read_length
 returns-in_default-read_length c =
@@ -36,7 +39,8 @@ returns-then-octets-length c =
     let is : c.args.got.now ≡ c.in-Some.flag.now ∷ c.in-Some.rest.now = search rules in
     let zero : c.in-Some.flag.now ≡ 0 = grind (arith, nat_tests) in
     let le : c.in-Some-read_length.length ≤ 2 ^ 24 = grind (arith, nat_tests) in
-    let lt : length c.in-Some-read_length.octets.now < c.in-Some-read_length.length = search rules in
+    let lt : length c.in-Some-read_length.octets.now < c.in-Some-read_length.length =
+    search rules in
     needs_rest c.args.got.now c.in-Some.rest.now c.in-Some-read_length.octets.now
     c.in-Some-read_length.length _ (is ∙ ap (λ f. f ∷ c.in-Some.rest.now) zero)
     c.in-Some-read_length.ensures le lt (search rules)
@@ -45,7 +49,8 @@ pub returns : goal.returns
 returns c =
     let is : c.args.got.now ≡ c.in-Some.flag.now ∷ c.in-Some.rest.now = search rules in
     let zero : c.in-Some.flag.now ≡ 0 = grind (arith, nat_tests) in
-    let le : c.in-Some-read_length.length ≤ length c.in-Some-read_length.octets.now = search rules in
+    let le : c.in-Some-read_length.length ≤ length c.in-Some-read_length.octets.now =
+    search rules in
     needs_nothing c.args.got.now c.in-Some.rest.now c.in-Some-read_length.octets.now
     c.in-Some-read_length.length (is ∙ ap (λ f. f ∷ c.in-Some.rest.now) zero)
     c.in-Some-read_length.ensures le c.requires

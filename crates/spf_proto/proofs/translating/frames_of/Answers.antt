@@ -1,4 +1,4 @@
-use Rattle.std.proofs.Common.{◌≡◌, ◌∙◌, ◌≤◌, ◌<◌, ◌^◌, ℕ, List, [], ◌++◌, length, ap, sym, rules}
+use Rattle.std.proofs.Common.{◌≡◌, ◌∙◌, ℕ, List, ◌++◌, length, ap, sym}
 use Rattle.std.proofs.Common.{arith}
 use Rattle.std.specs.Option.{option_map}
 use Rattle.std.proofs.lemmas.Bool.Decides.{nat_tests}
@@ -22,7 +22,8 @@ returns-then-len-gt-MAX_PAYLOAD g c =
     let whole : c.put_context.new.out.items ≡ context_payload (context_of c.in-Some.view) =
     c.in_ok-put_context.ensures.octets
     ∙ ap (λ (l : List ℕ). l ++ context_payload (context_of c.in-Some.view)) c.clear.ensures.items in
-    let size : length c.put_context.new.out.items ≡ length (context_payload (context_of c.in-Some.view)) =
+    let size : length c.put_context.new.out.items
+    ≡ length (context_payload (context_of c.in-Some.view)) =
     ap length whole in
     response_large c.args.octets.now (context_of c.in-Some.view)
     (sym c.in_ok-view.ensures.exact ∙ ap (option_map context_of) c.in-Some.is)
@@ -33,7 +34,8 @@ returns g c =
     let whole : c.put_context.new.out.items ≡ context_payload (context_of c.in-Some.view) =
     c.in_ok-put_context.ensures.octets
     ∙ ap (λ (l : List ℕ). l ++ context_payload (context_of c.in-Some.view)) c.clear.ensures.items in
-    let size : length c.put_context.new.out.items ≡ length (context_payload (context_of c.in-Some.view)) =
+    let size : length c.put_context.new.out.items
+    ≡ length (context_payload (context_of c.in-Some.view)) =
     ap length whole in
     record {
       response = context_of c.in-Some.view;

@@ -1,4 +1,3 @@
-use Rattle.std.proofs.Common.{refl, IfOk, Result, Ok, Err, ◌≡◌}
 use Rattle.spf_api.specs.Views.{context_of}
 use Rattle.spf_proto.proofs.ReceivedLemmas.{received_all}
 use Rattle.spf_proto.proofs.translating.read_context.Goals as goal

@@ -1,0 +1,544 @@
+-- What a body that is followed gives.
+use Rattle.std.proofs.Common.{◌≡◌, ◌≢◌, ◌∙◌, ℕ, zero, suc, ◌+◌, ◌-◌, ◌^◌, ◌<◌, Bool, true}
+use Rattle.std.proofs.Common.{false, cond, List, [], ◌∷◌, ◌++◌, length, Option, Some, None}
+use Rattle.std.proofs.Common.{Result, Ok, Err, inl, inr, refl, sym, ap, subst, arith, append_assoc}
+use Rattle.std.proofs.Common.{take_all}
+use Rattle.std.specs.Prelude.{ℤ, pos, ◌⊎◌, ◌&&◌, ◌==◌, IsTrue, IfSome}
+use Rattle.std.specs.Option.{option_map, option_map_or}
+use Rattle.std.specs.Io.KnownBytes.{Consumes, IsAtEnd, Keeps}
+use Rattle.std.proofs.lemmas.Bool.Decides.{nat_tests}
+use Rattle.std.proofs.lemmas.List.{append-nil}
+use Rattle.spf_api.specs.declared.response.ContextResponse.{ContextResponse}
+use Rattle.spf_view.specs.Sessions.{IsReading, onto, End, Whole, NeverSynced}
+use Rattle.spf_view.specs.Sessions.{ReadFault, end_of, IsEndOf, all_of, Ports, Grows, GrowsUpTo}
+use Rattle.spf_view.specs.Sessions.{cuts_line, cuts_steps, Followed}
+use Rattle.spf_view.specs.Views.{has_synced}
+use Rattle.spf_view.proofs.SessionLemmas.{IsOpen, reading_same, refusal_of-open, end_at_end}
+use Rattle.spf_feed.specs.declared.follow_error.FollowError.{FollowError}
+use Rattle.spf_feed.specs.declared.follow_error.FollowError.TheVariants as answers
+use Rattle.spf_feed.specs.declared.record.MetricsRecord.{MetricsRecord}
+use Rattle.spf_feed.specs.declared.turn.Terminal.{Terminal}
+use Rattle.spf_feed.specs.declared.turn.Terminal.TheVariants as terminal
+use Rattle.spf_feed.specs.Items.{Event, Rules, subject}
+use Rattle.spf_feed.specs.Run.{stream, outputs, end_for, timed_out}
+use Rattle.spf_feed.specs.Steps.{PlainStep}
+use Rattle.spf_proto.specs.declared.frame_end.FrameEnd.{FrameEnd}
+use Rattle.spf_proto.specs.declared.frame_end.FrameEnd.TheVariants as ends
+use Rattle.spf_proto.specs.declared.proto_error.ProtoError.{ProtoError}
+use Rattle.spf_proto.specs.declared.proto_error.ProtoError.TheVariants as errors
+use Rattle.spf_proto.specs.declared.taking.Stop.{Stop}
+use Rattle.spf_proto.specs.declared.taking.Stop.TheVariants as stops
+use Rattle.spf_proto.specs.Beginning.{Beginning}
+use Rattle.spf_proto.specs.Body.{message_at, body_within, IsBody}
+use Rattle.spf_proto.specs.Ends.{IsReasonOf, IsResultOf, begun, error_of}
+use Rattle.spf_proto.specs.FrameEnds.{end_by}
+use Rattle.spf_proto.specs.Following.{is_due, is_free, answer_of, Held, HandsOnAll, FollowsBody}
+use Rattle.spf_proto.specs.Following.{BodyFollowed}
+use Rattle.spf_proto.specs.Translated.{frames_from, moment_frame, session_of}
+use Rattle.spf_proto.specs.Translator.{Translating, IsTranslator, left_of}
+use Rattle.spf_proto.proofs.BodySessions.{undated, shut, body_frames, open_session, read_session}
+use Rattle.spf_proto.proofs.LaidMessages.{body_laid, body_count}
+
+-- ---- what following the frames gives
+
+grown : {X : Type 0} (old new : Option (List X)) (more : List X) (cut : Bool) → cut ≡ false
+    → GrowsUpTo old new more cut → Grows old new more
+grown {X} old new more cut off g =
+    let all = g.all off in
+    subst (λ (l : List X). Grows old new l) (take_all g.count more (omega (arith, all))) g.grows
+
+-- what is held, without what is read
+abbrev held : Ports PlainStep MetricsRecord → Held
+held p = record { held = p.held; steps = p.steps; records = p.records }
+
+abbrev Given : Rules → List Event → Ports PlainStep MetricsRecord → Ports PlainStep MetricsRecord
+    → Type 0
+Given rules es old new = HandsOnAll rules es (held old) (held new)
+
+given : (rules : Rules) (max : ℕ) (old new : Ports PlainStep MetricsRecord) (r : End Terminal)
+    (es : List Event) (f : Followed (stream rules) (outputs rules) max old new r) → f.es ≡ es
+    → cuts_line r ≡ false → cuts_steps r ≡ false → Given rules es old new
+given rules max old new r es f same line steps = record {
+  lines = subst (λ (l : List Event).
+      Grows old.held new.held (all_of (stream rules) (outputs rules).line [] l)) same
+      (grown old.held new.held _ _ (ap (λ (b : Bool). b && length f.extra == 0) line) f.lines);
+  steps = subst (λ (l : List Event).
+      Grows old.steps new.steps (all_of (stream rules) (outputs rules).steps [] l)) same
+      (grown old.steps new.steps _ _ (ap (λ (b : Bool). b && length f.extra == 0) steps) f.steps);
+  records = subst (λ (l : List Event).
+      Grows old.records new.records (all_of (stream rules) (outputs rules).records [] l)) same
+      (grown old.records new.records _ _ (ap (λ (b : Bool). b && length f.extra == 0) steps)
+      f.records);
+}
+
+abbrev IsKnown : Option (List ℕ) → Type 0
+IsKnown left = (bytes : List ℕ) × (left ≡ Some bytes)
+
+-- what following the frames of a session gives, by its end
+abbrev pub IsGiven : Rules → List Event → Ports PlainStep MetricsRecord
+    → Ports PlainStep MetricsRecord → FrameEnd → Type 0
+IsGiven rules es old new (ends.Whole n) =
+    (n ≡ length es) × (has_synced (subject rules) (onto [] es) ≡ true) × (new.left ≡ Some [])
+    × Given rules es old new
+IsGiven rules es old new ends.NeverSynced =
+    (has_synced (subject rules) (onto [] es) ≡ false) × (new.left ≡ Some [])
+    × Given rules es old new
+IsGiven rules es old new ends.ReadFault =
+    IsKnown new.left × (new.left ≡ Some [] → Given rules es old new)
+IsGiven rules es old new _ = Unit {0}
+
+known : (bytes given : List ℕ) (left : Option (List ℕ)) → Consumes (Some bytes) left given
+    → IsKnown left
+known bytes given None taken = absurd taken
+known bytes given (Some x) taken = (x, refl)
+
+rest_is : (bytes given rest : List ℕ) (left : Option (List ℕ)) → Consumes (Some bytes) left given
+    → left ≡ Some rest → bytes ≡ given ++ rest
+rest_is bytes given rest left taken is =
+    subst (λ (l : Option (List ℕ)). Consumes (Some bytes) l given) is taken
+
+-- the frames of a whole session are all read
+all_read : (rules : Rules) (max : ℕ) (bytes rest : List ℕ) (es : List Event)
+    (old new : Ports PlainStep MetricsRecord) (r : End Terminal)
+    (f : Followed (stream rules) (outputs rules) max old new r)
+    → IsReading (stream rules) max bytes es [] → IsEndOf (stream rules) max bytes f.es r
+    → old.left ≡ Some bytes → f.extra ≡ []
+    → (f.es ≡ es) × (new.left ≡ Some [])
+all_read rules max bytes rest es old new r f reading e left none =
+    let s = stream rules in
+    let same = reading_same s max bytes f.es es e.rest [] e.reading reading in
+    let taken : Consumes (Some bytes) new.left (f.text ++ f.extra) =
+    subst (λ (l : Option (List ℕ)). Consumes l new.left (f.text ++ f.extra)) left f.taken in
+    let is = known bytes (f.text ++ f.extra) new.left taken in
+    let whole : bytes ≡ f.text ++ is.0 =
+    rest_is bytes (f.text ++ f.extra) is.0 new.left taken is.1
+    ∙ ap (λ (l : List ℕ). (f.text ++ l) ++ is.0) none
+    ∙ ap (λ (l : List ℕ). l ++ is.0) (append-nil f.text) in
+    let again : IsReading s max bytes f.es is.0 = record {
+      reads = record { text = f.text; bytes_are = whole; session = f.session; bound = f.bound };
+      longest = e.reading.longest;
+    } in
+    let end = reading_same s max bytes f.es es is.0 [] again reading in
+    (same.0, is.1 ∙ ap Some end.1)
+
+-- the end of a whole session, by whether something is accepted
+abbrev end_with : Bool → ℕ → End Terminal
+end_with b n = cond b (Whole n) NeverSynced
+
+end_is : (rules : Rules) (max : ℕ) (bytes : List ℕ) (es : List Event) (b : Bool)
+    → IsOpen (stream rules) [] bytes es → has_synced (subject rules) (onto [] es) ≡ b
+    → end_of (stream rules) max es [] ≡ end_with b (length es)
+end_is rules max bytes es b going synced =
+    end_at_end (stream rules) max es b (refusal_of-open (stream rules) [] bytes es going) synced
+
+end_whole : (b : Bool) (n m : ℕ) → Whole n ≡ end_with b m → b ≡ true
+end_whole true n m is = refl
+end_whole false n m is = absurd cc
+
+end_never : (b : Bool) (m : ℕ) → NeverSynced ≡ end_with b m → b ≡ false
+end_never true m is = absurd cc
+end_never false m is = refl
+
+pub given_by : (rules : Rules) (max : ℕ) (bytes : List ℕ) (es : List Event)
+    (old new : Ports PlainStep MetricsRecord) (followed : Result ℕ FollowError)
+    → IsOpen (stream rules) [] bytes es → IsReading (stream rules) max bytes es []
+    → old.left ≡ Some bytes
+    → Followed (stream rules) (outputs rules) max old new (end_for followed)
+    → IsGiven rules es old new (end_by followed)
+given_by rules max bytes es old new (Ok n) going reading left f =
+    by (subst (λ (l : Option (List ℕ)). IfSome l (λ bytes.
+    IsTrue false ⊎ IsEndOf (stream rules) max bytes f.es (Whole n))) left f.end)
+  where
+    by : IsTrue false ⊎ IsEndOf (stream rules) max bytes f.es (Whole n)
+        → IsGiven rules es old new (ends.Whole n)
+    by (inl free) = absurd cc
+    by (inr e) =
+        let read =
+        all_read rules max bytes [] es old new (Whole n) f reading e left f.taken_at_end.1 in
+        let same = reading_same (stream rules) max bytes f.es es e.rest [] e.reading reading in
+        let b = has_synced (subject rules) (onto [] es) in
+        let end : Whole n ≡ end_with b (length es) =
+        e.is ∙ (λ i. end_of (stream rules) max (same.0 i) (same.1 i))
+        ∙ end_is rules max bytes es b going refl in (
+          f.taken_at_end.0 ∙ ap length read.0,
+          end_whole b n (length es) end,
+          read.1,
+          given rules max old new (Whole n) es f read.0 refl refl,
+        )
+given_by rules max bytes es old new (Err answers.NeverSynced) going reading left f =
+    by (subst (λ (l : Option (List ℕ)). IfSome l (λ bytes.
+    IsTrue false ⊎ IsEndOf (stream rules) max bytes f.es NeverSynced)) left f.end)
+  where
+    by : IsTrue false ⊎ IsEndOf (stream rules) max bytes f.es NeverSynced
+        → IsGiven rules es old new ends.NeverSynced
+    by (inl free) = absurd cc
+    by (inr e) =
+        let read =
+        all_read rules max bytes [] es old new NeverSynced f reading e left f.taken_at_end in
+        let same = reading_same (stream rules) max bytes f.es es e.rest [] e.reading reading in
+        let b = has_synced (subject rules) (onto [] es) in
+        let end : NeverSynced ≡ end_with b (length es) =
+        e.is ∙ (λ i. end_of (stream rules) max (same.0 i) (same.1 i))
+        ∙ end_is rules max bytes es b going refl in (
+          end_never b (length es) end,
+          read.1,
+          given rules max old new NeverSynced es f read.0 refl refl,
+        )
+given_by rules max bytes es old new (Err answers.ReadFault) going reading left f =
+    let s = stream rules in
+    let taken : Consumes (Some bytes) new.left (f.text ++ f.extra) =
+    subst (λ (l : Option (List ℕ)). Consumes l new.left (f.text ++ f.extra)) left f.taken in (
+      known bytes (f.text ++ f.extra) new.left taken,
+      λ end.
+          let whole : f.text ++ f.extra ≡ bytes =
+          sym (append-nil (f.text ++ f.extra))
+          ∙ sym (rest_is bytes (f.text ++ f.extra) [] new.left taken end) in
+          let handed : IsReading s max bytes f.es f.extra =
+          subst (λ (l : List ℕ). IsReading s max l f.es f.extra) whole (f.handed_out refl) in
+          let same = reading_same s max bytes f.es es f.extra [] handed reading in
+          given rules max old new ReadFault es f same.0 refl refl,
+    )
+given_by rules max bytes es old new (Err answers.OutOfMemory) going reading left f = tt
+given_by rules max bytes es old new (Err answers.WriteFault) going reading left f = tt
+given_by rules max bytes es old new (Err answers.SessionTooLong) going reading left f = tt
+given_by rules max bytes es old new (Err (answers.BadFrame n)) going reading left f = tt
+given_by rules max bytes es old new (Err (answers.Source e)) going reading left f = tt
+given_by rules max bytes es old new (Err (answers.UnsupportedRpc e)) going reading left f = tt
+given_by rules max bytes es old new (Err answers.InitialSyncTimeout) going reading left f = tt
+given_by rules max bytes es old new (Err answers.Closed) going reading left f = tt
+
+-- ---- the messages of a body
+
+none_more : (max : ℕ) (rest : List ℕ) → message_at rest ≡ None
+    → body_within max rest ≡ ([], rest)
+none_more zero rest none = refl
+none_more (suc max) rest none =
+    ap (λ (m : Option (ContextResponse × List ℕ)). option_map_or {U = List ContextResponse × List ℕ}
+    (λ (m : ContextResponse × List ℕ).
+    (m.0 ∷ (body_within max m.1).0, (body_within max m.1).1)) m ([], rest)) none
+
+-- whole messages, and then none, or the most that are allowed
+body_of : (max : ℕ) (text rest : List ℕ) (ms : List ContextResponse) (allowed : ℕ) → IsBody text ms
+    → length ms + allowed ≡ max → (body_within allowed rest ≡ ([], rest))
+    → body_within max (text ++ rest) ≡ (ms, rest)
+body_of max text rest [] allowed is count stop =
+    let full : max ≡ allowed = omega (arith, count) in
+    ap (λ (l : List ℕ). body_within max (l ++ rest)) is
+    ∙ ap (λ (n : ℕ). body_within n rest) full ∙ stop
+body_of zero text rest (m ∷ ms) allowed (front, others, is, one, body) count stop =
+    absurd (omega (arith, count))
+body_of (suc max) text rest (m ∷ ms) allowed (front, others, is, one, body) count stop =
+    let first : message_at (text ++ rest) ≡ Some (m, others ++ rest) =
+    ap message_at (ap (λ (l : List ℕ). l ++ rest) is ∙ append_assoc front others rest)
+    ∙ one.begins (others ++ rest) in
+    let later = body_of max others rest ms allowed body (omega (arith, count)) stop in
+    ap (λ (o : Option (ContextResponse × List ℕ)). option_map_or {U = List ContextResponse × List ℕ}
+    (λ (o : ContextResponse × List ℕ).
+    (o.0 ∷ (body_within max o.1).0, (body_within max o.1).1)) o ([], text ++ rest)) first
+    ∙ ap (λ (p : List ContextResponse × List ℕ). (m ∷ p.0, p.1)) later
+
+-- ---- the answer
+
+pub some_rest : (rest : List ℕ) → rest ≢ [] → (length rest == 0) ≡ false
+some_rest [] some = absurd (some refl)
+some_rest (x ∷ rest) some = grind (arith, nat_tests)
+
+pub answer_synced : (rules : Rules) (start : ℤ) (max : ℕ) (ms : List ContextResponse) (b : Bool)
+    → has_synced (subject rules) (onto [] (session_of rules start ms)) ≡ b
+    → answer_of rules start max ms []
+    ≡ cond b (Ok (length (session_of rules start ms))) (Err (errors.Follow answers.NeverSynced))
+answer_synced rules start max ms b synced =
+    ap (λ (b : Bool). cond b (Ok (length (session_of rules start ms)))
+    (Err (errors.Follow answers.NeverSynced))) synced
+
+answer_many : (rules : Rules) (start : ℤ) (max : ℕ) (ms : List ContextResponse) (rest : List ℕ)
+    → rest ≢ [] → length ms ≡ max → answer_of rules start max ms rest ≡ Err errors.TooManyMessages
+answer_many rules start max ms rest some full =
+    let is : (length ms == max) ≡ true = grind (arith, nat_tests, full) in
+    rw (some_rest rest some, is) refl
+
+answer_bad : (rules : Rules) (start : ℤ) (max : ℕ) (ms : List ContextResponse) (rest : List ℕ)
+    → rest ≢ [] → length ms < max
+    → answer_of rules start max ms rest ≡ Err (errors.BadMessage (length ms + 1))
+answer_bad rules start max ms rest some less =
+    let isnt : (length ms == max) ≡ false = grind (arith, nat_tests, less) in
+    rw (some_rest rest some, isnt) refl
+
+-- ---- how the translation ended
+
+some_more : (xs ys : List ℕ) → xs ≢ [] → xs ++ ys ≢ []
+some_more [] ys some is = some refl
+some_more (x ∷ xs) ys some is = absurd cc
+
+-- the body, where nothing more is a message
+record BodyRead (b : Beginning) (bytes : List ℕ) (messages : List ContextResponse)
+    (rest : List ℕ) : Type 0 where
+  read : body_within b.max bytes ≡ (messages, rest)
+
+read_so_far : {T : Type 0} (loan : T → ℕ) (left : T → Option (List ℕ)) (failures : T → ℕ)
+    (b : Beginning) (t : Translating T) (bytes more : List ℕ)
+    (i : IsTranslator loan left failures b t)
+    → b.left ≡ Some bytes → left t.source ≡ Some more
+    → body_within t.allowed (t.got ++ more) ≡ ([], t.got ++ more)
+    → BodyRead b bytes i.messages (t.got ++ more)
+read_so_far loan left failures b t bytes more i first now stop =
+    let taken : Consumes (Some bytes) (left t.source) (i.text ++ t.got) =
+    subst (λ (l : Option (List ℕ)). Consumes l (left t.source) (i.text ++ t.got)) first i.taken in
+    let whole : bytes ≡ i.text ++ (t.got ++ more) =
+    rest_is bytes (i.text ++ t.got) more (left t.source) taken now
+    ∙ append_assoc i.text t.got more in
+    record {
+      read = ap (body_within b.max) whole
+          ∙ body_of b.max i.text (t.got ++ more) i.messages t.allowed i.are i.counted stop;
+    }
+
+-- its own source tells its bytes
+tells : {T : Type 0} (loan : T → ℕ) (left : T → Option (List ℕ)) (failures : T → ℕ)
+    (b : Beginning) (t : Translating T) (bytes : List ℕ) → IsTranslator loan left failures b t
+    → b.left ≡ Some bytes → IsKnown (left t.source)
+tells loan left failures b t bytes i first =
+    known bytes (i.text ++ t.got) (left t.source)
+    (subst (λ (l : Option (List ℕ)). Consumes l (left t.source) (i.text ++ t.got)) first i.taken)
+
+-- the answer of a body, where all frames of its messages are given
+follows : (rules : Rules) (start : ℤ) (max : ℕ) (bytes : List ℕ)
+    (old new : Ports PlainStep MetricsRecord) (r : Result ℕ ProtoError)
+    (messages : List ContextResponse) (rest : List ℕ)
+    → body_within max bytes ≡ (messages, rest)
+    → Given rules (session_of rules start (body_within max bytes).0) old new
+    → r ≡ answer_of rules start max messages rest
+    → FollowsBody rules start max bytes (held old) (held new) r
+follows rules start max bytes old new r messages rest reading g answer = record {
+  messages = messages;
+  rest = rest;
+  reading = reading;
+  answer = answer;
+  given = subst (λ (p : List ContextResponse × List ℕ).
+      Given rules (session_of rules start p.0) old new) reading g;
+}
+
+abbrev Answered : Rules → ℤ → ℕ → List ℕ → Ports PlainStep MetricsRecord
+    → Ports PlainStep MetricsRecord → Result ℕ ProtoError → Type 0
+Answered rules start max bytes old new r =
+    IsTrue (is_free r) ⊎ FollowsBody rules start max bytes (held old) (held new) r
+
+-- where nothing is ready and nothing more is a message, nothing is left
+nothing_left : {T : Type 0} (loan : T → ℕ) (left : T → Option (List ℕ)) (failures : T → ℕ)
+    (b : Beginning) (t : Translating T) (more : List ℕ) → left t.source ≡ Some more → t.ready ≡ []
+    → body_within t.allowed (t.got ++ more) ≡ ([], t.got ++ more)
+    → left_of left b.rules b.start t ≡ Some []
+nothing_left loan left failures b t more now ready stop =
+    ap (λ (l : Option (List ℕ)). option_map (λ bytes. t.ready
+    ++ frames_from b.rules b.start t.standing (body_within t.allowed (t.got ++ bytes)).0) l) now
+    ∙ ap (λ (l : List ℕ). Some (l
+    ++ frames_from b.rules b.start t.standing (body_within t.allowed (t.got ++ more)).0)) ready
+    ∙ ap (λ (p : List ContextResponse × List ℕ).
+    Some (frames_from b.rules b.start t.standing p.0)) stop
+
+-- where the translation stopped
+stopped : {T : Type 0} (loan : T → ℕ) (left : T → Option (List ℕ)) (failures : T → ℕ)
+    (b : Beginning) (t : Translating T) (rules : Rules) (bytes : List ℕ)
+    (old new : Ports PlainStep MetricsRecord) (r : Result ℕ ProtoError) (stop : Stop)
+    → IsTranslator loan left failures b t → b.left ≡ Some bytes
+    → (left_of left b.rules b.start t ≡ Some []
+    → Given rules (session_of rules b.start (body_within b.max bytes).0) old new)
+    → r ≡ Err (error_of b.max t.allowed stop) → IsReasonOf left failures b t stop
+    → Answered rules b.start b.max bytes old new r
+stopped loan left failures b t rules bytes old new r stops.SourceFailed i first g is reason =
+    subst (λ (r : Result ℕ ProtoError). Answered rules b.start b.max bytes old new r) (sym is)
+    (inl refl)
+stopped loan left failures b t rules bytes old new r stops.OutOfMemory i first g is reason =
+    subst (λ (r : Result ℕ ProtoError). Answered rules b.start b.max bytes old new r) (sym is)
+    (inl refl)
+stopped loan left failures b t rules bytes old new r stops.TooManyMessages i first g is
+    (some, full, ready) =
+    let more = tells loan left failures b t bytes i first in
+    let stop : body_within t.allowed (t.got ++ more.0) ≡ ([], t.got ++ more.0) =
+    ap (λ (n : ℕ). body_within n (t.got ++ more.0)) full in
+    let body = read_so_far loan left failures b t bytes more.0 i first more.1 stop in
+    let none = nothing_left loan left failures b t more.0 more.1 ready stop in
+    let counted = i.counted in
+    inr (follows rules b.start b.max bytes old new r i.messages (t.got ++ more.0) body.read (g none)
+    (is ∙ sym (answer_many rules b.start b.max i.messages (t.got ++ more.0)
+    (some_more t.got more.0 some) (omega (arith, counted, full)))))
+stopped loan left failures b t rules bytes old new r stops.BadMessage i first g is
+    (some, allowed, ready, none) =
+    let more = tells loan left failures b t bytes i first in
+    let bad : message_at (t.got ++ more.0) ≡ None =
+    subst (λ (l : Option (List ℕ)). IfSome l (λ bytes. message_at (t.got ++ bytes) ≡ None)) more.1
+    none in
+    let stop = none_more t.allowed (t.got ++ more.0) bad in
+    let body = read_so_far loan left failures b t bytes more.0 i first more.1 stop in
+    let nothing = nothing_left loan left failures b t more.0 more.1 ready stop in
+    let counted = i.counted in
+    let above : 0 < t.allowed = grind (arith, allowed) in
+    let number : b.max - t.allowed + 1 ≡ length i.messages + 1 = omega (arith, counted) in
+    inr (follows rules b.start b.max bytes old new r i.messages (t.got ++ more.0) body.read
+    (g nothing)
+    (is ∙ ap (λ (n : ℕ). Err (errors.BadMessage n)) number
+    ∙ sym (answer_bad rules b.start b.max i.messages (t.got ++ more.0)
+    (some_more t.got more.0 some) (omega (arith, counted, above)))))
+
+-- where the source is at its end
+nil_front : (xs ys : List ℕ) → xs ++ ys ≡ [] → xs ≡ []
+nil_front [] ys is = refl
+nil_front (x ∷ xs) ys is = absurd cc
+
+ready_none : {T : Type 0} (left : T → Option (List ℕ)) (rules : Rules) (start : ℤ)
+    (t : Translating T) (more : List ℕ) → left t.source ≡ Some more
+    → left_of left rules start t ≡ Some [] → t.ready ≡ []
+ready_none left rules start t more now none =
+    let all : Some (t.ready
+    ++ frames_from rules start t.standing (body_within t.allowed (t.got ++ more)).0) ≡ Some [] =
+    ap (λ (l : Option (List ℕ)). option_map (λ bytes. t.ready
+    ++ frames_from rules start t.standing (body_within t.allowed (t.got ++ bytes)).0) l) (sym now)
+    ∙ none in
+    nil_front t.ready _ (some_is all)
+  where
+    some_is : {x y : List ℕ} → Some x ≡ Some y → x ≡ y
+    some_is e = cc
+
+at_end : (l : Option (List ℕ)) (more : List ℕ) → l ≡ Some more → IsAtEnd l → more ≡ []
+at_end l more is end = subst IsAtEnd is end
+
+ended : {T : Type 0} (loan : T → ℕ) (left : T → Option (List ℕ)) (failures : T → ℕ)
+    (b : Beginning) (t : Translating T) (bytes : List ℕ)
+    (i : IsTranslator loan left failures b t)
+    → b.left ≡ Some bytes → left_of left b.rules b.start t ≡ Some []
+    → (t.ready ≡ [] → t.ended ≡ true)
+    → BodyRead b bytes i.messages []
+unfolding message_at
+ended loan left failures b t bytes i first none end =
+    let more = tells loan left failures b t bytes i first in
+    let ready = ready_none left b.rules b.start t more.0 more.1 none in
+    let last = i.at_end (end ready) in
+    let empty : more.0 ≡ [] = at_end (left t.source) more.0 more.1 last.1 in
+    let nothing : t.got ++ more.0 ≡ [] =
+    ap (λ (l : List ℕ). l ++ more.0) last.0 ∙ empty in
+    subst (λ (l : List ℕ). BodyRead b bytes i.messages l) nothing
+    (read_so_far loan left failures b t bytes more.0 i first more.1
+    (none_more t.allowed (t.got ++ more.0) (ap message_at nothing)))
+
+keeps_none : (before after : Option (List ℕ)) → before ≡ Some [] → Keeps before after
+    → after ≡ Some []
+keeps_none before after is keeps =
+    by after (subst (λ (l : Option (List ℕ)). Keeps l after) is keeps)
+  where
+    by : (after : Option (List ℕ)) → Keeps (Some []) after → after ≡ Some []
+    by None keeps = absurd keeps
+    by (Some x) keeps = ap Some keeps
+
+kept_none : (before after : Option (List ℕ)) → IsKnown before → Keeps before after
+    → after ≡ Some [] → before ≡ Some []
+kept_none before after is keeps none =
+    let same : [] ≡ is.0 =
+    (λ (k : Keeps (Some is.0) (Some [])). k)
+    (subst (λ (l : Option (List ℕ)). Keeps (Some is.0) l) none
+    (subst (λ (l : Option (List ℕ)). Keeps l after) is.1 keeps)) in
+    is.1 ∙ ap Some (sym same)
+
+-- ---- the result
+
+pub answered : {T : Type 0} (loan : T → ℕ) (left : T → Option (List ℕ)) (failures : T → ℕ)
+    (b : Beginning) (t : Translating T) (rules : Rules) (bytes : List ℕ)
+    (old new : Ports PlainStep MetricsRecord) (end : FrameEnd) (r : Result ℕ ProtoError)
+    → IsTranslator loan left failures b t → b.left ≡ Some bytes
+    → IsGiven rules (session_of rules b.start (body_within b.max bytes).0) old new end
+    → IsResultOf left failures b new.left t end r
+    → Answered rules b.start b.max bytes old new r
+answered loan left failures b t rules bytes old new (ends.Whole n) r i first
+    (count, synced, none, g) (keeps, inl (is, end)) =
+    let here = keeps_none new.left (left_of left b.rules b.start t) none keeps in
+    let body = ended loan left failures b t bytes i first here end in
+    let all = ap (λ (p : List ContextResponse × List ℕ). session_of rules b.start p.0) body.read in
+    inr (follows rules b.start b.max bytes old new r i.messages [] body.read g
+    (is ∙ ap Ok (count ∙ ap length all)
+    ∙ sym (answer_synced rules b.start b.max i.messages true
+    (ap (λ (l : List Event). has_synced (subject rules) (onto [] l)) (sym all) ∙ synced))))
+answered loan left failures b t rules bytes old new (ends.Whole n) r i first
+    (count, synced, none, g) (keeps, inr (stop, is, reason)) =
+    stopped loan left failures b t rules bytes old new r stop i first (λ none. g) is reason
+answered loan left failures b t rules bytes old new ends.NeverSynced r i first
+    (synced, none, g) (keeps, inl (is, end)) =
+    let here = keeps_none new.left (left_of left b.rules b.start t) none keeps in
+    let body = ended loan left failures b t bytes i first here end in
+    let all = ap (λ (p : List ContextResponse × List ℕ). session_of rules b.start p.0) body.read in
+    inr (follows rules b.start b.max bytes old new r i.messages [] body.read g
+    (is
+    ∙ sym (answer_synced rules b.start b.max i.messages false
+    (ap (λ (l : List Event). has_synced (subject rules) (onto [] l)) (sym all) ∙ synced))))
+answered loan left failures b t rules bytes old new ends.NeverSynced r i first
+    (synced, none, g) (keeps, inr (stop, is, reason)) =
+    stopped loan left failures b t rules bytes old new r stop i first (λ none. g) is reason
+answered loan left failures b t rules bytes old new ends.ReadFault r i first
+    (here, g) (keeps, (stop, is, reason)) =
+    stopped loan left failures b t rules bytes old new r stop i first
+    (λ none. g (kept_none new.left (left_of left b.rules b.start t) here keeps none)) is reason
+answered loan left failures b t rules bytes old new ends.WriteFault r i first g is =
+    subst (λ (r : Result ℕ ProtoError). Answered rules b.start b.max bytes old new r) (sym is)
+    (inl refl)
+answered loan left failures b t rules bytes old new ends.OutOfMemory r i first g is =
+    subst (λ (r : Result ℕ ProtoError). Answered rules b.start b.max bytes old new r) (sym is)
+    (inl refl)
+
+early : (deadline : Option ℤ) (start : ℤ) → is_due deadline start ≡ false
+    → timed_out deadline start ≡ None
+early None start is = refl
+early (Some deadline) start is =
+    ap (λ (b : Bool). cond b (Some terminal.InitialSyncTimeout) None) is
+
+-- a body is followed, whatever its bytes are
+pub followed_body : {T : Type 0} (loan : T → ℕ) (left : T → Option (List ℕ)) (failures : T → ℕ)
+    (b : Beginning) (t : Translating T) (rules : Rules) (seconds : ℕ)
+    (old new : Ports PlainStep MetricsRecord) (followed : Result ℕ FollowError)
+    (end : FrameEnd) (r : Result ℕ ProtoError)
+    → IsTranslator loan left failures b t → b.start ≡ pos seconds → seconds < 2 ^ 63
+    → b.max < 2 ^ 32 → is_due rules.deadline (pos seconds) ≡ false
+    → old.left ≡ option_map (λ bytes. body_frames rules seconds (body_within b.max bytes).0) b.left
+    → Followed (stream rules) (outputs rules) (2 ^ 64 - 1) old new (end_for followed)
+    → end ≡ end_by followed → IsResultOf left failures b new.left t end r
+    → BodyFollowed rules b.start b.max b.left (held old) (held new) r
+followed_body loan left failures b t rules seconds old new followed end r i start small few
+    deadline frames f end_is result =
+    by b.left refl
+  where
+    by : (l : Option (List ℕ)) → b.left ≡ l
+        → IfSome l (λ bytes. Answered rules b.start b.max bytes old new r)
+    by None first = tt
+    by (Some bytes) first =
+        let ms = (body_within b.max bytes).0 in
+        let going = open_session rules seconds ms small
+        (early rules.deadline (pos seconds) deadline)
+        (body_laid b.max bytes) in
+        let count = body_count b.max bytes in
+        let reading =
+        read_session rules seconds ms (2 ^ 64 - 1) going (omega (arith, count, few)) in
+        let is : old.left ≡ Some (body_frames rules seconds ms) =
+        frames
+        ∙ ap (option_map (λ bytes. body_frames rules seconds (body_within b.max bytes).0)) first in
+        let g = given_by rules (2 ^ 64 - 1) (body_frames rules seconds ms)
+        (session_of rules (pos seconds) ms) old new followed going reading is f in
+        let g' : IsGiven rules (session_of rules b.start ms) old new end =
+        subst (λ (e : FrameEnd). IsGiven rules (session_of rules b.start ms) old new e) (sym end_is)
+        (subst (λ (s : ℤ). IsGiven rules (session_of rules s ms) old new (end_by followed))
+        (sym start) g) in
+        answered loan left failures b t rules bytes old new end r i first g' result
+
+-- what a translation that has not begun has left
+pub begun_left : {T : Type 0} (left : T → Option (List ℕ)) (b : Beginning) (rules : Rules)
+    (seconds : ℕ) (source : T) (frames : List ℕ) (allowed : ℕ) (t : Translating T)
+    → t ≡ begun source frames allowed → frames ≡ moment_frame seconds → b.rules ≡ undated rules
+    → b.start ≡ pos seconds → left source ≡ b.left → allowed ≡ b.max
+    → left_of left b.rules b.start t
+    ≡ option_map (λ bytes. body_frames rules seconds (body_within b.max bytes).0) b.left
+begun_left left b rules seconds source frames allowed t view made same start known max =
+    ap (left_of left b.rules b.start) view
+    ∙ (λ i. option_map
+    (λ bytes. made i ++ frames_from (same i) (start i) shut (body_within (max i) bytes).0)
+    (known i))
+
+pub followed_since : (rules : Rules) (b c : Beginning) (old new : Held) (r : Result ℕ ProtoError)
+    → b ≡ c → BodyFollowed rules b.start b.max b.left old new r
+    → BodyFollowed rules c.start c.max c.left old new r
+followed_since rules b c old new r same =
+    subst (λ (x : Beginning). BodyFollowed rules x.start x.max x.left old new r) same

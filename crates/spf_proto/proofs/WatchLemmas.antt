@@ -1,0 +1,281 @@
+-- How a run of the program ends.
+use Rattle.std.proofs.Common.{◌≡◌, ◌≢◌, ◌∙◌, ℕ, ◌+◌, ◌<◌, Bool, true, false, cond, List}
+use Rattle.std.proofs.Common.{[], ◌∷◌, length}
+use Rattle.std.proofs.Common.{Option, Some, None, Result, Ok, Err, inl, inr, refl, sym, ap, subst}
+use Rattle.std.proofs.Common.{arith}
+use Rattle.std.specs.Prelude.{ℤ, codes, ◌⊎◌, ◌↔◌, ◌==◌, IfSome}
+use Rattle.std.specs.Io.KnownBytes.{Appends}
+use Rattle.std.proofs.KnownBytes.{Appends-nil}
+use Rattle.spf_io.specs.declared.memory.Failed.{Failed}
+use Rattle.spf_io.specs.Outside.{HasCause, PutAppends, Rose}
+use Rattle.spf_api.specs.declared.response.ContextResponse.{ContextResponse}
+use Rattle.spf_view.specs.Sessions.{onto}
+use Rattle.spf_view.specs.Views.{has_synced}
+use Rattle.spf_feed.specs.declared.follow_error.FollowError.TheVariants as answers
+use Rattle.spf_feed.specs.declared.limits.ResourceLimits.{ResourceLimits}
+use Rattle.spf_feed.specs.declared.ready.Ready.TheVariants as readiness
+use Rattle.spf_feed.specs.Items.{Rules, rules_with, subject}
+use Rattle.spf_feed.specs.Limits.{default_limits}
+use Rattle.spf_proto.specs.declared.proto_error.ProtoError.{ProtoError}
+use Rattle.spf_proto.specs.declared.proto_error.ProtoError.TheVariants as errors
+use Rattle.spf_proto.specs.BodyErrors.{RefusedFor}
+use Rattle.spf_proto.specs.Following.{answer_of, BodyFollowed, FollowsBody, HasCauses, Held}
+use Rattle.spf_proto.specs.Following.{is_free, OnlyThese}
+use Rattle.spf_proto.specs.Translated.{session_of}
+use Rattle.spf_proto.specs.Watching.{error_line, Completes, Follows, Headline, IsReported}
+use Rattle.spf_proto.specs.Watching.{IsWholeBody, line_of_end, max_messages, PrintsBody}
+use Rattle.spf_proto.specs.Watching.{program_rules, Runs, shown, Side, status, status_of_end}
+use Rattle.spf_proto.specs.Watching.{Streams}
+use Rattle.spf_proto.proofs.FollowedLemmas.{answer_synced, some_rest}
+
+-- ---- reports
+
+pub said_nothing : (held held' : Option (List ℕ)) (failures failures' : ℕ)
+    (end : Result ℕ ProtoError) (n : ℕ) → end ≡ Ok n → held' ≡ held → failures' ≡ failures
+    → IsReported held held' failures failures' (line_of_end end)
+said_nothing held held' failures failures' end n is same calm = record {
+  put = Ok tt;
+  appends = subst (λ (r : Result ℕ ProtoError). Appends held held' (line_of_end r)) (sym is)
+      (subst (λ (o : Option (List ℕ)). Appends held o []) (sym same) (Appends-nil held));
+  cause = record { later = omega (arith, calm); failed = λ err. cc };
+}
+
+pub said_line : (held held' : Option (List ℕ)) (failures failures' : ℕ)
+    (end : Result ℕ ProtoError) (e : ProtoError) (put : Result (Unit {0}) Failed) → end ≡ Err e
+    → PutAppends held held' put (error_line e) → HasCause failures failures' put
+    → IsReported held held' failures failures' (line_of_end end)
+said_line held held' failures failures' end e put is appends cause = record {
+  put = put;
+  appends = subst (λ (r : Result ℕ ProtoError). PutAppends held held' put (line_of_end r)) (sym is)
+      appends;
+  cause = cause;
+}
+
+-- ---- what is followed
+
+pub follows_by : (limits : ResourceLimits) (passed start : ℤ) (input input' output output' : Side)
+    (end : Result ℕ ProtoError) → limits ≡ default_limits → passed ≡ start
+    → BodyFollowed (rules_with limits None readiness.Usable None) passed max_messages input.bytes
+    (shown output) (shown output') end
+    → RefusedFor max_messages input.bytes end → OnlyThese end
+    → HasCauses input.failures input'.failures output.failures output'.failures end
+    → Follows start input input' output output' end
+follows_by limits passed start input input' output output' end is same followed refused only
+    cause = record {
+      followed = subst (λ (s : ℤ). BodyFollowed program_rules s max_messages input.bytes
+          (shown output)
+          (shown output') end) same
+          (subst (λ (l : ResourceLimits). BodyFollowed (rules_with l None readiness.Usable None)
+          passed max_messages input.bytes (shown output) (shown output') end) is followed);
+      refused = refused;
+      only = only;
+      cause = cause;
+    }
+
+-- ---- statuses
+
+status_above : (e : ProtoError) → 1 < status e
+status_above (errors.Follow answers.OutOfMemory) = omega arith
+status_above (errors.Follow answers.ReadFault) = omega arith
+status_above (errors.Follow answers.WriteFault) = omega arith
+status_above (errors.Follow answers.SessionTooLong) = omega arith
+status_above (errors.Follow (answers.BadFrame n)) = omega arith
+status_above (errors.Follow (answers.Source e)) = omega arith
+status_above (errors.Follow (answers.UnsupportedRpc e)) = omega arith
+status_above (errors.Follow answers.InitialSyncTimeout) = omega arith
+status_above (errors.Follow answers.Closed) = omega arith
+status_above (errors.Follow answers.NeverSynced) = omega arith
+status_above errors.TooManyMessages = omega arith
+status_above (errors.BadMessage n) = omega arith
+
+never_one : (end : Result ℕ ProtoError) → status_of_end end ≢ 1
+never_one (Ok n) is = absurd (omega (arith, is))
+never_one (Err e) is = absurd (omega (arith, is, status_above e))
+
+pub arguments_are : (o : Option ℤ) (start : ℤ) (end : Result ℕ ProtoError) (n : ℕ)
+    → Some start ≡ o → n ≡ status_of_end end → (n ≡ 1) ↔ (o ≡ None)
+arguments_are o start end n some is = (
+  λ one. absurd (never_one end (sym is ∙ one)),
+  λ none. let no : Some start ≡ None = some ∙ none in absurd cc,
+)
+
+read_by : (end : Result ℕ ProtoError) → status_of_end end ≡ 3
+    → end ≡ Err (errors.Follow answers.ReadFault)
+read_by (Ok n) is = absurd (omega (arith, is))
+read_by (Err (errors.Follow answers.OutOfMemory)) is = absurd (omega (arith, is))
+read_by (Err (errors.Follow answers.ReadFault)) is = refl
+read_by (Err (errors.Follow answers.WriteFault)) is = absurd (omega (arith, is))
+read_by (Err (errors.Follow answers.SessionTooLong)) is = absurd (omega (arith, is))
+read_by (Err (errors.Follow (answers.BadFrame n))) is = absurd (omega (arith, is))
+read_by (Err (errors.Follow (answers.Source e))) is = absurd (omega (arith, is))
+read_by (Err (errors.Follow (answers.UnsupportedRpc e))) is = absurd (omega (arith, is))
+read_by (Err (errors.Follow answers.InitialSyncTimeout)) is = absurd (omega (arith, is))
+read_by (Err (errors.Follow answers.Closed)) is = absurd (omega (arith, is))
+read_by (Err (errors.Follow answers.NeverSynced)) is = absurd (omega (arith, is))
+read_by (Err errors.TooManyMessages) is = absurd (omega (arith, is))
+read_by (Err (errors.BadMessage n)) is = absurd (omega (arith, is))
+
+write_by : (end : Result ℕ ProtoError) → status_of_end end ≡ 4
+    → end ≡ Err (errors.Follow answers.WriteFault)
+write_by (Ok n) is = absurd (omega (arith, is))
+write_by (Err (errors.Follow answers.OutOfMemory)) is = absurd (omega (arith, is))
+write_by (Err (errors.Follow answers.ReadFault)) is = absurd (omega (arith, is))
+write_by (Err (errors.Follow answers.WriteFault)) is = refl
+write_by (Err (errors.Follow answers.SessionTooLong)) is = absurd (omega (arith, is))
+write_by (Err (errors.Follow (answers.BadFrame n))) is = absurd (omega (arith, is))
+write_by (Err (errors.Follow (answers.Source e))) is = absurd (omega (arith, is))
+write_by (Err (errors.Follow (answers.UnsupportedRpc e))) is = absurd (omega (arith, is))
+write_by (Err (errors.Follow answers.InitialSyncTimeout)) is = absurd (omega (arith, is))
+write_by (Err (errors.Follow answers.Closed)) is = absurd (omega (arith, is))
+write_by (Err (errors.Follow answers.NeverSynced)) is = absurd (omega (arith, is))
+write_by (Err errors.TooManyMessages) is = absurd (omega (arith, is))
+write_by (Err (errors.BadMessage n)) is = absurd (omega (arith, is))
+
+pub read_rises : (start : ℤ) (input input' output output' : Side) (end : Result ℕ ProtoError)
+    (n : ℕ) → Follows start input input' output output' end → n ≡ status_of_end end → n ≡ 3
+    → Rose input.failures input'.failures
+read_rises start input input' output output' end n f is three =
+    f.cause.read (read_by end (sym is ∙ three))
+
+pub write_rises : (start : ℤ) (input input' output output' : Side) (end : Result ℕ ProtoError)
+    (n : ℕ) → Follows start input input' output output' end → n ≡ status_of_end end → n ≡ 4
+    → Rose output.failures output'.failures
+write_rises start input input' output output' end n f is four =
+    f.cause.write (write_by end (sym is ∙ four))
+
+-- ---- the headline
+
+synced_by : (b : Bool) (count n : ℕ)
+    → Ok count ≡ cond b (Ok n) (Err (errors.Follow answers.NeverSynced)) → b ≡ true
+synced_by true count n is = refl
+synced_by false count n is = absurd cc
+
+no_count : (b : Bool) (count : ℕ) (d e : ProtoError) → Ok count ≡ cond b (Err d) (Err e) → ⊥
+no_count true count d e is = absurd cc
+no_count false count d e is = absurd cc
+
+answer_whole : (rules : Rules) (start : ℤ) (max : ℕ) (ms : List ContextResponse) (rest : List ℕ)
+    (count : ℕ) → Ok count ≡ answer_of rules start max ms rest
+    → (rest ≡ []) × (has_synced (subject rules) (onto [] (session_of rules start ms)) ≡ true)
+answer_whole rules start max ms [] count is = (
+  refl,
+  synced_by (has_synced (subject rules) (onto [] (session_of rules start ms))) count
+      (length (session_of rules start ms))
+      (is ∙ answer_synced rules start max ms
+      (has_synced (subject rules) (onto [] (session_of rules start ms))) refl),
+)
+answer_whole rules start max ms (x ∷ rest) count is =
+    absurd (no_count (length ms == max) count errors.TooManyMessages
+    (errors.BadMessage (length ms + 1))
+    (is ∙ ap (λ (b : Bool). cond b
+    (cond (has_synced (subject rules) (onto [] (session_of rules start ms)))
+    (Ok (length (session_of rules start ms))) (Err (errors.Follow answers.NeverSynced)))
+    (cond (length ms == max) (Err errors.TooManyMessages)
+    (Err (errors.BadMessage (length ms + 1)))))
+    (some_rest (x ∷ rest) (λ none. cc))))
+
+printed : (start : ℤ) (left : Option (List ℕ)) (old new : Held) (count : ℕ)
+    → BodyFollowed program_rules start max_messages left old new (Ok count)
+    → IfSome left (PrintsBody start old.held new.held)
+printed start None old new count followed = tt
+printed start (Some bytes) old new count (inl free) = absurd cc
+printed start (Some bytes) old new count (inr f) =
+    let whole = answer_whole program_rules start max_messages f.messages f.rest count f.answer in
+    record {
+      body = record {
+        messages = f.messages;
+        reading = f.reading ∙ ap (λ (l : List ℕ). (f.messages, l)) whole.0;
+        accepted = whole.1;
+      };
+      lines = f.given.lines;
+    }
+
+by_end : (start : ℤ) (input input' output output' : Side) (end : Result ℕ ProtoError)
+    → status_of_end end ≡ 0 → Follows start input input' output output' end
+    → IfSome input.bytes (PrintsBody start output.bytes output'.bytes)
+by_end start input input' output output' (Ok count) zero f =
+    printed start input.bytes (shown output) (shown output') count f.followed
+by_end start input input' output output' (Err e) zero f =
+    absurd (omega (arith, zero, status_above e))
+
+pub headline_of : (o : Option ℤ) (passed start : ℤ) (input input' output output' : Side)
+    (end : Result ℕ ProtoError) (n : ℕ) → Some start ≡ o → passed ≡ start
+    → Follows passed input input' output output' end → n ≡ status_of_end end → n ≡ 0
+    → Headline o input.bytes output.bytes output'.bytes
+headline_of o passed start input input' output output' end n some same f is zero =
+    subst (λ (x : Option ℤ). Headline x input.bytes output.bytes output'.bytes)
+    (ap Some same ∙ some) (by_end passed input input' output output' end (sym is ∙ zero) f)
+
+-- ---- completeness
+
+free_end : (reads reads' writes writes' : ℕ) (end : Result ℕ ProtoError)
+    → HasCauses reads reads' writes writes' end
+    → (Rose reads reads' → ⊥) → (Rose writes writes' → ⊥)
+    → is_free end ≡ true → (status_of_end end ≡ 0) ⊎ (status_of_end end ≡ 2)
+free_end reads reads' writes writes' (Ok n) cause calm still free = inl refl
+free_end reads reads' writes writes' (Err (errors.Follow answers.OutOfMemory)) cause calm still
+    free =
+    inr refl
+free_end reads reads' writes writes' (Err (errors.Follow answers.ReadFault)) cause calm still free =
+    absurd (calm (cause.read refl))
+free_end reads reads' writes writes' (Err (errors.Follow answers.WriteFault)) cause calm still
+    free =
+    absurd (still (cause.write refl))
+free_end reads reads' writes writes' (Err (errors.Follow answers.SessionTooLong)) cause calm still
+    free = absurd cc
+free_end reads reads' writes writes' (Err (errors.Follow (answers.BadFrame n))) cause calm still
+    free = absurd cc
+free_end reads reads' writes writes' (Err (errors.Follow (answers.Source e))) cause calm still
+    free = absurd cc
+free_end reads reads' writes writes' (Err (errors.Follow (answers.UnsupportedRpc e))) cause calm
+    still free = absurd cc
+free_end reads reads' writes writes' (Err (errors.Follow answers.InitialSyncTimeout)) cause calm
+    still free = absurd cc
+free_end reads reads' writes writes' (Err (errors.Follow answers.Closed)) cause calm still free =
+    absurd cc
+free_end reads reads' writes writes' (Err (errors.Follow answers.NeverSynced)) cause calm still
+    free = absurd cc
+free_end reads reads' writes writes' (Err errors.TooManyMessages) cause calm still free = absurd cc
+free_end reads reads' writes writes' (Err (errors.BadMessage n)) cause calm still free = absurd cc
+
+whole_end : (start : ℤ) (bytes : List ℕ) (old new : Held) (end : Result ℕ ProtoError)
+    → IsWholeBody start bytes → FollowsBody program_rules start max_messages bytes old new end
+    → status_of_end end ≡ 0
+whole_end start bytes old new end body f =
+    let same : (f.messages, f.rest) ≡ (body.messages, []) = sym f.reading ∙ body.reading in
+    let all = ap (λ (p : List ContextResponse × List ℕ).
+    answer_of program_rules start max_messages p.0 p.1) same in
+    ap status_of_end (f.answer ∙ all
+    ∙ answer_synced program_rules start max_messages body.messages true body.accepted)
+
+completes_left : (start : ℤ) (left : Option (List ℕ)) (old new : Held)
+    (reads reads' writes writes' : ℕ) (end : Result ℕ ProtoError)
+    → BodyFollowed program_rules start max_messages left old new end
+    → HasCauses reads reads' writes writes' end
+    → IfSome left (λ bytes. IsWholeBody start bytes → (Rose reads reads' → ⊥)
+    → (Rose writes writes' → ⊥) → (status_of_end end ≡ 0) ⊎ (status_of_end end ≡ 2))
+completes_left start None old new reads reads' writes writes' end followed cause = tt
+completes_left start (Some bytes) old new reads reads' writes writes' end (inl free) cause =
+    λ body calm still. free_end reads reads' writes writes' end cause calm still free
+completes_left start (Some bytes) old new reads reads' writes writes' end (inr f) cause =
+    λ body calm still. inl (whole_end start bytes old new end body f)
+
+pub completes_of : (o : Option ℤ) (passed start : ℤ) (input input' output output' : Side)
+    (end : Result ℕ ProtoError) (n : ℕ) → Some start ≡ o → passed ≡ start
+    → Follows passed input input' output output' end → n ≡ status_of_end end
+    → Completes o input input' output output' n
+completes_of o passed start input input' output output' end n some same f is =
+    subst (λ (x : Option ℤ). Completes x input input' output output' n) (ap Some same ∙ some)
+    (subst (λ (m : ℕ). Completes (Some passed) input input' output output' m) (sym is)
+    (completes_left passed input.bytes (shown output) (shown output') input.failures input'.failures
+    output.failures output'.failures end f.followed f.cause))
+
+-- ---- arguments
+
+pub refuses : (o : Option ℤ) (before after : Streams) (n : ℕ) (put : Result (Unit {0}) Failed)
+    → None ≡ o → after.input ≡ before.input → after.output ≡ before.output
+    → PutAppends before.errors.bytes after.errors.bytes put (codes "spf_proto: bad words\n")
+    → HasCause before.errors.failures after.errors.failures put → Runs o before after n
+refuses o before after n put none input output appends cause =
+    subst (λ (x : Option ℤ). Runs x before after n) none
+    (input, output, record { put = put; appends = appends; cause = cause })
