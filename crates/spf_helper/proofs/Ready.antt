@@ -25,7 +25,9 @@ use Rattle.spf_disk.specs.Standing.{Standing, Closed, Broken, Holds, standing, n
 use Rattle.spf_disk.specs.Standing.{found}
 use Rattle.spf_disk.specs.Standing.{found_in, is_open, generation_in}
 use Rattle.spf_helper.specs.Generations.{entry_for, entry_after, last_step, generation_after}
-use Rattle.spf_helper.specs.Helping.{IsReady, IsUpTo, IsBeforeOrAfter}
+use Rattle.std.specs.Borrow.{MutBor}
+use Rattle.spf_disk.specs.Crash.{Only}
+use Rattle.spf_helper.specs.Helping.{IsReady, IsUpTo, IsBeforeOrAfter, IsStanding}
 
 abbrev is_ok_of : Option Entry → Result (Option Entry) OpenError
 is_ok_of o = Ok o
@@ -180,3 +182,24 @@ pub neither : (b c : Bool) (X : Type 0) → b ≡ false → c ≡ false → Matc
 neither true c X one two x = cc
 neither false true X one two x = cc
 neither false false X one two x = x
+
+-- a publisher whose files are ready has written all steps
+pub stands : {D : Type 0} (seen : D → Image) (may_leave : D → Image → Type 0) (disk : MutBor D)
+    (base written : ℕ) (steps : List PlainStep) (fault full : Bool) (next : Slot) (one two : Bool)
+    → MatchBool (fault || full) (Unit {0}) (Only (seen disk.now) (may_leave disk.now)
+        × IsReady base written steps next one two (seen disk.now))
+    → OnFalse (fault || full) (IsStanding seen may_leave (record {
+      disk = disk;
+      base = base;
+      steps = steps;
+      acknowledged = written;
+      fault = fault;
+      full = full;
+    }))
+stands seen may_leave disk base written steps true full next one two held = tt
+stands seen may_leave disk base written steps false true next one two held = tt
+stands seen may_leave disk base written steps false false next one two held = record {
+  all = held.1.count;
+  durable = held.0;
+  found_is = λ some. ap found_in (held.1.kept some);
+}
