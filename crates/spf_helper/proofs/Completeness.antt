@@ -1,19 +1,16 @@
 -- A whole session is followed to its end.
-use Rattle.std.proofs.Common.{◌≡◌, ◌≤◌, ◌<◌, ◌+◌, ◌^◌, ℕ, true, false, Bool, cond, ◌==◌, ◌||◌, List, [], ◌∷◌}
-use Rattle.std.proofs.Common.{◌++◌, length, take, Option, None, Some, Result, Ok, Err, inl, inr, refl}
+use Rattle.std.proofs.Common.{◌≡◌, ◌≤◌, ℕ, true, false, Bool, cond, ◌==◌, ◌||◌}
+use Rattle.std.proofs.Common.{List, [], ◌∷◌, ◌++◌, length, Option, None, Some, Result, Ok, Err}
+use Rattle.std.proofs.Common.{inl, inr, refl}
 use Rattle.std.proofs.Common.{sym, ap, ◌∙◌, subst, arith, append_assoc, length-append}
 use Rattle.std.proofs.lemmas.List.{length-take}
-use Rattle.std.specs.Prelude.{◌⊎◌, IfSome, IsTrue, is_some, min}
-use Rattle.std.specs.Io.KnownBytes.{Consumes}
+use Rattle.std.specs.Prelude.{◌⊎◌, IsTrue, is_some}
 use Rattle.spf_io.specs.Outside.{Rose}
-use Rattle.spf_disk.specs.declared.generation.Entry.{Entry}
-use Rattle.spf_disk.specs.declared.open_error.OpenError.{OpenError}
 use Rattle.spf_disk.specs.declared.open_error.OpenError.TheVariants as opening
 use Rattle.spf_disk.specs.Image.{Image}
-use Rattle.spf_disk.specs.Standing.{latest}
 use Rattle.spf_view.specs.Views.{has_synced}
-use Rattle.spf_view.specs.Sessions.{Stream, IsSession, IsReading, Whole, end_by, end_of, is_free}
-use Rattle.spf_view.specs.Sessions.{IsEndOf, closed_of, refusal_of, onto, all_of, Grows, GrowsUpTo}
+use Rattle.spf_view.specs.Sessions.{Stream, IsSession, Whole, end_by, end_of, is_free}
+use Rattle.spf_view.specs.Sessions.{IsEndOf, closed_of, refusal_of, onto, all_of}
 use Rattle.spf_view.proofs.SessionLemmas.{reading_same, frame_same}
 use Rattle.spf_feed.specs.declared.follow_error.FollowError.{FollowError}
 use Rattle.spf_feed.specs.declared.follow_error.FollowError.TheVariants as answers
@@ -24,7 +21,6 @@ use Rattle.spf_feed.specs.Steps.{PlainStep}
 use Rattle.spf_helper.specs.declared.helper_error.HelperError.{HelperError}
 use Rattle.spf_helper.specs.declared.helper_error.HelperError.TheVariants as errors
 use Rattle.spf_helper.specs.Completing.{IsWholeSession, IsKeepable, Completes}
-use Rattle.spf_helper.specs.Keeping.{base_of}
 use Rattle.spf_helper.specs.Runs.{Follows, Ended, Ran, helper_rules}
 use Rattle.spf_helper.specs.Watching.{HasCauses, status_of_end}
 
@@ -80,8 +76,11 @@ published_few limits max bytes (Some left) held held' steps r whole f =
     whole.rest followed.es whole.es followed.session whole.reading.reads.session
     (sym are ∙ whole.reading.reads.bytes_are) size in
     let taken : length steps ≤ length (all_of s one [] followed.es) =
-    omega (arith, ap (λ (l : List PlainStep). length l) followed.steps.grows,
-    length-take followed.steps.count (all_of s one [] followed.es)) in
+    omega (
+      arith,
+      ap (λ (l : List PlainStep). length l) followed.steps.grows,
+      length-take followed.steps.count (all_of s one [] followed.es),
+    ) in
     omega (arith, le, taken)
 
 -- ---- how a run ends
@@ -186,8 +185,12 @@ module _ {D : Type 0} (seen : D → Image) (may_leave : D → Image → Type 0) 
       ended ran causes keepable calm quiet well = absurd (well (ran.fault refl))
   ends limits max bytes left' held held' steps (Err errors.Full) reads reads' writes writes' ended
       ran causes keepable calm quiet well =
-      absurd (omega (arith, ran.full refl, keepable.room,
-      published_few limits max bytes left' held held' steps ended.0 keepable.session ended.1))
+      absurd (omega (
+        arith,
+        ran.full refl,
+        keepable.room,
+        published_few limits max bytes left' held held' steps ended.0 keepable.session ended.1,
+      ))
 
   pub completes : (limits : ResourceLimits) (max : ℕ) (left left' held held' : Option (List ℕ))
       (r : Result ℕ HelperError) (reads reads' writes writes' n : ℕ) (steps : List PlainStep)

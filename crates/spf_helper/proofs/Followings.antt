@@ -1,5 +1,5 @@
 -- A session that was followed from no step on.
-use Rattle.std.proofs.Common.{◌≡◌, ℕ, List, [], Option, None, Some, Result, Ok, Err, sym, ap, ◌∙◌}
+use Rattle.std.proofs.Common.{◌≡◌, ℕ, List, [], Option, None, Some, Result}
 use Rattle.std.proofs.Common.{subst}
 use Rattle.spf_view.specs.Sessions.{Followed}
 use Rattle.spf_feed.specs.declared.follow_error.FollowError.{FollowError}

@@ -1,7 +1,8 @@
 -- What stays true of a publisher over a disk when a step is published, and what a run leaves.
 use Rattle.std.proofs.Common.{◌≡◌, ◌≢◌, ℕ, ◌+◌, ◌-◌, ◌^◌, ◌<◌, ◌≤◌, Bool, true, false, ◌||◌, ◌==◌}
-use Rattle.std.proofs.Common.{List, [], ◌∷◌, ◌++◌, length, take, Option, Some, None, Result, Ok, Err}
-use Rattle.std.proofs.Common.{refl, sym, ◌∙◌, ap, subst, arith, length-append, inl, inr, ⊎_elim, ◌⊎◌}
+use Rattle.std.proofs.Common.{List, [], ◌∷◌, ◌++◌, length, Option, Some, Result, Ok}
+use Rattle.std.proofs.Common.{Err, refl, sym, ◌∙◌, ap, subst, arith, length-append, inl, inr}
+use Rattle.std.proofs.Common.{⊎_elim, ◌⊎◌}
 use borrow.Author.Tests.{eqb-true, eqb-false}
 use Rattle.std.proofs.lemmas.List.{take_all, take-append-le}
 use Rattle.std.specs.Prelude.{OnOk, OnErr}
@@ -11,7 +12,7 @@ use Rattle.spf_feed.specs.Records.{RecordAppends}
 use Rattle.spf_feed.specs.Steps.{PlainStep}
 use Rattle.spf_disk.specs.declared.generation.Generation.{Generation}
 use Rattle.spf_disk.specs.declared.open_error.OpenError.{OpenError}
-use Rattle.spf_disk.specs.Crash.{Only, LeavesOnly}
+use Rattle.spf_disk.specs.Crash.{LeavesOnly}
 use Rattle.spf_disk.specs.Image.{Image}
 use Rattle.spf_disk.specs.Standing.{found}
 use Rattle.spf_helper.specs.Generations.{generation_after}
@@ -133,7 +134,7 @@ module _ {D : Type 0} (seen : D → Image) (may_leave : D → Image → Type 0) 
       → new.steps ≡ old.steps ++ s ∷ [] → new.base ≡ old.base
       → new.disk.ghost_name ≡ old.disk.ghost_name
       → LeavesOnly moment left_since old.disk.now new.disk.now
-          (IsBeforeOrAfter (seen old.disk.now) old.base (old.steps ++ s ∷ []))
+      (IsBeforeOrAfter (seen old.disk.now) old.base (old.steps ++ s ∷ []))
       → failures old.disk.now ≤ failures new.disk.now
       → OnTrue new.fault (Rose (failures old.disk.now) (failures new.disk.now))
       → new.full ≡ (old.base + length old.steps == 2 ^ 64 - 1)
@@ -154,10 +155,21 @@ module _ {D : Type 0} (seen : D → Image) (may_leave : D → Image → Type 0) 
     fault = λ is. rose_since b.failures (failures old.disk.now) (failures new.disk.now) k.count
         (at_true new.fault _ is fault);
     full = λ is. subst (λ (l : List PlainStep). 2 ^ 64 ≤ base_of b.image + length l) (sym steps)
-        (omega (arith, no_number (old.base + length old.steps) new.full full is, k.base, length-append old.steps (s ∷ [])));
+        (omega (
+          arith,
+          no_number (old.base + length old.steps) new.full full is,
+          k.base,
+          length-append old.steps (s ∷ []),
+        ));
     room = from_false new.fault new.full _
         (λ f g. subst (λ (l : List PlainStep). base_of b.image + length l < 2 ^ 64) (sym steps)
-        (omega (arith, room, has_number (old.base + length old.steps) new.full full g, k.base, length-append old.steps (s ∷ []))));
+        (omega (
+          arith,
+          room,
+          has_number (old.base + length old.steps) new.full full g,
+          k.base,
+          length-append old.steps (s ∷ []),
+        )));
     whole = still (new.fault || new.full) (IsStanding seen may_leave new) _
         (λ stands. record {
           durable = stands.durable;
@@ -174,15 +186,15 @@ module _ {D : Type 0} (seen : D → Image) (may_leave : D → Image → Type 0) 
       → Keeps old → new.steps ≡ old.steps ++ s ∷ [] → new.base ≡ old.base
       → new.disk.ghost_name ≡ old.disk.ghost_name
       → OnFalse (old.fault || old.full)
-          (LeavesOnly moment left_since old.disk.now new.disk.now
-          (IsBeforeOrAfter (seen old.disk.now) old.base (old.steps ++ s ∷ [])))
+      (LeavesOnly moment left_since old.disk.now new.disk.now
+      (IsBeforeOrAfter (seen old.disk.now) old.base (old.steps ++ s ∷ [])))
       → failures old.disk.now ≤ failures new.disk.now
       → OnFalse old.fault
-          (OnTrue new.fault (Rose (failures old.disk.now) (failures new.disk.now)))
+      (OnTrue new.fault (Rose (failures old.disk.now) (failures new.disk.now)))
       → OnFalse (old.fault || old.full) (new.full ≡ (old.base + length old.steps == 2 ^ 64 - 1))
       → OnTrue (old.fault || old.full) ((new.disk.now ≡ old.disk.now)
-          × (new.acknowledged ≡ old.acknowledged) × (new.fault ≡ old.fault)
-          × (new.full ≡ old.full))
+      × (new.acknowledged ≡ old.acknowledged) × (new.fault ≡ old.fault)
+      × (new.full ≡ old.full))
       → OnFalse (new.fault || new.full) (IsStanding seen may_leave new) → Keeps new
   kept_case true old new s is k steps base name run later fault full stopped standing =
       let same = at_true (old.fault || old.full) _ is stopped in
@@ -198,16 +210,16 @@ module _ {D : Type 0} (seen : D → Image) (may_leave : D → Image → Type 0) 
       → Keeps old → RecordAppends (Some old.steps) (Some new.steps) r s
       → OnErr r (new ≡ old) → new.base ≡ old.base → new.disk.ghost_name ≡ old.disk.ghost_name
       → OnFalse (old.fault || old.full)
-          (LeavesOnly moment left_since old.disk.now new.disk.now
-          (IsBeforeOrAfter (seen old.disk.now) old.base (old.steps ++ s ∷ [])))
+      (LeavesOnly moment left_since old.disk.now new.disk.now
+      (IsBeforeOrAfter (seen old.disk.now) old.base (old.steps ++ s ∷ [])))
       → failures old.disk.now ≤ failures new.disk.now
       → OnFalse old.fault
-          (OnTrue new.fault (Rose (failures old.disk.now) (failures new.disk.now)))
+      (OnTrue new.fault (Rose (failures old.disk.now) (failures new.disk.now)))
       → OnFalse (old.fault || old.full)
-          (OnOk r (new.full ≡ (old.base + length old.steps == 2 ^ 64 - 1)))
+      (OnOk r (new.full ≡ (old.base + length old.steps == 2 ^ 64 - 1)))
       → OnTrue (old.fault || old.full) ((new.disk.now ≡ old.disk.now)
-          × (new.acknowledged ≡ old.acknowledged) × (new.fault ≡ old.fault)
-          × (new.full ≡ old.full))
+      × (new.acknowledged ≡ old.acknowledged) × (new.fault ≡ old.fault)
+      × (new.full ≡ old.full))
       → OnFalse (new.fault || new.full) (IsStanding seen may_leave new) → Keeps new
   kept_more old new s (Ok done) k steps refused base name run later fault full stopped standing =
       kept_case (old.fault || old.full) old new s refl k steps base name run later fault full

@@ -1,15 +1,9 @@
 -- A text that is put in two pieces.
 use Rattle.std.proofs.Common.{◌≡◌, ℕ, zero, suc, List, [], ◌∷◌, ◌++◌, take, Option, Result, Ok, Err}
-use Rattle.std.proofs.Common.{refl, sym, ap, subst, arith}
+use Rattle.std.proofs.Common.{refl, sym, ap, subst}
 use Rattle.std.specs.Io.KnownBytes.{Appends}
-use Rattle.std.proofs.KnownBytes.{Appends-trans, Appends-nil}
-use Rattle.spf_io.specs.declared.memory.Failed.{Failed}
-use Rattle.spf_io.specs.Outside.{HasCause, PutAppends}
-use Rattle.spf_feed.specs.declared.limits.ResourceLimits.{ResourceLimits}
-use Rattle.spf_feed.specs.Limits.{default_limits}
-use Rattle.spf_helper.specs.declared.helper_error.HelperError.{HelperError}
-use Rattle.spf_helper.specs.Runs.{Ran}
-use Rattle.spf_helper.specs.Watching.{Streams, Watches, IsReported, status, error_line}
+use Rattle.std.proofs.KnownBytes.{Appends-trans}
+use Rattle.spf_io.specs.Outside.{PutAppends}
 
 -- a beginning of the first piece begins both
 front_of : (n : ℕ) (a b : List ℕ) → (m : ℕ) × (take m (a ++ b) ≡ take n a)
@@ -38,5 +32,8 @@ pub then_second : {T E : Type 0} (old mid new : Option (List ℕ)) (r : Result T
     → Appends old mid a → PutAppends mid new r b → PutAppends old new r (a ++ b)
 then_second old mid new (Ok done) a b first put = Appends-trans old mid new a b first put
 then_second old mid new (Err e) a b first put =
-    let both = both_of put.0 a b in
-    (both.0, subst (Appends old new) (sym both.1) (Appends-trans old mid new a (take put.0 b) first put.1))
+    let both = both_of put.0 a b in (
+      both.0,
+      subst (Appends old new) (sym both.1)
+          (Appends-trans old mid new a (take put.0 b) first put.1),
+    )

@@ -1,11 +1,10 @@
 -- How a run over a disk begins, and what it leaves.
-use Rattle.std.proofs.Common.{◌≡◌, ℕ, ◌+◌, ◌^◌, ◌<◌, ◌≤◌, Bool, true, false, ◌||◌, List, [], ◌∷◌}
-use Rattle.std.proofs.Common.{length, take, Option, None, Some, Result, Ok, Err, refl, sym, ◌∙◌, ap}
-use Rattle.std.proofs.Common.{subst, arith, inl, inr, ⊎_elim, ◌⊎◌}
+use Rattle.std.proofs.Common.{◌≡◌, ℕ, ◌+◌, ◌^◌, ◌<◌, ◌≤◌, Bool, true, false, ◌||◌, List, []}
+use Rattle.std.proofs.Common.{length, Option, Result, Ok, Err, refl, sym, ◌∙◌, ap}
+use Rattle.std.proofs.Common.{subst, arith, inl, ⊎_elim}
 use Rattle.std.specs.Borrow.{MutBor}
 use Rattle.std.specs.Prelude.{IsTrue}
 use Rattle.std.specs.Bool.{OnFalse}
-use Rattle.std.specs.Option.{option_map_or}
 use Rattle.spf_io.specs.Outside.{Rose}
 use Rattle.spf_feed.specs.declared.follow_error.FollowError.{FollowError}
 use Rattle.spf_feed.specs.declared.limits.ResourceLimits.{ResourceLimits}
@@ -21,7 +20,7 @@ use Rattle.spf_disk.specs.Standing.{found}
 use Rattle.spf_helper.specs.declared.helper_error.HelperError.{HelperError}
 use Rattle.spf_helper.specs.declared.helper_error.HelperError.TheVariants as errors
 use Rattle.spf_helper.specs.Helping.{Helping}
-use Rattle.spf_helper.specs.Keeping.{Beginning, IsKept, IsWhole, IsFoundAfter, base_in, base_of}
+use Rattle.spf_helper.specs.Keeping.{Beginning, IsKept, IsWhole, base_in, base_of}
 use Rattle.spf_helper.specs.Runs.{Follows, Ended, Ran, LeavesBeside, LeavesFound, IsUnopened}
 use Rattle.spf_helper.specs.Runs.{ended_as, is_disk_fault}
 
@@ -142,9 +141,8 @@ module _ {D : Type 0} (seen : D → Image) (may_leave : D → Image → Type 0) 
       → Ran seen may_leave failures old new p.steps end
       × LeavesBeside moment left_since old new past (seen old) p.steps
   ran_by b past loan old new p end r is disk ended kept =
-      let k = subst (λ (x : Beginning). IsKept seen may_leave moment left_since failures x past p) is
-      kept in
-      (
+      let k = subst (λ (x : Beginning).
+      IsKept seen may_leave moment left_since failures x past p) is kept in (
         subst (λ (d : D). Ran seen may_leave failures old d p.steps end) (sym disk)
             (subst (λ (x : Result ℕ HelperError).
             Ran seen may_leave failures old p.disk.now p.steps x) (sym ended)
@@ -194,7 +192,7 @@ pub ran_lent : {D : Type 0} (seen : D → Image) (may_leave : D → Image → Ty
     (old new : MutBor D) (end : D) (steps : List PlainStep) (r : Result ℕ HelperError)
     → end ≡ new.now
     → Ran (λ (d : MutBor D). seen d.now) (λ (d : MutBor D). may_leave d.now)
-        (λ (d : MutBor D). failures d.now) old new steps r
+    (λ (d : MutBor D). failures d.now) old new steps r
     → Ran seen may_leave failures old.now end steps r
 ran_lent seen may_leave failures old new end steps r is ran = rw is (record {
   written = λ h. let whole = ran.written h in

@@ -1,5 +1,5 @@
 -- What the exit statuses mean.
-use Rattle.std.proofs.Common.{◌≡◌, ℕ, true, Option, Result, Ok, Err, refl, arith}
+use Rattle.std.proofs.Common.{◌≡◌, ℕ, Result, Ok, Err, refl, arith}
 use Rattle.std.specs.Prelude.{IsTrue}
 use Rattle.spf_disk.specs.declared.open_error.OpenError.TheVariants as opening
 use Rattle.spf_feed.specs.declared.follow_error.FollowError.TheVariants as answers

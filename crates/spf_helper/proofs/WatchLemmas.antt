@@ -1,7 +1,6 @@
 -- A run that is watched.
-use Rattle.std.proofs.Common.{◌≡◌, ◌≤◌, ℕ, List, [], Option, Some, Result, Ok, Err, sym, ap, ◌∙◌}
+use Rattle.std.proofs.Common.{◌≡◌, ℕ, List, Option, Result, Ok, Err, sym}
 use Rattle.std.proofs.Common.{subst, arith}
-use Rattle.std.specs.Io.KnownBytes.{Appends}
 use Rattle.std.proofs.KnownBytes.{Appends-nil}
 use Rattle.spf_io.specs.declared.memory.Failed.{Failed}
 use Rattle.spf_io.specs.Outside.{HasCause, PutAppends}
@@ -28,8 +27,8 @@ reported_ok held failures r count is =
       cause = record { later = omega arith; failed = λ err. cc };
     })
 
-pub reported_err : (held held' : Option (List ℕ)) (failures failures' : ℕ) (r : Result ℕ HelperError)
-    (e : HelperError) (put : Result (Unit {0}) Failed) → r ≡ Err e
+pub reported_err : (held held' : Option (List ℕ)) (failures failures' : ℕ)
+    (r : Result ℕ HelperError) (e : HelperError) (put : Result (Unit {0}) Failed) → r ≡ Err e
     → PutAppends held held' put (error_line e) → HasCause failures failures' put
     → IsReported held held' failures failures' (line_of_end r)
 reported_err held held' failures failures' r e put is appends cause =

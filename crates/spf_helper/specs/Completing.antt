@@ -1,6 +1,6 @@
 -- When a run has to end well, unless memory runs out.
-use Rattle.std.specs.Prelude.{◌≡◌, ℕ, ◌+◌, ◌^◌, ◌<◌, ◌⊎◌, true, ◌||◌, ◌==◌, IsTrue, List, [], length}
-use Rattle.std.specs.Prelude.{Option, None, Some, IfSome, Result, Ok}
+use Rattle.std.specs.Prelude.{◌≡◌, ℕ, ◌+◌, ◌^◌, ◌<◌, ◌⊎◌, true, ◌||◌, ◌==◌, IsTrue, List, []}
+use Rattle.std.specs.Prelude.{length, Option, None, IfSome, Ok}
 use Rattle.spf_io.specs.Outside.{Rose}
 use Rattle.spf_disk.specs.declared.generation.Entry.{Entry}
 use Rattle.spf_disk.specs.Image.{Image}
@@ -34,7 +34,8 @@ pub record IsKeepable (rules : Rules) (max_frames : ℕ) (image : Image)
 
 -- Completeness: such a session is followed to its end and kept, or memory runs
 -- out; where the input, the output or the disk failed, nothing is said.
-abbrev pub Completes : Rules → ℕ → Image → Option (List ℕ) → (ℕ × ℕ) → (ℕ × ℕ) → (ℕ × ℕ) → ℕ → Type 0
+abbrev pub Completes : Rules → ℕ → Image → Option (List ℕ) → (ℕ × ℕ) → (ℕ × ℕ) → (ℕ × ℕ) → ℕ
+    → Type 0
 Completes rules max_frames image left reads writes failures n =
     IfSome left
     (λ bytes. IsKeepable rules max_frames image bytes → (Rose reads.0 reads.1 → ⊥)

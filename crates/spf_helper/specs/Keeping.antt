@@ -1,6 +1,6 @@
 -- What stays true of a publisher over a disk, step after step.
-use Rattle.std.specs.Prelude.{◌≡◌, ℕ, ◌+◌, ◌^◌, ◌<◌, ◌≤◌, ◌⊎◌, ◌||◌, true, List, [], ◌∷◌, length, take}
-use Rattle.std.specs.Prelude.{Option, Result, Ok, Err}
+use Rattle.std.specs.Prelude.{◌≡◌, ℕ, ◌+◌, ◌^◌, ◌<◌, ◌≤◌, ◌⊎◌, ◌||◌, true, List, [], ◌∷◌}
+use Rattle.std.specs.Prelude.{length, take, Option, Result, Ok, Err}
 use Rattle.std.specs.Bool.{OnFalse}
 use Rattle.std.specs.Option.{option_map_or}
 use Rattle.spf_io.specs.Outside.{Rose}

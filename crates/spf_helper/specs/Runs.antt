@@ -1,10 +1,9 @@
 -- Following a session over a disk.
-use Rattle.std.specs.Prelude.{◌≡◌, ℕ, ◌+◌, ◌^◌, ◌≤◌, ◌⊎◌, Bool, true, false, IsTrue, List, [], length}
-use Rattle.std.specs.Prelude.{Option, None, Some, Result, Ok, Err}
+use Rattle.std.specs.Prelude.{◌≡◌, ℕ, ◌+◌, ◌^◌, ◌≤◌, ◌⊎◌, Bool, true, false, IsTrue, List, []}
+use Rattle.std.specs.Prelude.{length, Option, None, Some, Result, Ok, Err}
 use Rattle.spf_io.specs.Outside.{Rose}
 use Rattle.spf_disk.specs.declared.open_error.OpenError.{OpenError}
 use Rattle.spf_disk.specs.declared.open_error.OpenError.TheVariants.{DiskFault, Damaged}
-use Rattle.spf_disk.specs.declared.open_error.OpenError.TheVariants.{OutOfMemory}
 use Rattle.spf_disk.specs.Crash.{Only}
 use Rattle.spf_disk.specs.Image.{Image}
 use Rattle.spf_disk.specs.Standing.{latest}

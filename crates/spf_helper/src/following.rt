@@ -22,11 +22,7 @@ use std::alloc::Global;
 use std::marker::Brand;
 
 /// How a run ended, by whether the publisher failed and whether a step had no number.
-fn ended(
-    followed: Result<u64, FollowError>,
-    fault: bool,
-    full: bool,
-) -> Result<u64, HelperError>
+fn ended(followed: Result<u64, FollowError>, fault: bool, full: bool) -> Result<u64, HelperError>
     ensures { result ≡ ended_as fault full followed }
 {
     if fault {
@@ -112,8 +108,9 @@ pub(crate) fn follow_disk<'a, N: Origin, S: Source, K: Sink, D: Disk>(
         Err(error) => return (Err(HelperError::Open(error)), disk),
     };
     let publisher = HelperPublisher::over(alloc, disk, opened);
-    let (followed, publisher) =
-        follow_kept::<N, S, K, D>(alloc, source, sink, publisher, limits, max_frames);
+    let (followed, publisher) = follow_kept::<N, S, K, D>(
+        alloc, source, sink, publisher, limits, max_frames,
+    );
     let end = ended(followed, publisher.fault(), publisher.full());
     (end, publisher.into_disk())
 }
@@ -142,7 +139,8 @@ pub fn helper_follow<S: Source, K: Sink, D: Disk>(
     ensures write_fault { result ≡ Err (errors.Follow answers.WriteFault)
         → Rose (K.failures sink.old) (K.failures sink.new) }
 {
-    let (end, _disk) =
-        follow_lent::<Brand, &mut D, S, K>(alloc, source, sink, disk, limits, max_frames);
+    let (end, _disk) = follow_lent::<Brand, &mut D, S, K>(
+        alloc, source, sink, disk, limits, max_frames,
+    );
     end
 }

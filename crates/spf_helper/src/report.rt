@@ -115,8 +115,8 @@ fn put_line<E: Sink>(errors: &mut E, error: &HelperError) -> Result<(), Failed>
     put_text(errors, error)
 }
 
-/// Writes why a run ended, unless it ended well, and returns the exit status. A failure of the error
-/// output changes no status.
+/// Writes why a run ended, unless it ended well, and returns the exit
+/// status. A failure of the error output changes no status.
 pub(crate) fn report<E: Sink>(errors: &mut E, end: &Result<u64, HelperError>) -> u8
     ensures status { result ≡ status_of_end end.now }
     ensures line { IsReported (E.held errors.old) (E.held errors.new) (E.failures errors.old)

@@ -20,7 +20,8 @@ fn followed(alloc: Global, disk: &mut MemDisk, frames: &str) -> Result<bool, Fai
     Ok(ended.is_ok())
 }
 
-/// The generation, where it has that number, a chain, a key and one trust domain with one authority.
+/// Whether it is the generation of that number, with that chain, and
+/// with KEY1 and ROOT1 of example.org.
 fn is_generation(
     alloc: Global,
     found: &Option<Generation>,

@@ -35,19 +35,19 @@ pub fn helper_watch<S: Source, D: Disk, K: Sink, E: Sink>(
         (codes "spf_helper: bad words\n") }
     ensures watches { length arguments.now ≡ 1
         → Watches D.seen D.may_leave D.moment D.left_since D.failures disk.old disk.new (record {
-      left = S.left source.old;
-      left' = S.left source.new;
-      held = K.held out.old;
-      held' = K.held out.new;
-      said = E.held errors.old;
-      said' = E.held errors.new;
-      reads = S.failures source.old;
-      reads' = S.failures source.new;
-      writes = K.failures out.old;
-      writes' = K.failures out.new;
-      failures = E.failures errors.old;
-      failures' = E.failures errors.new;
-    }) result }
+          left = S.left source.old;
+          left' = S.left source.new;
+          held = K.held out.old;
+          held' = K.held out.new;
+          said = E.held errors.old;
+          said' = E.held errors.new;
+          reads = S.failures source.old;
+          reads' = S.failures source.new;
+          writes = K.failures out.old;
+          writes' = K.failures out.new;
+          failures = E.failures errors.old;
+          failures' = E.failures errors.new;
+        }) result }
     // Each failure comes only where its count rose, and a damage only of what the disk held.
     ensures read_fault { result ≡ 3 → Rose (S.failures source.old) (S.failures source.new) }
     ensures write_fault { result ≡ 4 → Rose (K.failures out.old) (K.failures out.new) }

@@ -1,10 +1,10 @@
-use Rattle.std.proofs.Common.{◌≡◌, [], List, Result, ℕ, refl, sym, ap, subst, ◌∙◌}
+use Rattle.std.proofs.Common.{◌≡◌, Result, ℕ, sym, ap, subst, ◌∙◌}
 use Rattle.spf_helper.specs.declared.helper_error.HelperError.{HelperError}
 use Rattle.spf_disk.specs.Image.{Image}
 use Rattle.spf_helper.specs.Keeping.{Beginning}
 use Rattle.spf_helper.specs.Runs.{Ended, LeavesBeside, ended_as}
-use Rattle.spf_helper.proofs.RunLemmas.{kept_first, ran_by, ran_unopened, left_unopened}
-use Rattle.spf_helper.proofs.RunLemmas.{ended_by, unopened}
+use Rattle.spf_helper.proofs.RunLemmas.{ran_by}
+use Rattle.spf_helper.proofs.RunLemmas.{ended_by}
 use Rattle.spf_helper.proofs.following.follow_disk.Goals as goal
 
 pub returns-clause-ran : goal.returns-clause-ran
@@ -16,8 +16,7 @@ returns-clause-ran g c =
     let leaves = ran_by g.D.Disk.seen g.D.Disk.may_leave g.D.Disk.moment g.D.Disk.left_since
     g.D.Disk.failures g.N.Origin.begin g.N.Origin.past c.args.disk.ghost_name c.args.disk.now
     c.into_disk.result.now p c.ended-end.result r c.requires.begin c.into_disk.ensures.same_disk end
-    c.follow_kept-followed.ensures.kept in
-    (
+    c.follow_kept-followed.ensures.kept in (
       p.steps,
       subst (λ (x : Result ℕ HelperError).
           Ended c.args.limits c.args.max_frames g.N.Origin.begin.image

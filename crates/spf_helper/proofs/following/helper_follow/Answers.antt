@@ -1,4 +1,4 @@
-use Rattle.std.proofs.Common.{rules, ◌≡◌, subst, sym}
+use Rattle.std.proofs.Common.{◌≡◌, subst, sym}
 use Rattle.spf_helper.specs.Runs.{LeavesBeside}
 use Rattle.spf_helper.proofs.RunLemmas.{left_found, ran_lent}
 use Rattle.spf_helper.proofs.following.helper_follow.Goals as goal
@@ -6,8 +6,7 @@ use Rattle.spf_helper.proofs.following.helper_follow.Goals as goal
 pub returns-clause-ran : goal.returns-clause-ran
 returns-clause-ran g c =
     let is : c.disk-1.given.0 ≡ c.follow_lent-end.result.1.now =
-    c.disk-1.given.1 (sym c.follow_lent-end.ensures.loan) in
-    (
+    c.disk-1.given.1 (sym c.follow_lent-end.ensures.loan) in (
       c.follow_lent-end.ensures.ran.0,
       c.follow_lent-end.ensures.ran.1,
       ran_lent g.D.Disk.seen g.D.Disk.may_leave g.D.Disk.failures _ c.follow_lent-end.result.1 _

@@ -4,14 +4,13 @@ use Rattle.std.proofs.Common.{arith}
 use Rattle.std.proofs.lemmas.List.{map_push}
 use Rattle.std.specs.Bool.{OnFalse}
 use Rattle.spf_feed.specs.Steps.{plain}
-use Rattle.spf_disk.specs.Crash.{Only, LeavesOnly}
+use Rattle.spf_disk.specs.Crash.{LeavesOnly}
 use Rattle.spf_disk.specs.Format.{entry_at}
 use Rattle.spf_disk.specs.declared.generation.Entry.{Entry}
-use Rattle.spf_disk.specs.Image.{Image}
 use Rattle.spf_disk.specs.Replacing.{IsBeforeOrAfter as IsOldOrNew}
 use Rattle.spf_disk.proofs.Moments.{weaker}
 use Rattle.spf_helper.specs.Generations.{entry_for}
-use Rattle.spf_helper.specs.Helping.{Helping, IsReady, IsBeforeOrAfter, IsStanding}
+use Rattle.spf_helper.specs.Helping.{Helping, IsBeforeOrAfter, IsStanding}
 use Rattle.spf_helper.proofs.Ready.{ready_kept, found_either, on_false, unless, neither}
 use Rattle.spf_helper.proofs.Ready.{stands}
 use Rattle.spf_helper.proofs.publisher.HelperPublisherPublisher.publish.Goals as goal
@@ -30,8 +29,8 @@ invariant_of-self-in-Ok g c =
     unless (p.fault || p.full) _ (
       c.in-Ok.ensures.durable,
       ready_kept p.base p.acknowledged (map plain p.steps.items) _ p.next c.other-self-inside.result
-          p.next_is_open p.other_is_open (g.D.Disk.seen p.disk.now) _ c.as_slice.result.now s ready is
-          small c.in-Ok.ensures.replaced
+          p.next_is_open p.other_is_open (g.D.Disk.seen p.disk.now) _ c.as_slice.result.now s ready
+          is small c.in-Ok.ensures.replaced
           (ap (map plain) c.in_ok-push-3.ensures.items ∙ map_push plain p.steps.items c.args.step)
           c.other-self-inside.ensures,
     )
@@ -111,8 +110,8 @@ returns-in-Ok-clause-standing g c =
     true (unless (p.fault || p.full) _ (
       c.in-Ok.ensures.durable,
       ready_kept p.base p.acknowledged (map plain p.steps.items) _ p.next c.other-self-inside.result
-          p.next_is_open p.other_is_open (g.D.Disk.seen p.disk.now) _ c.as_slice.result.now s ready is
-          small c.in-Ok.ensures.replaced
+          p.next_is_open p.other_is_open (g.D.Disk.seen p.disk.now) _ c.as_slice.result.now s ready
+          is small c.in-Ok.ensures.replaced
           (ap (map plain) c.in_ok-push-3.ensures.items ∙ map_push plain p.steps.items c.args.step)
           c.other-self-inside.ensures,
     ))
