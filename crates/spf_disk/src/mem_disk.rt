@@ -130,7 +130,7 @@ impl MemDisk {
         }
     }
 
-    /// The same, which passes so many calls and then fails each.
+    /// The same, of which the first `after` calls go through and each later one fails.
     pub fn stopping(alloc: Global, after: u64) -> MemDisk
         ensures empty { ⟦<MemDisk as Disk>⟧.seen result
             ≡ record { gates = []; first = []; second = [] } }

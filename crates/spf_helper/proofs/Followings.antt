@@ -1,5 +1,5 @@
 -- A session that was followed from no step on.
-use Rattle.std.proofs.Common.{◌≡◌, ℕ, List, [], Option, None, Some, Result, Ok, Err, sym, ap, ◌∙◌}
+use Rattle.std.proofs.Common.{◌≡◌, ℕ, List, [], Option, None, Some, Result}
 use Rattle.std.proofs.Common.{subst}
 use Rattle.spf_view.specs.Sessions.{Followed}
 use Rattle.spf_feed.specs.declared.follow_error.FollowError.{FollowError}
@@ -15,9 +15,8 @@ pub follows : (limits : ResourceLimits) (max : ℕ) (left left' held held' : Opt
     → Followed (stream (helper_rules limits)) (outputs (helper_rules limits)) max
     (record { left = left; held = held; steps = Some steps; records = None })
     (record { left = left'; held = held'; steps = Some steps'; records = records })
-    (end_for result) → Follows limits max left left' held held' r
+    (end_for result) → Follows limits max left left' held held' steps' r
 follows limits max left left' held held' steps steps' records result r none is followed = record {
-  steps = steps';
   records = records;
   followed =
       subst (λ (x : Result ℕ FollowError).

@@ -1,15 +1,9 @@
--- A text that is put in two pieces, and a run that is reported.
+-- A text that is put in two pieces.
 use Rattle.std.proofs.Common.{◌≡◌, ℕ, zero, suc, List, [], ◌∷◌, ◌++◌, take, Option, Result, Ok, Err}
-use Rattle.std.proofs.Common.{refl, sym, ap, subst, arith}
+use Rattle.std.proofs.Common.{refl, sym, ap, subst}
 use Rattle.std.specs.Io.KnownBytes.{Appends}
-use Rattle.std.proofs.KnownBytes.{Appends-trans, Appends-nil}
-use Rattle.spf_io.specs.declared.memory.Failed.{Failed}
-use Rattle.spf_io.specs.Outside.{HasCause, PutAppends}
-use Rattle.spf_feed.specs.declared.limits.ResourceLimits.{ResourceLimits}
-use Rattle.spf_feed.specs.Limits.{default_limits}
-use Rattle.spf_helper.specs.declared.helper_error.HelperError.{HelperError}
-use Rattle.spf_helper.specs.Runs.{Ran}
-use Rattle.spf_helper.specs.Watching.{Streams, Watches, IsReported, status, error_line}
+use Rattle.std.proofs.KnownBytes.{Appends-trans}
+use Rattle.spf_io.specs.Outside.{PutAppends}
 
 -- a beginning of the first piece begins both
 front_of : (n : ℕ) (a b : List ℕ) → (m : ℕ) × (take m (a ++ b) ≡ take n a)
@@ -38,38 +32,8 @@ pub then_second : {T E : Type 0} (old mid new : Option (List ℕ)) (r : Result T
     → Appends old mid a → PutAppends mid new r b → PutAppends old new r (a ++ b)
 then_second old mid new (Ok done) a b first put = Appends-trans old mid new a b first put
 then_second old mid new (Err e) a b first put =
-    let both = both_of put.0 a b in
-    (both.0, subst (Appends old new) (sym both.1) (Appends-trans old mid new a (take put.0 b) first put.1))
-
--- ---- runs
-
-pub watched_ok : (s : Streams) (limits : ResourceLimits) (r : Result ℕ HelperError) (count : ℕ)
-    → limits ≡ default_limits → r ≡ Ok count
-    → Ran limits 1000000 s.image s.left s.left' s.held s.held' r → s.said' ≡ s.said
-    → s.failures' ≡ s.failures → Watches s 0
-watched_ok s limits r count is ended ran same calm = record {
-  end = Ok count;
-  ran = subst (λ (x : Result ℕ HelperError).
-      Ran default_limits 1000000 s.image s.left s.left' s.held s.held' x) ended
-      (subst (λ (l : ResourceLimits). Ran l 1000000 s.image s.left s.left' s.held s.held' r) is ran);
-  status = refl;
-  line = record {
-    put = Ok tt;
-    appends = subst (λ (o : Option (List ℕ)). Appends s.said o []) (sym same) (Appends-nil s.said);
-    cause = record { later = omega (arith, calm); failed = λ err. cc };
-  };
-}
-
-pub watched_err : (s : Streams) (n : ℕ) (limits : ResourceLimits) (r : Result ℕ HelperError)
-    (e : HelperError) (put : Result (Unit {0}) Failed) → limits ≡ default_limits → r ≡ Err e
-    → n ≡ status e → Ran limits 1000000 s.image s.left s.left' s.held s.held' r
-    → PutAppends s.said s.said' put (error_line e) → HasCause s.failures s.failures' put
-    → Watches s n
-watched_err s n limits r e put is ended status_is ran appends cause = record {
-  end = Err e;
-  ran = subst (λ (x : Result ℕ HelperError).
-      Ran default_limits 1000000 s.image s.left s.left' s.held s.held' x) ended
-      (subst (λ (l : ResourceLimits). Ran l 1000000 s.image s.left s.left' s.held s.held' r) is ran);
-  status = status_is;
-  line = record { put = put; appends = appends; cause = cause };
-}
+    let both = both_of put.0 a b in (
+      both.0,
+      subst (Appends old new) (sym both.1)
+          (Appends-trans old mid new a (take put.0 b) first put.1),
+    )

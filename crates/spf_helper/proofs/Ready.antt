@@ -1,9 +1,9 @@
 -- The files before and after a step is kept.
-use Rattle.std.proofs.Common.{◌≡◌, ℕ, ◌+◌, ◌^◌, ◌<◌, ◌≤◌, Bool, true, false, List, [], ◌∷◌, ◌++◌}
+use Rattle.std.proofs.Common.{◌≡◌, ℕ, ◌+◌, ◌^◌, ◌<◌, Bool, true, false, List, [], ◌∷◌, ◌++◌}
 use Rattle.std.proofs.Common.{length, Option}
 use Rattle.std.proofs.Common.{Some, None, Ok, refl, sym, ◌∙◌, ap, subst, arith, length-append, inl}
 use Rattle.std.proofs.Common.{inr}
-use Rattle.std.proofs.Common.{⊎_elim, Result, ◌⊎◌}
+use Rattle.std.proofs.Common.{⊎_elim, Result}
 use Rattle.std.proofs.Common.{◌||◌}
 use Rattle.std.specs.Bool.{OnFalse, MatchBool}
 use Rattle.std.specs.Option.{option_map, option_map_or, option_and_then}
@@ -19,13 +19,14 @@ use Rattle.spf_disk.specs.Image.{Image}
 use Rattle.spf_disk.specs.Opening.{IsOpened}
 use Rattle.spf_disk.specs.Replacing.{IsNewer, IsReplaced, IsPassed, HasRoom}
 use Rattle.spf_disk.specs.Replacing.{IsBeforeOrAfter as IsOldOrNew}
-use Rattle.spf_disk.specs.Scanning.{IsNext, held_as}
+use Rattle.spf_disk.specs.Scanning.{held_as}
 use Rattle.spf_disk.specs.Slots.{other_slot, gate_of, gate_number}
-use Rattle.spf_disk.specs.Standing.{Standing, Closed, Broken, Holds, standing, number_of, latest}
-use Rattle.spf_disk.specs.Standing.{found}
+use Rattle.spf_disk.specs.Standing.{Standing, Broken, Holds, standing, number_of}
 use Rattle.spf_disk.specs.Standing.{found_in, is_open, generation_in}
-use Rattle.spf_helper.specs.Generations.{entry_for, entry_after, last_step, generation_after}
-use Rattle.spf_helper.specs.Helping.{IsReady, IsUpTo, IsBeforeOrAfter}
+use Rattle.spf_helper.specs.Generations.{entry_for, entry_after, last_step}
+use Rattle.std.specs.Borrow.{MutBor}
+use Rattle.spf_disk.specs.Crash.{Only}
+use Rattle.spf_helper.specs.Helping.{IsReady, IsUpTo, IsBeforeOrAfter, IsStanding}
 
 abbrev is_ok_of : Option Entry → Result (Option Entry) OpenError
 is_ok_of o = Ok o
@@ -85,7 +86,8 @@ ready_newer base written steps next one two image bytes s ready is =
     omega (arith, number_of_entry (base + written + 1) s) in
     subst (λ (t : Standing). IsNewer t (entry_at bytes)) (sym ready.is_next.other)
     (subst (IsNewer (held_as ready.entry)) (sym is)
-    (newer_than ready.entry (base + written) (entry_for (base + written + 1) s) ready.number number))
+    (newer_than ready.entry (base + written) (entry_for (base + written + 1) s) ready.number
+    number))
 
 passed_by : (before : Option Entry) (e : Entry) → IsNewer (held_as before) (Some e)
     → IsPassed (held_as before) (Holds e)
@@ -125,7 +127,8 @@ ready_more base written steps next one two image later bytes s ready is small re
       is_next = record {
         latest = replaced.latest ∙ ap is_ok_of is;
         other = there;
-        passed = subst (λ (t : Standing). IsPassed t (standing later (other_slot (other_slot next))))
+        passed = subst
+            (λ (t : Standing). IsPassed t (standing later (other_slot (other_slot next))))
             (sym before)
             (subst (IsPassed (held_as ready.entry)) (sym there)
             (passed_by ready.entry e newer_held));
@@ -176,7 +179,29 @@ pub unless : (b : Bool) (X : Type 0) → X → MatchBool b (Unit {0}) X
 unless true X x = tt
 unless false X x = x
 
-pub neither : (b c : Bool) (X : Type 0) → b ≡ false → c ≡ false → MatchBool (b || c) (Unit {0}) X → X
+pub neither : (b c : Bool) (X : Type 0) → b ≡ false → c ≡ false
+    → MatchBool (b || c) (Unit {0}) X → X
 neither true c X one two x = cc
 neither false true X one two x = cc
 neither false false X one two x = x
+
+-- a publisher whose files are ready has written all steps
+pub stands : {D : Type 0} (seen : D → Image) (may_leave : D → Image → Type 0) (disk : MutBor D)
+    (base written : ℕ) (steps : List PlainStep) (fault full : Bool) (next : Slot) (one two : Bool)
+    → MatchBool (fault || full) (Unit {0}) (Only (seen disk.now) (may_leave disk.now)
+    × IsReady base written steps next one two (seen disk.now))
+    → OnFalse (fault || full) (IsStanding seen may_leave (record {
+      disk = disk;
+      base = base;
+      steps = steps;
+      acknowledged = written;
+      fault = fault;
+      full = full;
+    }))
+stands seen may_leave disk base written steps true full next one two held = tt
+stands seen may_leave disk base written steps false true next one two held = tt
+stands seen may_leave disk base written steps false false next one two held = record {
+  all = held.1.count;
+  durable = held.0;
+  found_is = λ some. ap found_in (held.1.kept some);
+}

@@ -3,8 +3,7 @@ use Rattle.std.specs.Prelude.{◌≡◌, ◌≢◌, ℕ, ◌+◌, ◌^◌, ◌<�
 use Rattle.std.specs.Prelude.{Option, None, Some, Result, Ok, Err}
 use Rattle.std.specs.Option.{option_map_or}
 use Rattle.spf_disk.specs.declared.open_error.OpenError.{OpenError}
-use Rattle.spf_disk.specs.declared.open_error.OpenError.TheVariants.{DiskFault, Damaged}
-use Rattle.spf_disk.specs.declared.open_error.OpenError.TheVariants.{OutOfMemory}
+use Rattle.spf_disk.specs.declared.open_error.OpenError.TheVariants.{Damaged}
 use Rattle.std.specs.Borrow.{MutBor}
 use Rattle.spf_feed.specs.Steps.{PlainStep}
 use Rattle.spf_disk.specs.declared.generation.Entry.{Entry}

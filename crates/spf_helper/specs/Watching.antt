@@ -1,17 +1,18 @@
 -- The exit status of a run, and its line on the error output.
-use Rattle.std.specs.Prelude.{◌≡◌, ℕ, List, [], ◌∷◌, ◌++◌, codes, decimal, Option, None, Some}
+use Rattle.std.specs.Prelude.{◌≡◌, ℕ, ◌≤◌, List, [], ◌∷◌, ◌++◌, codes, decimal, Option}
 use Rattle.std.specs.Prelude.{Result, Ok, Err}
 use Rattle.spf_io.specs.declared.memory.Failed.{Failed}
-use Rattle.spf_io.specs.Outside.{HasCause, PutAppends}
+use Rattle.spf_io.specs.Outside.{HasCause, PutAppends, Rose}
 use Rattle.spf_disk.specs.declared.open_error.OpenError.TheVariants.{DiskFault, Damaged}
 use Rattle.spf_disk.specs.declared.open_error.OpenError.TheVariants as opening
 use Rattle.spf_disk.specs.Image.{Image}
 use Rattle.spf_feed.specs.declared.follow_error.FollowError.{FollowError}
 use Rattle.spf_feed.specs.declared.follow_error.FollowError.TheVariants as answers
 use Rattle.spf_feed.specs.Limits.{default_limits}
+use Rattle.spf_feed.specs.Steps.{PlainStep}
 use Rattle.spf_helper.specs.declared.helper_error.HelperError.{HelperError}
 use Rattle.spf_helper.specs.declared.helper_error.HelperError.TheVariants as errors
-use Rattle.spf_helper.specs.Runs.{Ran}
+use Rattle.spf_helper.specs.Runs.{Ended, LeavesFound, Ran}
 
 abbrev pub follow_status : FollowError → ℕ
 follow_status answers.OutOfMemory = 2
@@ -77,21 +78,37 @@ pub record IsReported (held held' : Option (List ℕ)) (failures failures' : ℕ
   pub appends : PutAppends held held' put line
   pub cause : HasCause failures failures' put
 
--- what a run reads from and puts to, before and after it
+-- what a run reads from and puts to, before and after it, and how often each failed
 pub record Streams : Type 0 where
-  pub image : Image
   pub left : Option (List ℕ)
   pub left' : Option (List ℕ)
   pub held : Option (List ℕ)
   pub held' : Option (List ℕ)
   pub said : Option (List ℕ)
   pub said' : Option (List ℕ)
+  pub reads : ℕ
+  pub reads' : ℕ
+  pub writes : ℕ
+  pub writes' : ℕ
   pub failures : ℕ
   pub failures' : ℕ
 
--- A session was followed, and this is how it ended and was reported.
-pub record Watches (s : Streams) (n : ℕ) : Type 0 where
+-- a failure of the source or the output comes only where its count rose
+pub record HasCauses (reads reads' writes writes' : ℕ) (r : Result ℕ HelperError) : Type 0 where
+  pub reads_later : reads ≤ reads'
+  pub writes_later : writes ≤ writes'
+  pub read : r ≡ Err (errors.Follow answers.ReadFault) → Rose reads reads'
+  pub write : r ≡ Err (errors.Follow answers.WriteFault) → Rose writes writes'
+
+-- A session was followed over a disk, and this is how it ended and was reported.
+pub record Watches {D : Type 0} (seen : D → Image) (may_leave : D → Image → Type 0)
+    (moment : D → ℕ) (left_since : D → ℕ → Image → Type 0) (failures : D → ℕ) (old new : D)
+    (s : Streams) (n : ℕ) : Type 0 where
   pub end : Result ℕ HelperError
-  pub ran : Ran default_limits 1000000 s.image s.left s.left' s.held s.held' end
+  pub steps : List PlainStep
+  pub ended : Ended default_limits 1000000 (seen old) s.left s.left' s.held s.held' steps end
+  pub ran : Ran seen may_leave failures old new steps end
+  pub any_moment : LeavesFound seen may_leave moment left_since old new steps
+  pub causes : HasCauses s.reads s.reads' s.writes s.writes' end
   pub status : n ≡ status_of_end end
   pub line : IsReported s.said s.said' s.failures s.failures' (line_of_end end)

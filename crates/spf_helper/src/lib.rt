@@ -4,7 +4,9 @@
 
 mod following;
 mod generations;
+mod held;
 mod helper_error;
+mod lent;
 mod publisher;
 mod report;
 mod watching;

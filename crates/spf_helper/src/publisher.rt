@@ -100,6 +100,15 @@ impl<'a, D: Disk> HelperPublisher<'a, D> {
         Ok(HelperPublisher::over(alloc, disk, opened))
     }
 
+    /// The disk that was lent to it.
+    pub(crate) fn into_disk(self) -> &'a mut D
+        ensures same_reference { result.ghost_name ≡ self.entry.disk.ghost_name }
+        ensures same_disk { result.now ≡ self.entry.disk.now }
+    {
+        let HelperPublisher { disk, .. } = self;
+        disk
+    }
+
     /// How many of the first steps are written.
     pub fn acknowledged(&self) -> u64
         ensures count { result ≡ self.now.acknowledged }
@@ -143,6 +152,7 @@ impl<'a, D: Disk> Publisher for HelperPublisher<'a, D> {
             (LeavesOnly D.moment D.left_since self.old.disk.now self.new.disk.now
             (IsBeforeOrAfter (D.seen self.old.disk.now) self.old.base
             (self.old.steps ++ plain step ∷ []))) }
+        ensures later { D.failures self.old.disk.now ≤ D.failures self.new.disk.now }
         // Only the disk is a reason for a fault, and only the numbers for being full.
         ensures fault { OnFalse self.old.fault (OnTrue self.new.fault
             (Rose (D.failures self.old.disk.now) (D.failures self.new.disk.now))) }
@@ -153,6 +163,9 @@ impl<'a, D: Disk> Publisher for HelperPublisher<'a, D> {
             ((self.new.disk.now ≡ self.old.disk.now)
             × (self.new.acknowledged ≡ self.old.acknowledged)
             × (self.new.fault ≡ self.old.fault) × (self.new.full ≡ self.old.full)) }
+        // Otherwise all steps are written, and each crash leaves what the last one says.
+        ensures standing { OnFalse (self.new.fault || self.new.full)
+            (IsStanding D.seen D.may_leave self.new) }
     {
         if self.fault || self.full {
             self.steps.push(step)?;

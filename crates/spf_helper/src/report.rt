@@ -3,7 +3,7 @@
 ghost use Rattle.std.specs.Prelude.{◌≡◌, ◌++◌, ◌∷◌, [], codes};
 ghost use Rattle.spf_io.specs.Outside.{HasCause, PutAppends};
 ghost use Rattle.spf_helper.specs.Watching.{follow_status, status, follow_text, text, number_text};
-ghost use Rattle.spf_helper.specs.Watching.{error_line};
+ghost use Rattle.spf_helper.specs.Watching.{error_line, status_of_end, line_of_end, IsReported};
 
 use crate::helper_error::HelperError;
 use itoa::Buffer;
@@ -28,7 +28,7 @@ fn follow_status_of(error: &FollowError) -> u8
     }
 }
 
-pub(crate) fn status_of(error: &HelperError) -> u8
+fn status_of(error: &HelperError) -> u8
     ensures { result ≡ status error.now }
 {
     match error {
@@ -106,11 +106,27 @@ fn put_text<E: Sink>(errors: &mut E, error: &HelperError) -> Result<(), Failed>
 }
 
 /// Writes the line of an error, without allocating.
-pub(crate) fn put_line<E: Sink>(errors: &mut E, error: &HelperError) -> Result<(), Failed>
+fn put_line<E: Sink>(errors: &mut E, error: &HelperError) -> Result<(), Failed>
     ensures bytes { PutAppends (E.held errors.old) (E.held errors.new) result
         (error_line error.now) }
     ensures cause { HasCause (E.failures errors.old) (E.failures errors.new) result }
 {
     errors.put(b"spf_helper: ")?;
     put_text(errors, error)
+}
+
+/// Writes why a run ended, unless it ended well, and returns the exit
+/// status. A failure of the error output changes no status.
+pub(crate) fn report<E: Sink>(errors: &mut E, end: &Result<u64, HelperError>) -> u8
+    ensures status { result ≡ status_of_end end.now }
+    ensures line { IsReported (E.held errors.old) (E.held errors.new) (E.failures errors.old)
+        (E.failures errors.new) (line_of_end end.now) }
+{
+    match end {
+        Ok(_) => 0,
+        Err(error) => {
+            let _ = put_line(errors, error);
+            status_of(error)
+        }
+    }
 }

@@ -1,8 +1,8 @@
 //! Sessions over a disk in memory, and what a reader finds after them.
 
-use crate::{helper_follow, helper_watch};
+use crate::{HelperPublisher, helper_follow, helper_watch};
 use spf_disk::{Disk, Generation, HelperFile, MemDisk, OpenError, read_generation};
-use spf_feed::ResourceLimits;
+use spf_feed::{NoPicker, NoRecorder, Ready, ResourceLimits, follow_x509};
 use spf_fixtures::octets;
 use spf_io::{MemSink, MemSource};
 use std::alloc::Global;
@@ -20,7 +20,8 @@ fn followed(alloc: Global, disk: &mut MemDisk, frames: &str) -> Result<bool, Fai
     Ok(ended.is_ok())
 }
 
-/// The generation, where it has that number, a chain, a key and one trust domain with one authority.
+/// Whether it is the generation of that number, with that chain, and
+/// with KEY1 and ROOT1 of example.org.
 fn is_generation(
     alloc: Global,
     found: &Option<Generation>,
@@ -98,14 +99,46 @@ fn an_open_gate_before_no_entry_is_a_damage(rt: HostRuntime) -> Result<(), Fail>
     Ok(())
 }
 
-/// What is found after a crash is of none of the steps, or of the first or the third one.
-fn is_whole(alloc: Global, disk: &MemDisk, fill: u8) -> Result<bool, Fail> {
+/// Follows the frames over the disk, and returns how many of the first steps are written.
+fn written(alloc: Global, disk: &mut MemDisk, frames: &str) -> Result<u64, Fail> {
+    let frames = octets(alloc, frames)?;
+    let mut source = MemSource::new(frames, Vec::new(alloc), Vec::new(alloc));
+    let mut sink = MemSink::new(alloc, 1 << 16, Vec::new(alloc))?;
+    let mut publisher = match HelperPublisher::open(alloc, disk) {
+        Ok(publisher) => publisher,
+        Err(_) => return Ok(0),
+    };
+    let _ = follow_x509(
+        alloc,
+        &mut source,
+        &mut sink,
+        &mut publisher,
+        &mut NoRecorder::new(),
+        ResourceLimits::default_limits(),
+        None,
+        1000,
+        None::<&NoPicker>,
+        Ready::Usable,
+    );
+    Ok(publisher.acknowledged())
+}
+
+/// Whether that is found after so many steps of RECOVERY, which accept, deny and accept again.
+fn is_found_after(alloc: Global, found: &Option<Generation>, steps: u64) -> Result<bool, Fail> {
+    match steps {
+        1 => is_generation(alloc, found, 1, "LEAF1"),
+        3 => is_generation(alloc, found, 3, "LEAF1"),
+        _ => Ok(found.is_none()),
+    }
+}
+
+/// What is found after a crash is that of the steps that are written, or of one more.
+fn is_old_or_new(alloc: Global, disk: &MemDisk, fill: u8, steps: u64) -> Result<bool, Fail> {
     let mut crashed = disk.crash(fill)?;
     match read_generation(alloc, &mut crashed) {
         Ok(found) => Ok(
-            found.is_none()
-                || is_generation(alloc, &found, 1, "LEAF1")?
-                || is_generation(alloc, &found, 3, "LEAF1")?,
+            is_found_after(alloc, &found, steps)?
+                || is_found_after(alloc, &found, steps.saturating_add(1))?,
         ),
         Err(_) => Ok(false),
     }
@@ -116,12 +149,16 @@ fn a_disk_that_stops_is_never_damaged(rt: HostRuntime) -> Result<(), Fail> {
     let alloc = rt.alloc();
     for calls in 0..60 {
         let mut disk = MemDisk::stopping(alloc, calls);
-        let ended = followed(alloc, &mut disk, RECOVERY)?;
+        let steps = written(alloc, &mut disk, RECOVERY)?;
         for fill in [0, 1, 255] {
-            assert!(rt; is_whole(alloc, &disk, fill)?, "{calls} calls, {fill}");
+            assert!(rt;
+                is_old_or_new(alloc, &disk, fill, steps)?,
+                "{calls} calls, {fill}"
+            );
         }
-        if ended {
-            let mut crashed = disk.crash(1)?;
+        let mut other = MemDisk::stopping(alloc, calls);
+        if followed(alloc, &mut other, RECOVERY)? {
+            let mut crashed = other.crash(1)?;
             let found = read_generation(alloc, &mut crashed)?;
             assert!(rt; is_generation(alloc, &found, 3, "LEAF1")?);
             return Ok(());

@@ -1,10 +1,16 @@
 //! The program over an input, a disk and outputs of any kind.
 
-ghost use Rattle.std.specs.Prelude.{◌≡◌, ◌≢◌, ◌↔◌, length, codes};
+ghost use Rattle.std.specs.Prelude.{◌≡◌, ◌≢◌, ◌↔◌, Err, length, codes};
+ghost use Rattle.spf_io.specs.Outside.{Rose};
+ghost use Rattle.spf_disk.specs.declared.open_error.OpenError.TheVariants.{Damaged};
+ghost use Rattle.spf_disk.specs.Standing.{latest};
+ghost use Rattle.spf_feed.specs.Limits.{default_limits};
+ghost use Rattle.spf_helper.specs.Completing.{Completes};
+ghost use Rattle.spf_helper.specs.Runs.{helper_rules};
 ghost use Rattle.spf_helper.specs.Watching.{IsReported, Watches};
 
 use crate::following::helper_follow;
-use crate::report::{put_line, status_of};
+use crate::report::report;
 use spf_disk::Disk;
 use spf_feed::ResourceLimits;
 use spf_io::{Sink, Source};
@@ -27,29 +33,37 @@ pub fn helper_watch<S: Source, D: Disk, K: Sink, E: Sink>(
     ensures refused { length arguments.now ≢ 1 → IsReported (E.held errors.old)
         (E.held errors.new) (E.failures errors.old) (E.failures errors.new)
         (codes "spf_helper: bad words\n") }
-    ensures watches { length arguments.now ≡ 1 → Watches (record {
-      image = D.seen disk.old;
-      left = S.left source.old;
-      left' = S.left source.new;
-      held = K.held out.old;
-      held' = K.held out.new;
-      said = E.held errors.old;
-      said' = E.held errors.new;
-      failures = E.failures errors.old;
-      failures' = E.failures errors.new;
-    }) result }
+    ensures watches { length arguments.now ≡ 1
+        → Watches D.seen D.may_leave D.moment D.left_since D.failures disk.old disk.new (record {
+          left = S.left source.old;
+          left' = S.left source.new;
+          held = K.held out.old;
+          held' = K.held out.new;
+          said = E.held errors.old;
+          said' = E.held errors.new;
+          reads = S.failures source.old;
+          reads' = S.failures source.new;
+          writes = K.failures out.old;
+          writes' = K.failures out.new;
+          failures = E.failures errors.old;
+          failures' = E.failures errors.new;
+        }) result }
+    // Each failure comes only where its count rose, and a damage only of what the disk held.
+    ensures read_fault { result ≡ 3 → Rose (S.failures source.old) (S.failures source.new) }
+    ensures write_fault { result ≡ 4 → Rose (K.failures out.old) (K.failures out.new) }
+    ensures disk_fault { result ≡ 21 → Rose (D.failures disk.old) (D.failures disk.new) }
+    ensures damaged { result ≡ 22 → latest (D.seen disk.old) ≡ Err Damaged }
+    // A whole session over a disk that is not damaged ends with 0, or out of memory.
+    ensures complete { length arguments.now ≡ 1
+        → Completes (helper_rules default_limits) 1000000 (D.seen disk.old) (S.left source.old)
+        (S.failures source.old, S.failures source.new) (K.failures out.old, K.failures out.new)
+        (D.failures disk.old, D.failures disk.new) result }
 {
     if arguments.len() != 1 {
         let _ = errors.put(b"spf_helper: bad words\n");
         return 1;
     }
     let limits = ResourceLimits::default_limits();
-    match helper_follow(alloc, source, out, disk, limits, MAX_FRAMES) {
-        Ok(_) => 0,
-        Err(error) => {
-            let status = status_of(&error);
-            let _ = put_line(errors, &error);
-            status
-        }
-    }
+    let end = helper_follow(alloc, source, out, disk, limits, MAX_FRAMES);
+    report(errors, &end)
 }

@@ -1,27 +1,21 @@
-use Rattle.std.proofs.Common.{refl}
-use Rattle.spf_helper.proofs.Followings.{follows}
+use Rattle.std.proofs.Common.{◌≡◌, subst, sym}
+use Rattle.spf_helper.specs.Runs.{LeavesBeside}
+use Rattle.spf_helper.proofs.RunLemmas.{left_found, ran_lent}
 use Rattle.spf_helper.proofs.following.helper_follow.Goals as goal
-
-pub returns-then-fault-clause-ran : goal.returns-then-fault-clause-ran
-returns-then-fault-clause-ran g c = (
-  c.follow_x509-followed.result,
-  follows c.args.limits c.args.max_frames _ _ _ _ _ _ _ c.follow_x509-followed.result _
-      c.over-publisher.ensures.empty.0 refl c.follow_x509-followed.ensures.followed,
-)
-
-pub returns-then-full-clause-ran : goal.returns-then-full-clause-ran
-returns-then-full-clause-ran g c = (
-  c.follow_x509-followed.result,
-  follows c.args.limits c.args.max_frames _ _ _ _ _ _ _ c.follow_x509-followed.result _
-      c.over-publisher.ensures.empty.0 refl c.follow_x509-followed.ensures.followed,
-)
-
-pub returns-in-Ok-followed-clause-ran : goal.returns-in-Ok-followed-clause-ran
-returns-in-Ok-followed-clause-ran g c =
-    follows c.args.limits c.args.max_frames _ _ _ _ _ _ _ c.follow_x509-followed.result _
-    c.over-publisher.ensures.empty.0 c.in-Ok-followed.is c.follow_x509-followed.ensures.followed
 
 pub returns-clause-ran : goal.returns-clause-ran
 returns-clause-ran g c =
-    follows c.args.limits c.args.max_frames _ _ _ _ _ _ _ c.follow_x509-followed.result _
-    c.over-publisher.ensures.empty.0 c.in-Err-followed.is c.follow_x509-followed.ensures.followed
+    let is : c.disk-1.given.0 ≡ c.follow_lent-end.result.1.now =
+    c.disk-1.given.1 (sym c.follow_lent-end.ensures.loan) in (
+      c.follow_lent-end.ensures.ran.0,
+      c.follow_lent-end.ensures.ran.1,
+      ran_lent g.D.Disk.seen g.D.Disk.may_leave g.D.Disk.failures _ c.follow_lent-end.result.1 _
+          c.follow_lent-end.ensures.ran.0 c.follow_lent-end.result.0 is
+          c.follow_lent-end.ensures.ran.2,
+      left_found g.D.Disk.seen g.D.Disk.may_leave g.D.Disk.moment g.D.Disk.left_since
+          g.D.Disk.failures c.args.disk.now _ c.follow_lent-end.ensures.ran.0
+          g.met.D.Disk.only_now
+          (subst (λ d. LeavesBeside g.D.Disk.moment g.D.Disk.left_since c.args.disk.now d
+          (g.D.Disk.left_since c.args.disk.now) (g.D.Disk.seen c.args.disk.now)
+          c.follow_lent-end.ensures.ran.0) (sym is) c.follow_lent-end.ensures.ran.3),
+    )

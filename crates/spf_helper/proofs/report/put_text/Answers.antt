@@ -1,7 +1,7 @@
-use Rattle.std.proofs.Common.{◌≡◌, ◌∙◌, ◌++◌, List, ℕ, ap, sym, subst}
+use Rattle.std.proofs.Common.{◌∙◌, ◌++◌, List, ℕ, subst}
 use Rattle.std.proofs.lemmas.Result.{err_from_is_err_and}
 use Rattle.spf_io.specs.Outside.{PutAppends}
-use Rattle.spf_helper.specs.Watching.{text, number_text}
+use Rattle.spf_helper.specs.Watching.{number_text}
 use Rattle.spf_helper.proofs.Pieces.{first_failed, then_second}
 use Rattle.spf_helper.proofs.report.put_text.Goals as goal
 
