@@ -6,6 +6,7 @@ use Rattle.std.specs.Prelude.{◌==◌, nat_lt, if◌then◌else◌}
 use Rattle.std.specs.Int.{w32, to_be_bytes}
 use Rattle.spf_der.specs.Value.{length_octets}
 use Rattle.spf_der.specs.Written.{certificate_text}
+use Rattle.spf_der.specs.WrittenTime.{expiry_text}
 use Rattle.spf_api.specs.declared.response.ContextResponse.{ContextResponse}
 use Rattle.spf_api.specs.declared.response.Response.TheVariants as response
 use Rattle.spf_api.specs.declared.response.SvidEntry.{SvidEntry}
@@ -18,10 +19,11 @@ use Rattle.spiffe_watch.specs.declared.generated.Workload.{Workload}
 use Rattle.spiffe_watch.specs.declared.template.Template.{Template}
 use Rattle.spiffe_watch.specs.MadeSession.{client_frames, close_frame, denial_frame, end_frame}
 use Rattle.spiffe_watch.specs.MadeSession.{entry, frames_by, frames_from, frames_left}
-use Rattle.spiffe_watch.specs.MadeSession.{generation_by, item, item_frame, next_seed, leaf}
+use Rattle.spiffe_watch.specs.MadeSession.{expiry_of, generation_by, item, item_frame, next_seed, leaf}
 use Rattle.spiffe_watch.specs.MadeSession.{leaf_spec, moment_frame, root, root_spec, intermediate}
 use Rattle.spiffe_watch.specs.MadeSession.{intermediate_spec}
 use Rattle.spiffe_watch.specs.GeneratedParts.{Yields, IsExpiry, IsWorkload}
+use Rattle.spiffe_watch.proofs.MadeSessionRows.{expiry_is}
 use Rattle.spiffe_watch.specs.Template.{IsTemplate, before, dated, tbs_after, tbs_before, tbs_size}
 
 -- ---- offsets
@@ -198,3 +200,9 @@ pub put_client : (old frame : List ℕ)
     → old ++ frame ++ client_octets ≡ old ++ (frame ++ client_frames)
 put_client old frame =
     append_assoc old frame client_octets ∙ ap (λ (l : List ℕ). old ++ (frame ++ l)) client_is
+
+-- a Time of the expiry of a generation
+pub is_expiry : (generation : ℕ) (text : List ℕ) → generation < 73600
+    → text ≡ expiry_text (expiry_of generation) → IsExpiry generation text
+is_expiry generation text fits is =
+    record { is = is; size = ap length (is ∙ expiry_is generation fits) }
