@@ -1,2 +1,5 @@
+pub mod Boards
 pub mod Reads
+pub mod Records
+pub mod Shutdowns
 pub mod Sources

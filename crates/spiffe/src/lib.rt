@@ -3,10 +3,18 @@
 #![tactic(auto)]
 
 mod closing;
+mod handle;
+mod job;
+mod publishing;
+mod record;
 mod source;
 #[cfg(test)]
 mod tests;
 mod updates;
 
+pub use handle::SupervisorHandle;
+pub use job::{X509Done, X509Job};
+pub use publishing::BoardPublisher;
+pub use record::{Supervised, SupervisorEnd};
 pub use source::X509Source;
 pub use updates::X509SourceUpdates;

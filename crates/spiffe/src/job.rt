@@ -1,0 +1,200 @@
+//! What the thread of a supervisor does.
+
+ghost use Rattle.std.specs.Prelude.{◌≡◌, false, IfSome, None, Some, reverse};
+ghost use Rattle.spf_close.specs.declared.maker.Maker.TheVariants as makers;
+ghost use Rattle.spf_feeder.specs.Coming.{AllTold};
+ghost use Rattle.spf_feeder.specs.Kept.{rules_by};
+ghost use Rattle.spf_feeder.specs.Orderly.{IsSynced};
+ghost use Rattle.spf_feeder.specs.Pacing.{KeepsPace};
+ghost use Rattle.spf_history.specs.Lists.{steps_of};
+ghost use Rattle.spiffe.specs.Records.{IsLeftBy, IsRecord, assigned};
+
+use crate::publishing::BoardPublisher;
+use crate::record::Supervised;
+use rand_core::Rng;
+use spf_close::{Bell, Closed, Closer, Watch};
+use spf_feed::{MetricsRecorder, SvidPicker};
+use spf_feeder::{Feeder, Pace, SessionParts, supervise};
+use spf_job::Job;
+use spf_link::Connector;
+use spf_system::Pause;
+use spf_x509_board::Ended;
+use std::marker::Model;
+use std::sync::Wait;
+
+/// What a supervisor leaves: its ended writer, and its record, where memory did not run out.
+#[derive(Drop)]
+pub struct X509Done<K: SvidPicker + Drop, R: Wait + Drop> {
+    ended: Ended<R>,
+    record: Option<Supervised<K>>,
+}
+
+impl<K: SvidPicker + Drop, R: Wait + Drop> Model for X509Done<K, R> {
+    ghost use Rattle.std.specs.Prelude.{◌≡◌, IfSome};
+    ghost use Rattle.spf_history.specs.Lists.{steps_of};
+    ghost use Rattle.spiffe.specs.Records.{IsRecord, Left, left_of};
+
+    ghost Value = { Left K };
+
+    ghost view = { λ d. left_of d.ended d.record };
+
+    ghost invariant = { λ d. IfSome d.record (λ r. (r.steps ≡ steps_of d.ended.list) × IsRecord K.picks r) };
+}
+
+impl<K: SvidPicker + Drop, R: Wait + Drop> X509Done<K, R> {
+    /// The ended writer, and the record.
+    pub(crate) fn into_parts(self) -> (Ended<R>, Option<Supervised<K>>)
+        ensures past { result.0 ≡ self.past }
+        ensures recorded { result.1 ≡ self.recorded }
+        ensures kept { IfSome self.recorded (λ r. (r.steps ≡ steps_of self.past.list)
+            × IsRecord K.picks r) }
+    {
+        let X509Done { ended, record } = self;
+        (ended, record)
+    }
+}
+
+/// Asks the connector and its link, publishes on the board, and ends where a caller closes the
+/// source or memory runs out.
+#[derive(Drop)]
+pub struct X509Job<C, K, M, W, N, R>
+where
+    C: Connector + Drop,
+    C::Link: Drop,
+    K: SvidPicker + Drop,
+    M: MetricsRecorder + Drop,
+    W: Pause + Drop,
+    N: Rng + Drop,
+    R: Wait + Drop,
+{
+    pub(crate) feeder: Feeder<C, BoardPublisher<R>, M, K>,
+    pub(crate) pace: Pace,
+    pub(crate) pause: W,
+    pub(crate) random: N,
+    pub(crate) watch: Watch,
+    pub(crate) closer: Closer,
+    pub(crate) bell: Bell,
+    pub(crate) rt: R,
+}
+
+impl<C, K, M, W, N, R> Model for X509Job<C, K, M, W, N, R>
+where
+    C: Connector + Drop,
+    C::Link: Drop,
+    K: SvidPicker + Drop,
+    M: MetricsRecorder + Drop,
+    W: Pause + Drop,
+    N: Rng + Drop,
+    R: Wait + Drop,
+{
+    ghost use Rattle.std.specs.Prelude.{◌≡◌, false, reverse};
+    ghost use Rattle.spf_feeder.specs.Kept.{rules_by};
+    ghost use Rattle.spf_feeder.specs.Orderly.{IsSynced};
+    ghost use Rattle.spf_feeder.specs.Pacing.{KeepsPace};
+    ghost use Rattle.spiffe.specs.Records.{Assigned, assigned};
+
+    ghost Value = { Assigned C K };
+
+    ghost view = { λ j. assigned j.feeder.core.publisher.book j.watch j.feeder.core.run j.feeder.core.settings j.feeder.core.picker j.pace.bounds j.feeder.first };
+
+    ghost invariant = { λ j. (j.feeder.core.stuck ≡ false)
+        × IsSynced (rules_by K.picks j.feeder.core.settings j.feeder.core.picker) (reverse j.feeder.core.run)
+        × KeepsPace (rules_by K.picks j.feeder.core.settings j.feeder.core.picker) j.feeder.core.run j.pace };
+}
+
+/// What is left where a caller closed the source.
+fn recorded<C, K, M, R>(
+    feeder: Feeder<C, BoardPublisher<R>, M, K>,
+    pace: Pace,
+    closed: Closed,
+) -> X509Done<K, R>
+where
+    C: Connector + Drop,
+    C::Link: Drop,
+    K: SvidPicker + Drop,
+    M: MetricsRecorder + Drop,
+    R: Wait + Drop,
+    requires going { feeder.core.stuck ≡ false }
+    requires synced { IsSynced (rules_by K.picks feeder.core.settings feeder.core.picker)
+        (reverse feeder.core.run) }
+    requires paces { KeepsPace (rules_by K.picks feeder.core.settings feeder.core.picker)
+        feeder.core.run pace }
+    requires maker { closed.maker ≡ makers.Caller }
+    ensures board { result.past.book ≡ feeder.core.publisher.book }
+    ensures recorded { IfSome result.recorded (λ r. (r.run ≡ feeder.core.run)
+        × (r.settings ≡ feeder.core.settings) × (r.picker ≡ feeder.core.picker)
+        × (r.pace ≡ pace) × (r.closed ≡ closed)) }
+    ensures told { IfSome (C.members feeder.first) (λ m. AllTold
+        (rules_by K.picks feeder.core.settings feeder.core.picker) m (reverse feeder.core.run)) }
+{
+    let SessionParts {
+        publisher,
+        events,
+        rules,
+        picker,
+    } = feeder.into_parts();
+    let (ended, steps) = publisher.finish();
+    let record = Supervised::new(events, steps, rules, picker, pace, closed);
+    X509Done {
+        ended,
+        record: Some(record),
+    }
+}
+
+/// What is left where memory ran out.
+fn unrecorded<C, K, M, R>(feeder: Feeder<C, BoardPublisher<R>, M, K>) -> X509Done<K, R>
+where
+    C: Connector + Drop,
+    C::Link: Drop,
+    K: SvidPicker + Drop,
+    M: MetricsRecorder + Drop,
+    R: Wait + Drop,
+    ensures board { result.past.book ≡ feeder.core.publisher.book }
+    ensures recorded { result.recorded ≡ None }
+{
+    let (ended, _steps) = feeder.into_publisher().finish();
+    X509Done {
+        ended,
+        record: None,
+    }
+}
+
+impl<C, K, M, W, N, R> Job for X509Job<C, K, M, W, N, R>
+where
+    C: Connector + Drop,
+    C::Link: Drop,
+    K: SvidPicker + Drop,
+    M: MetricsRecorder + Drop,
+    W: Pause + Drop,
+    N: Rng + Drop,
+    R: Wait + Drop,
+{
+    type Done = X509Done<K, R>;
+
+    ghost use Rattle.spiffe.specs.Records.{IsLeftBy};
+
+    ghost may_give = { IsLeftBy C.members K.picks };
+
+    fn run(self) -> X509Done<K, R>
+        ensures { IsLeftBy C.members K.picks self result }
+    {
+        let X509Job {
+            mut feeder,
+            mut pace,
+            mut pause,
+            mut random,
+            watch,
+            mut closer,
+            bell,
+            rt,
+        } = self;
+        let closed = supervise(&rt, &mut feeder, &mut pace, &mut random, &mut pause, &watch);
+        let done = match closed {
+            Some(closed) => recorded(feeder, pace, closed),
+            None => unrecorded(feeder),
+        };
+        closer.close();
+        bell.ring();
+        done
+    }
+}
