@@ -1,2 +1,4 @@
+pub mod Failing
+pub mod Joining
 pub mod Leaving
 mod Reading

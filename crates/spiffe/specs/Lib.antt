@@ -1,4 +1,5 @@
 pub mod Boards
+pub mod Building
 pub mod Reads
 pub mod Records
 pub mod Shutdowns

@@ -2,9 +2,13 @@
 //! lock.
 #![tactic(auto)]
 
+#[cfg(test)]
+mod build_tests;
+mod builder;
 mod closing;
 mod handle;
 mod job;
+mod opening;
 mod publishing;
 mod record;
 mod source;
@@ -12,6 +16,7 @@ mod source;
 mod tests;
 mod updates;
 
+pub use builder::{Settings, X509SourceBuilder};
 pub use handle::SupervisorHandle;
 pub use job::{X509Done, X509Job};
 pub use publishing::BoardPublisher;

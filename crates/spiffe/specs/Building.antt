@@ -1,0 +1,98 @@
+-- What a builder makes of a source, and why it fails.
+use Rattle.std.specs.Prelude.{◌≡◌, ◌⊎◌, ℕ, ℤ, List, [], Option, None, Some, Result, Ok, Err, reverse, if◌then◌else◌}
+use Rattle.std.specs.declared.time.Duration.{Duration}
+use Rattle.spf_api.specs.declared.endpoint_error.EndpointError.{EndpointError}
+use Rattle.spf_api.specs.declared.error.WorkloadApiError.TheVariants as api
+use Rattle.spf_board.specs.Passes.{Rose}
+use Rattle.spf_io.specs.Outside.{Rose as Refused}
+use Rattle.spf_endpoint.specs.Endpoint.{is_memory}
+use Rattle.spf_link.specs.Connecting.{Member}
+use Rattle.spf_pace.specs.declared.reconnect_config.ReconnectConfig.{ReconnectConfig}
+use Rattle.spf_view.specs.Steps.{steps_of}
+use Rattle.spf_x509.specs.Svid.{Svid}
+use Rattle.spf_x509_board.specs.Passes.{PassView}
+use Rattle.spf_history.specs.Lists.{steps_of as board_steps}
+use Rattle.spf_feed.specs.declared.limits.ResourceLimits.{ResourceLimits}
+use Rattle.spf_feed.specs.declared.ready.Ready.{Ready}
+use Rattle.spf_feed.specs.declared.state.X509SourceError.{X509SourceError}
+use Rattle.spf_feed.specs.declared.state.X509SourceError.TheVariants as errors
+use Rattle.spf_feed.specs.declared.turn.Terminal.{Terminal}
+use Rattle.spf_feed.specs.declared.turn.Terminal.TheVariants as terminal
+use Rattle.spf_feed.specs.Items.{subject}
+use Rattle.spf_feeder.specs.declared.session.Stop.{Stop}
+use Rattle.spf_feeder.specs.declared.session.Stop.TheVariants as stops
+use Rattle.spf_feeder.specs.Kept.{rules_by}
+use Rattle.spf_feeder.specs.Opened.{HasDeadline, StopsOpening}
+use Rattle.spf_feeder.specs.Orderly.{IsSynced}
+use Rattle.spf_feeder.specs.Times.{Gives}
+use Rattle.spiffe.specs.declared.builder.Settings.{Settings}
+use Rattle.spiffe.specs.Records.{Assigned}
+use Rattle.spiffe.specs.Sources.{Source}
+
+-- the error of a refused endpoint
+abbrev pub refused_as : EndpointError → X509SourceError
+refused_as e = if is_memory e then errors.OutOfMemory else errors.Source (api.Endpoint e)
+
+-- the error of a stop
+abbrev pub stopped_as : Stop → X509SourceError
+stopped_as (stops.Terminal (terminal.Source e)) = errors.Source e
+stopped_as (stops.Terminal (terminal.UnsupportedRpc e)) = errors.UnsupportedRpc e
+stopped_as (stops.Terminal terminal.InitialSyncTimeout) = errors.InitialSyncTimeout
+stopped_as (stops.Terminal terminal.Closed) = errors.OutOfMemory
+stopped_as stops.OutOfMemory = errors.OutOfMemory
+
+-- the initial synchronisation may stop so
+abbrev pub Stops : {K : Type 0} → (K → List Svid → Option ℕ) → Settings K → Terminal → Type 0
+Stops picks set end =
+    StopsOpening picks set.limits set.timeout set.ready set.picker (stops.Terminal end)
+
+-- Why an initial synchronisation gives an error: the endpoint is none, or a terminal event was told
+-- by the connector or the clock before anything was accepted.
+abbrev pub SyncFails : {K : Type 0} → (K → List Svid → Option ℕ) → Settings K
+    → Result (Unit {0}) EndpointError → X509SourceError → Type 0
+SyncFails picks set valid (errors.Source e) =
+    ((x : EndpointError) × (valid ≡ Err x) × (e ≡ api.Endpoint x))
+    ⊎ ((valid ≡ Ok tt) × Stops picks set (terminal.Source e))
+SyncFails picks set valid (errors.UnsupportedRpc e) =
+    (valid ≡ Ok tt) × Stops picks set (terminal.UnsupportedRpc e)
+SyncFails picks set valid errors.InitialSyncTimeout =
+    (valid ≡ Ok tt) × Stops picks set terminal.InitialSyncTimeout
+SyncFails picks set valid errors.OutOfMemory = Unit {0}
+SyncFails picks set valid _ = ⊥
+
+-- The same, which may also find no place for the pass.
+abbrev pub PrepareFails : {K : Type 0} → (K → List Svid → Option ℕ) → Settings K
+    → Result (Unit {0}) EndpointError → ℕ → ℕ → X509SourceError → Type 0
+PrepareFails picks set valid before now errors.NoPlace = Rose before now
+PrepareFails picks set valid before now e = SyncFails picks set valid e
+
+-- the same, which may find no supervisor after that
+abbrev pub BuildFails : {K : Type 0} → (K → List Svid → Option ℕ) → Settings K
+    → Result (Unit {0}) EndpointError → ℕ → ℕ → ℕ → ℕ → X509SourceError → Type 0
+BuildFails picks set valid before now started starts errors.NoSupervisor = Refused started starts
+BuildFails picks set valid before now started starts e = PrepareFails picks set valid before now e
+
+-- What an initial synchronisation leaves to a supervisor: the rules are those of the builder, the
+-- connector has its meaning, the run is synchronised, and its moments are those that the clock gave.
+pub record IsAssigned {S K : Type 0} (members : S → Option (List Member))
+    (picks : K → List Svid → Option ℕ) (set : Settings K) (connector : S)
+    (clock clock' : Option (List (Option ℤ))) (job : Assigned S K) : Type 0 where
+  pub limits : job.settings.limits ≡ set.limits
+  pub ready : job.settings.ready ≡ set.ready
+  pub deadline : HasDeadline set.timeout job.settings.deadline
+  pub picker : job.picker ≡ set.picker
+  pub bounds : job.bounds ≡ set.bounds
+  pub members_are : members job.first ≡ members connector
+  pub synced : IsSynced (rules_by picks job.settings job.picker) (reverse job.run)
+  pub clock_is : Gives clock clock' [] job.run
+
+-- A source, its first pass, what closes it, and the job of its supervisor: the pass has seen the
+-- opening step, and all are of one board and one closed cell.
+pub record IsBuilt {S K : Type 0} (picks : K → List Svid → Option ℕ) (source : Source)
+    (pass : PassView) (closing : ℕ) (job : Assigned S K) : Type 0 where
+  pub pass_board : pass.book ≡ source.board
+  pub board : job.board ≡ source.board
+  pub cell : job.cell ≡ source.cell
+  pub closing_cell : closing ≡ source.cell
+  pub seen : board_steps pass.seen
+      ≡ steps_of (subject (rules_by picks job.settings job.picker)) job.run

@@ -1,0 +1,289 @@
+//! Builders of live sources.
+
+ghost use Rattle.std.specs.Prelude.{◌≡◌, Err, IfErr, IfOk, None, Ok, Some};
+ghost use Rattle.std.specs.Option.{ForSome};
+ghost use Rattle.spiffe.specs.Building.{BuildFails, IsAssigned, IsBuilt, PrepareFails};
+
+use crate::closing::Closing;
+use crate::handle::SupervisorHandle;
+use crate::job::X509Job;
+use crate::opening::{joined, open_cells, synchronised};
+use crate::source::X509Source;
+use rand_core::Rng;
+use spf_feed::{
+    MetricsRecorder, NoPicker, NoRecorder, Ready, ResourceLimits, SvidPicker, X509SourceError,
+};
+use spf_job::Spawner;
+use spf_link::Connector;
+use spf_pace::ReconnectConfig;
+use spf_system::{Clock, Pause};
+use spf_x509_board::{Pass, Places};
+use std::alloc::Global;
+use std::fmt;
+use std::sync::Wait;
+use std::time::Duration;
+
+/// What a builder is set to, its connector and its recorder aside.
+#[derive(Drop)]
+pub struct Settings<P: Drop> {
+    pub(crate) picker: Option<P>,
+    pub(crate) bounds: ReconnectConfig,
+    pub(crate) limits: ResourceLimits,
+    pub(crate) ready: Ready,
+    pub(crate) timeout: Option<Duration>,
+    pub(crate) grace: Option<Duration>,
+}
+
+/// Builds a source of X.509 identities over a connector.
+#[derive(Drop)]
+pub struct X509SourceBuilder<P: Drop, C: Drop, M: Drop> {
+    settings: Settings<P>,
+    connector: C,
+    recorder: M,
+}
+
+impl<P: Drop, C: Drop, M: Drop> fmt::Debug for X509SourceBuilder<P, C, M> {
+    fn fmt<W: fmt::Write>(&self, f: &mut fmt::Formatter<W>) -> fmt::Result {
+        write!(f, "X509SourceBuilder")
+    }
+}
+
+impl<C: Connector + Drop> X509SourceBuilder<NoPicker, C, NoRecorder> {
+    /// Pauses of 200 ms to 10 s between attempts, the default limits, ready with a usable SVID, a
+    /// shutdown that takes at most 30 s, and no limit of the initial synchronisation.
+    pub fn new(connector: C) -> X509SourceBuilder<NoPicker, C, NoRecorder>
+        ensures { result.connector ≡ connector }
+    {
+        X509SourceBuilder {
+            settings: Settings {
+                picker: None,
+                bounds: ReconnectConfig::new(Duration::from_millis(200), Duration::from_secs(10)),
+                limits: ResourceLimits::default_limits(),
+                ready: Ready::Usable,
+                timeout: None,
+                grace: Some(Duration::from_secs(30)),
+            },
+            connector,
+            recorder: NoRecorder::new(),
+        }
+    }
+}
+
+impl<P: SvidPicker + Drop, C: Connector + Drop, M: MetricsRecorder + Drop> X509SourceBuilder<
+    P,
+    C,
+    M,
+>
+where
+    C::Link: Drop,
+{
+    /// Reads of this connector.
+    pub fn client_factory<D: Connector + Drop>(self, factory: D) -> X509SourceBuilder<P, D, M>
+        ensures { (result.connector ≡ factory) × (result.settings ≡ self.settings) }
+    {
+        let X509SourceBuilder {
+            settings,
+            connector: _connector,
+            recorder,
+        } = self;
+        X509SourceBuilder {
+            settings,
+            connector: factory,
+            recorder,
+        }
+    }
+
+    /// Lets this picker choose among the SVIDs of an update.
+    pub fn picker<Q: SvidPicker + Drop>(self, picker: Q) -> X509SourceBuilder<Q, C, M>
+        ensures picker { result.settings.picker ≡ Some picker }
+        ensures others { (result.connector ≡ self.connector)
+            × (result.settings.limits ≡ self.settings.limits)
+            × (result.settings.ready ≡ self.settings.ready)
+            × (result.settings.timeout ≡ self.settings.timeout)
+            × (result.settings.grace ≡ self.settings.grace)
+            × (result.settings.bounds ≡ self.settings.bounds) }
+    {
+        let X509SourceBuilder {
+            settings,
+            connector,
+            recorder,
+        } = self;
+        let Settings {
+            picker: _picker,
+            bounds,
+            limits,
+            ready,
+            timeout,
+            grace,
+        } = settings;
+        X509SourceBuilder {
+            settings: Settings {
+                picker: Some(picker),
+                bounds,
+                limits,
+                ready,
+                timeout,
+                grace,
+            },
+            connector,
+            recorder,
+        }
+    }
+
+    /// Records what happens with this recorder.
+    pub fn metrics<N: MetricsRecorder + Drop>(self, metrics: N) -> X509SourceBuilder<P, C, N>
+        ensures { (result.connector ≡ self.connector) × (result.settings ≡ self.settings)
+            × (result.recorder ≡ metrics) }
+    {
+        let X509SourceBuilder {
+            settings,
+            connector,
+            recorder: _recorder,
+        } = self;
+        X509SourceBuilder {
+            settings,
+            connector,
+            recorder: metrics,
+        }
+    }
+
+    /// The bounds of the pauses between attempts.
+    pub fn reconnect_backoff(mut self, min: Duration, max: Duration) -> X509SourceBuilder<P, C, M>
+        ensures { result ≡ record self {
+          settings = record self.settings {
+            bounds = record { min_backoff = min; max_backoff = max };
+          };
+        } }
+    {
+        self.settings.bounds = ReconnectConfig::new(min, max);
+        self
+    }
+
+    /// The limits that each update has to keep.
+    pub fn resource_limits(mut self, limits: ResourceLimits) -> X509SourceBuilder<P, C, M>
+        ensures { result ≡ record self { settings = record self.settings { limits = limits } } }
+    {
+        self.settings.limits = limits;
+        self
+    }
+
+    /// When the source is ready: with a usable SVID, or with any update.
+    pub fn ready(mut self, ready: Ready) -> X509SourceBuilder<P, C, M>
+        ensures { result ≡ record self { settings = record self.settings { ready = ready } } }
+    {
+        self.settings.ready = ready;
+        self
+    }
+
+    /// How long [`SupervisorHandle::shutdown_configured`] may take.
+    pub fn shutdown_timeout(mut self, timeout: Option<Duration>) -> X509SourceBuilder<P, C, M>
+        ensures { result ≡ record self { settings = record self.settings { grace = timeout } } }
+    {
+        self.settings.grace = timeout;
+        self
+    }
+
+    /// How long the initial synchronisation may take.
+    pub fn initial_sync_timeout(mut self, timeout: Duration) -> X509SourceBuilder<P, C, M>
+        ensures { result ≡ record self {
+          settings = record self.settings {
+            timeout = Some timeout;
+          };
+        } }
+    {
+        self.settings.timeout = Some(timeout);
+        self
+    }
+
+    /// Synchronises, and makes all of a source but its thread: the source, its first pass, what
+    /// closes it, and the job of its supervisor.
+    pub(crate) fn prepare<T, W, N, R, L>(
+        self,
+        rt: R,
+        alloc: Global,
+        clock: &mut T,
+        pause: W,
+        random: N,
+        places: &mut L,
+    ) -> Result<(X509Source, Pass, Closing, X509Job<C, P, M, W, N, R>), X509SourceError>
+    where
+        T: Clock,
+        W: Pause + Drop,
+        N: Rng + Drop,
+        R: Wait + Copy + Drop,
+        L: Places,
+        requires picker { ForSome self.settings.picker P.can_pick }
+        ensures built { IfOk result (λ r. IsBuilt P.picks r.0 r.1 r.2 r.3) }
+        ensures assigned { IfOk result (λ r. IsAssigned C.members P.picks self.settings
+            self.connector (T.moments clock.old) (T.moments clock.new) r.3) }
+        ensures endpoint { IfOk result (λ _. C.validates self.connector ≡ Ok tt) }
+        ensures failed { IfErr result (PrepareFails P.picks self.settings
+            (C.validates self.connector) (L.refusals places.old) (L.refusals places.new)) }
+    {
+        let X509SourceBuilder {
+            settings,
+            connector,
+            recorder,
+        } = self;
+        let mut pause = pause;
+        let mut random = random;
+        let cells = open_cells(alloc)?;
+        let (feeder, pace) = synchronised(
+            &rt,
+            alloc,
+            connector,
+            recorder,
+            settings,
+            &cells.stop,
+            clock,
+            &mut pause,
+            &mut random,
+        )?;
+        joined(rt, alloc, cells, feeder, pace, pause, random, places)
+    }
+
+    /// Synchronises, and starts the supervisor. The source comes with its first pass, and with the
+    /// handle of the supervisor.
+    pub fn build<T, W, N, R, S, L>(
+        self,
+        rt: R,
+        alloc: Global,
+        clock: &mut T,
+        pause: W,
+        random: N,
+        spawner: &mut S,
+        places: &mut L,
+    ) -> Result<
+        (
+            X509Source,
+            Pass,
+            SupervisorHandle<X509Job<C, P, M, W, N, R>, S::Handle>,
+        ),
+        X509SourceError,
+    >
+    where
+        T: Clock,
+        W: Pause + Drop,
+        N: Rng + Drop,
+        R: Wait + Copy + Drop,
+        S: Spawner<X509Job<C, P, M, W, N, R>>,
+        S::Handle: Drop,
+        L: Places,
+        requires picker { ForSome self.settings.picker P.can_pick }
+        ensures built { IfOk result (λ r. IsBuilt P.picks r.0 r.1 r.2.cell r.2.job) }
+        ensures assigned { IfOk result (λ r. IsAssigned C.members P.picks self.settings
+            self.connector (T.moments clock.old) (T.moments clock.new) r.2.job) }
+        ensures grace { IfOk result (λ r. r.2.grace ≡ self.settings.grace) }
+        ensures endpoint { IfOk result (λ _. C.validates self.connector ≡ Ok tt) }
+        ensures failed { IfErr result (BuildFails P.picks self.settings
+            (C.validates self.connector) (L.refusals places.old) (L.refusals places.new)
+            (S.refusals spawner.old) (S.refusals spawner.new)) }
+    {
+        let grace = self.settings.grace;
+        let (source, pass, closing, job) = self.prepare(rt, alloc, clock, pause, random, places)?;
+        match spawner.start(job) {
+            Ok(handle) => Ok((source, pass, SupervisorHandle::new(handle, closing, grace))),
+            Err(_) => Err(X509SourceError::NoSupervisor),
+        }
+    }
+}
