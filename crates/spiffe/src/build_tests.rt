@@ -1,6 +1,6 @@
 //! Sources that are built over doubles.
 
-use crate::{SupervisorEnd, X509SourceBuilder};
+use crate::X509SourceBuilder;
 use spf_api::{GrpcStatusCode, GrpcStatusError, LinkFault, Response};
 use spf_feed::{NoPicker, NoRecorder, X509SourceError};
 use spf_io::Text;
@@ -139,39 +139,5 @@ fn refused<R: Wait + Copy + Drop>(rt: R, alloc: Global, no_place: bool) -> Resul
 fn refused_builds(rt: HostRuntime) -> Result<(), Fail> {
     assert!(rt; refused(rt, rt.alloc(), true)? == Outcome::NoPlace);
     assert!(rt; refused(rt, rt.alloc(), false)? == Outcome::NoSupervisor);
-    Ok(())
-}
-
-/// How many events and steps a record has that is joined at once, and whether its source is then
-/// closed.
-fn joined<R: Wait + Copy + Drop>(
-    rt: R,
-    alloc: Global,
-    builder: Builder,
-) -> Result<(usize, usize, bool), X509SourceError> {
-    let mut clock = MemClock::new(vec![in alloc; Some(999)]?);
-    let pause = MemPause::new(alloc, 1)?;
-    let words = StepWords::new(0);
-    let mut places = BoardPlaces::new();
-    let (source, mut pass, handle) = builder.build(
-        rt,
-        alloc,
-        &mut clock,
-        pause,
-        words,
-        &mut InlineSpawner,
-        &mut places,
-    )?;
-    let record = handle.join_record(&mut pass)?;
-    let is_closed = source.state(&mut pass)?.is_closed() && record.end() == SupervisorEnd::Closed;
-    Ok((record.events().len(), record.steps().len(), is_closed))
-}
-
-/// The row inline-record: the job runs at the join, after the source was closed, so its record has
-/// the moment, the client, the connection and the item.
-#[test]
-fn inline_record(rt: HostRuntime) -> Result<(), Fail> {
-    let builder = good(rt.alloc())?;
-    assert!(rt; joined(rt, rt.alloc(), builder) == Ok((4, 1, true)));
     Ok(())
 }
