@@ -1,9 +1,10 @@
 //! Reads and puts that fail.
 
 use super::ROWS;
-use super::running::{run, slow_source, source_of};
+use super::running::{Outcome, run, slow_source, source_of};
 use spf_fixtures::{octets, written_out};
 use std::alloc::Global;
+use std::process::Abort;
 use std::test::Fail;
 
 /// What follows the frame at the start of `octets`, where that is whole.
@@ -38,6 +39,20 @@ fn first_lines(alloc: Global, text: &str, count: usize) -> Result<String, Fail> 
     Ok(lines)
 }
 
+/// Asserts that a run wrote these lines, and then failed with this status and error.
+fn assert_failed(
+    rt: &(impl Abort + AllocGlobal),
+    ran: &Outcome,
+    lines: &str,
+    status: u8,
+    error: &str,
+    at: usize,
+) {
+    assert_eq!(rt; str::from_utf8(ran.out.bytes()), Ok(lines), "at {at}");
+    assert_eq!(rt; ran.status, status, "at {at}");
+    assert_eq!(rt; str::from_utf8(ran.errors.bytes()), Ok(error), "at {at}");
+}
+
 /// Row failing-io: the bytes of row first-session one by one, where each read in turn fails. The
 /// lines of the frames that were whole stand.
 #[test]
@@ -51,15 +66,13 @@ fn failing_reads(rt: HostRuntime) -> Result<(), Fail> {
         let source = slow_source(alloc, octets(alloc, frames)?, failing)?;
         let ran = run(alloc, arguments, source, Vec::new(alloc))?;
         let wanted = first_lines(alloc, lines.as_str(), whole_frames(&session[..taken]))?;
-        assert_eq!(rt;
-            str::from_utf8(ran.out.bytes()),
-            Ok(wanted.as_str()),
-            "after {taken}"
-        );
-        assert_eq!(rt; ran.status, 3, "after {taken}");
-        assert_eq!(rt;
-            ran.errors.bytes(),
-            b"spiffe_watch: read failed\n".as_slice()
+        assert_failed(
+            &rt,
+            &ran,
+            wanted.as_str(),
+            3,
+            "spiffe_watch: read failed\n",
+            taken,
         );
     }
     Ok(())
@@ -75,15 +88,13 @@ fn failing_puts(rt: HostRuntime) -> Result<(), Fail> {
         let source = source_of(alloc, octets(alloc, frames)?);
         let ran = run(alloc, arguments, source, vec![in alloc; put as u64 + 1]?)?;
         let wanted = first_lines(alloc, lines.as_str(), put)?;
-        assert_eq!(rt;
-            str::from_utf8(ran.out.bytes()),
-            Ok(wanted.as_str()),
-            "put {put}"
-        );
-        assert_eq!(rt; ran.status, 4, "put {put}");
-        assert_eq!(rt;
-            ran.errors.bytes(),
-            b"spiffe_watch: write failed\n".as_slice()
+        assert_failed(
+            &rt,
+            &ran,
+            wanted.as_str(),
+            4,
+            "spiffe_watch: write failed\n",
+            put,
         );
     }
     Ok(())
@@ -95,10 +106,6 @@ fn bad_kind_before_a_failing_read(rt: HostRuntime) -> Result<(), Fail> {
     let alloc = rt.alloc();
     let source = slow_source(alloc, octets(alloc, "0a00000000")?, vec![in alloc; 2]?)?;
     let ran = run(alloc, "x509", source, Vec::new(alloc))?;
-    assert_eq!(rt; ran.status, 6);
-    assert_eq!(rt;
-        ran.errors.bytes(),
-        b"spiffe_watch: bad frame 1\n".as_slice()
-    );
+    assert_failed(&rt, &ran, "", 6, "spiffe_watch: bad frame 1\n", 1);
     Ok(())
 }
