@@ -1,2 +1,7 @@
+pub mod Answers
+pub mod Lines
+pub mod Policies
+pub mod Reading
 pub mod Rules
+pub mod Serving
 pub mod Verdicts

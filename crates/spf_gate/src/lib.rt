@@ -1,8 +1,11 @@
 //! Admissions by policy: presented SPIFFE IDs are answered from a live source of X.509 identities.
 #![tactic(auto)]
 
+mod gate_error;
+mod line_reader;
 mod rule;
 mod verdict;
 
+pub use gate_error::GateError;
 pub use rule::{Pattern, Rule, RuleError, parse_rule};
 pub use verdict::{Verdict, decide};

@@ -1,0 +1,2 @@
+mod FirstFeed
+mod Taking
