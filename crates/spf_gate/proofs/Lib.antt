@@ -1,2 +1,3 @@
 mod FirstFeed
+mod PolicyLemmas
 mod Taking

@@ -3,5 +3,4 @@ pub mod Lines
 pub mod Policies
 pub mod Reading
 pub mod Rules
-pub mod Serving
 pub mod Verdicts

@@ -1,6 +1,6 @@
 -- What the lines of an input say: a policy, up to the line `---`, and then asks.
-use Rattle.std.specs.Prelude.{ℕ, ◌+◌, Bool, List, [], ◌∷◌, ◌++◌, length, codes, Option, Result, Ok}
-use Rattle.std.specs.Prelude.{Err, is_ok, if◌then◌else◌}
+use Rattle.std.specs.Prelude.{◌≡◌, ℕ, ◌+◌, Bool, List, [], ◌∷◌, ◌++◌, length, codes, Option, Some}
+use Rattle.std.specs.Prelude.{None, Result, Ok, Err, is_ok, if◌then◌else◌}
 use Rattle.std.specs.Option.{option_to_list}
 use Rattle.std.specs.Str.{bytes_eq}
 use Rattle.spf_io.specs.Rule.{◌>>=◌, broken_as}
@@ -34,6 +34,11 @@ pub record Policy : Type 0 where
 abbrev pub with_rules : List Rule → Policy → Policy
 with_rules rules p = record { rules = rules ++ p.rules; asks = p.asks; first = p.first }
 
+-- the policy of these rules and more
+abbrev pub after_rules : List Rule → Result Policy GateError → Result Policy GateError
+after_rules rules (Ok p) = Ok (with_rules rules p)
+after_rules rules (Err e) = Err e
+
 -- the policy at the start of lines, of which the first has this number, or the first broken rule
 abbrev pub policy_of : ℕ → ℕ → List (List ℕ) → Result Policy GateError
 policy_of max number [] = Err errors.NoPolicyEnd
@@ -42,8 +47,7 @@ policy_of max number (line ∷ lines) =
     >>= λ _.
     if is_policy_end line then Ok (record { rules = []; asks = lines; first = number + 1 })
     else (rule_at number line
-    >>= λ rule. policy_of max (number + 1) lines
-    >>= λ p. Ok (with_rules (option_to_list rule) p))
+    >>= λ rule. after_rules (option_to_list rule) (policy_of max (number + 1) lines))
 
 -- the asks keep the rules of lines, or the first broken rule
 abbrev pub asks_rule : ℕ → ℕ → List (List ℕ) → Result (Unit {0}) GateError
@@ -71,3 +75,18 @@ rules_in (Err e) = []
 abbrev pub asks_in : ℕ → Result Policy GateError → List (List ℕ)
 asks_in max (Ok p) = asks_before max p.first p.asks
 asks_in max (Err e) = []
+
+-- ---- what reading a policy leaves
+
+-- the policy that was read, where the bytes are known, and the lines that are left
+abbrev pub ReadsPolicy : ℕ → ℕ → ℕ → Option (List ℕ) → Option (List ℕ)
+    → Result (List Rule) GateError → Type 0
+ReadsPolicy max before after None new r = Unit {0}
+ReadsPolicy max before after (Some old) None r = ⊥
+ReadsPolicy max before after (Some old) (Some new) (Ok rules) =
+    policy_of max (before + 1) (lines_of old)
+    ≡ Ok (record { rules = rules; asks = lines_of new; first = after + 1 })
+ReadsPolicy max before after (Some old) (Some new) (Err errors.ReadFault) = Unit {0}
+ReadsPolicy max before after (Some old) (Some new) (Err errors.OutOfMemory) = Unit {0}
+ReadsPolicy max before after (Some old) (Some new) (Err e) =
+    policy_of max (before + 1) (lines_of old) ≡ Err e

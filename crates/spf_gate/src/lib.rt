@@ -1,8 +1,10 @@
 //! Admissions by policy: presented SPIFFE IDs are answered from a live source of X.509 identities.
 #![tactic(auto)]
 
+mod answer;
 mod gate_error;
 mod line_reader;
+mod policy;
 mod rule;
 mod verdict;
 

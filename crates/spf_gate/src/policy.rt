@@ -1,23 +1,25 @@
 //! Reading the policy at the start of an input.
 
-ghost use Rattle.std.specs.Prelude.{◌≡◌, ◌+◌, codes};
+ghost use Rattle.std.specs.Prelude.{◌≡◌, ◌≢◌, ◌+◌, ◌++◌, IfErr, OnOk};
+ghost use Rattle.std.specs.Option.{option_to_list};
 ghost use Rattle.std.specs.Io.KnownBytes.{prepend_known};
-ghost use Rattle.std.specs.Str.{bytes_eq};
 ghost use Rattle.spf_io.specs.Rule.{Gives};
+ghost use Rattle.spf_gate.specs.declared.gate_error.GateError.TheVariants as errors;
 ghost use Rattle.spf_gate.specs.Lines.{is_memory_gate};
 ghost use Rattle.spf_gate.specs.Policies as spec;
+ghost use Rattle.spf_gate.specs.Policies.{ReadsPolicy};
 ghost use Rattle.spf_gate.specs.Reading.{ReadHasCause};
-ghost use Rattle.spf_gate.specs.Serving.{ReadsPolicy};
 
 use crate::gate_error::GateError;
 use crate::line_reader::LineReader;
 use crate::rule::{Rule, RuleError, parse_rule};
-use spf_io::Source;
+use spf_io::{List, Source};
 use std::alloc::Global;
 
 /// The rule of a line of this number, if it gives one.
 fn rule_at(alloc: Global, line: &str, number: u64) -> Result<Option<Rule>, GateError>
-    ensures { Gives is_memory_gate (λ rule. rule) result (spec.rule_at number line.now) }
+    ensures rule { Gives is_memory_gate (λ rule. rule) result (spec.rule_at number line.now) }
+    ensures calm { IfErr result (λ e. e ≢ errors.ReadFault) }
 {
     match parse_rule(alloc, line) {
         Ok(rule) => Ok(rule),
@@ -33,12 +35,23 @@ fn is_policy_end(line: &str) -> bool
     line == "---"
 }
 
+/// Adds a rule, where there is one.
+fn keep(rules: &mut Vec<Rule>, rule: Option<Rule>) -> Result<(), GateError>
+    ensures kept { OnOk result (rules.new.items ≡ rules.old.items ++ option_to_list rule) }
+    ensures memory { IfErr result (λ e. e ≡ errors.OutOfMemory) }
+{
+    if let Some(rule) = rule {
+        rules.push(rule)?;
+    }
+    Ok(())
+}
+
 /// The rules of the policy, with which the input begins.
 pub(crate) fn read_policy<S: Source>(
     alloc: Global,
     source: &mut S,
     lines: &mut LineReader,
-) -> Result<Vec<Rule>, GateError>
+) -> Result<List<Rule>, GateError>
     ensures reads { ReadsPolicy lines.old.max lines.old.number lines.new.number
         (prepend_known lines.old.octets.items (S.left source.old))
         (prepend_known lines.new.octets.items (S.left source.new)) result }
@@ -48,17 +61,22 @@ pub(crate) fn read_policy<S: Source>(
     let mut rules = Vec::new(alloc);
     let mut line = String::new(alloc);
     loop {
-        match lines.take_line(source, &mut line) {
-            Ok(true) => {}
-            Ok(false) => return Err(GateError::NoPolicyEnd),
+        let is_line = match lines.take_line(source, &mut line) {
+            Ok(is_line) => is_line,
             Err(e) => return Err(e),
+        };
+        if !is_line {
+            return Err(GateError::NoPolicyEnd);
         }
         if is_policy_end(line.as_str()) {
-            return Ok(rules);
+            return Ok(List::new(rules));
         }
-        match rule_at(alloc, line.as_str(), lines.number()) {
-            Ok(None) => {}
-            Ok(Some(rule)) => rules.push(rule)?,
+        let rule = match rule_at(alloc, line.as_str(), lines.number()) {
+            Ok(rule) => rule,
+            Err(e) => return Err(e),
+        };
+        match keep(&mut rules, rule) {
+            Ok(()) => {}
             Err(e) => return Err(e),
         }
     }
