@@ -1,0 +1,6 @@
+pub mod Entries
+pub mod Found
+pub mod Floats
+pub mod Texts
+pub mod Keys
+pub mod Signature
