@@ -18,7 +18,8 @@ use Rattle.std.specs.String.{string_cmp}
 use Rattle.std.proofs.lemmas.List.{map_push}
 use Rattle.spf_jwt.specs.Authority.{Authority}
 use Rattle.spf_jwt.specs.Bundle.{Bundle, keyed, plain_entry, with_authorities}
-use Rattle.spf_jwt.specs.Entries.{IsInOrder, with_entry, with_entries, find_entry}
+use Rattle.spf_x509.specs.Bundle.{with_entry, with_entries, find_entry}
+use Rattle.spf_jwt.specs.Entries.{IsInOrder}
 
 module _ {K X V : Type 0} (name : K → List ℕ) (value : X → V) where
   abbrev seen : K × X → List ℕ × V

@@ -67,7 +67,9 @@ array_items (Some (boolean b)) items is = absurd (cc)
 array_items (Some (number n)) items is = absurd (cc)
 array_items (Some (string s)) items is = absurd (cc)
 array_items (Some (object ms)) items is = absurd (cc)
-array_items (Some (array ds)) items is = let same : ds ≡ items = cc in ap (λ xs. Some (array xs)) same
+array_items (Some (array ds)) items is =
+    let same : ds ≡ items = cc in
+    ap (λ xs. Some (array xs)) same
 
 -- an array in an object of whole numbers
 pub whole_items : (k : List ℕ) (d : Data) (items : Items) → has_float d ≡ false

@@ -1,5 +1,4 @@
 pub mod Entries
-pub mod Found
 pub mod Floats
 pub mod Texts
 pub mod Keys

@@ -8,8 +8,8 @@ use Rattle.std.proofs.lemmas.List.Splits.{slice_split_first, slice_split_none}
 use Rattle.std.proofs.lemmas.List.Sums.{split_at_first, passes_at_first, prefix_len-le-length}
 use Rattle.std.proofs.lemmas.List.Sums.{fails_before_first}
 use Rattle.std.proofs.lemmas.Bool.{eqb-true}
-use Rattle.spf_jwt.specs.declared.svid_error.JwtSvidError.{JwtSvidError}
-use Rattle.spf_jwt.specs.declared.svid_error.JwtSvidError.TheVariants.{Parts}
+use Rattle.spf_api.specs.declared.jwt_error.JwtSvidError.{JwtSvidError}
+use Rattle.spf_api.specs.declared.jwt_error.JwtSvidError.TheVariants.{Parts}
 use Rattle.spf_jwt.specs.Token.{is_full_stop, is_base64url_octet, is_signature}
 use Rattle.spf_jwt.specs.Token.{parts_rule}
 

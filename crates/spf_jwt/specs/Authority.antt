@@ -5,9 +5,9 @@ use Rattle.serde_json.specs.Data.{Data, Items}
 use Rattle.serde_json.specs.Find.{get, as_str, as_array, as_object}
 use Rattle.serde_json.specs.Written.{compact_text}
 use Rattle.spf_io.specs.Rule.{◌>>=◌, each}
-use Rattle.spf_jwt.specs.declared.error.JwtBundleError.{JwtBundleError}
-use Rattle.spf_jwt.specs.declared.error.JwtBundleError.TheVariants.{MissingKeys, NotAnObject}
-use Rattle.spf_jwt.specs.declared.error.JwtBundleError.TheVariants.{MissingKeyId}
+use Rattle.spf_api.specs.declared.jwt_error.JwtBundleError.{JwtBundleError}
+use Rattle.spf_api.specs.declared.jwt_error.JwtBundleError.TheVariants.{MissingKeys, NotAnObject}
+use Rattle.spf_api.specs.declared.jwt_error.JwtBundleError.TheVariants.{MissingKeyId}
 use Rattle.spf_jwt.specs.Json.{data_of, list_of, whole_rule}
 
 -- a key: its `kid`, and its JSON text without spaces, with the names of each object in order

@@ -1,13 +1,15 @@
--- The keys of a trust domain, and the bundles of several (SPIFFE Trust Domain and Bundle section 4).
-use Rattle.std.specs.Prelude.{ℕ, map, Bool, ◌&&◌, nat_eq, List, [], Result, Ok, String, string_bytes}
+-- The keys of a trust domain, and the bundles of
+-- several (SPIFFE Trust Domain and Bundle section 4).
+use Rattle.std.specs.Prelude.{ℕ, map, Bool, ◌&&◌, nat_eq, List, [], Result, Ok, String}
+use Rattle.std.specs.Prelude.{string_bytes}
 use Rattle.std.specs.Cmp.Lexicographic.{pointwise}
 use Rattle.std.specs.Arc.{arc_value}
 use Rattle.std.specs.declared.sync.Arc.{Arc}
 use Rattle.std.specs.declared.alloc.Global.{Global}
 use Rattle.spf_io.specs.Rule.{◌>>=◌}
-use Rattle.spf_jwt.specs.declared.error.JwtBundleError.{JwtBundleError}
+use Rattle.spf_api.specs.declared.jwt_error.JwtBundleError.{JwtBundleError}
 use Rattle.spf_jwt.specs.Authority.{Authority}
-use Rattle.spf_jwt.specs.Entries.{with_entries}
+use Rattle.spf_x509.specs.Bundle.{with_entries}
 
 -- a trust domain and its keys, each with its `kid`, in the order of the `kid`
 pub record Bundle : Type 0 where

@@ -1,12 +1,12 @@
 -- How errors are told apart: whether memory ran out, and what the kind of a JSON fault leaves open.
 use Rattle.std.specs.Prelude.{Bool, true, false}
-use Rattle.spf_jwt.specs.declared.error.JsonError.TheVariants.{Syntax}
-use Rattle.spf_jwt.specs.declared.error.JwtBundleError.{JwtBundleError}
-use Rattle.spf_jwt.specs.declared.error.JwtBundleError.TheVariants as keys
+use Rattle.spf_api.specs.declared.jwt_error.JsonErrorKind.TheVariants.{Syntax}
+use Rattle.spf_api.specs.declared.jwt_error.JwtBundleError.{JwtBundleError}
+use Rattle.spf_api.specs.declared.jwt_error.JwtBundleError.TheVariants as keys
 use Rattle.spf_id.specs.declared.error.SpiffeIdError.{SpiffeIdError}
 use Rattle.spf_id.specs.declared.error.SpiffeIdError.TheVariants as id
-use Rattle.spf_jwt.specs.declared.svid_error.JwtSvidError.{JwtSvidError}
-use Rattle.spf_jwt.specs.declared.svid_error.JwtSvidError.TheVariants as token
+use Rattle.spf_api.specs.declared.jwt_error.JwtSvidError.{JwtSvidError}
+use Rattle.spf_api.specs.declared.jwt_error.JwtSvidError.TheVariants as token
 use Rattle.spf_jwt.specs.declared.token.PartFault.{PartFault}
 use Rattle.spf_jwt.specs.declared.token.PartFault.TheVariants as part
 use Rattle.spf_jwt.specs.declared.json.JsonFault.{JsonFault}
@@ -23,7 +23,7 @@ is_memory_keys _ = false
 
 -- the same error; a text that is no JSON is said to be so, whatever `serde_json` says beside it
 abbrev pub of_any_kind : JwtBundleError → JwtBundleError
-of_any_kind (keys.Json kind) = keys.Json Syntax
+of_any_kind (keys.Json kind) = keys.Json (record { kind = Syntax })
 of_any_kind e = e
 
 abbrev pub is_memory_part : PartFault → Bool

@@ -15,11 +15,11 @@ use Rattle.spf_io.specs.Rule.{◌>>=◌, broken_as, each}
 use Rattle.spf_id.specs.Id.{Id}
 use Rattle.spf_id.specs.Rule.{id_rule}
 use Rattle.spf_id.specs.declared.error.SpiffeIdError.TheVariants.{WrongScheme}
-use Rattle.spf_jwt.specs.declared.svid_error.JwtSvidError.{JwtSvidError}
-use Rattle.spf_jwt.specs.declared.svid_error.JwtSvidError.TheVariants.{Parts, UnsupportedAlg}
-use Rattle.spf_jwt.specs.declared.svid_error.JwtSvidError.TheVariants.{InvalidTyp, InvalidKid}
-use Rattle.spf_jwt.specs.declared.svid_error.JwtSvidError.TheVariants.{MissingClaim, InvalidSub}
-use Rattle.spf_jwt.specs.declared.svid_error.JwtSvidError.TheVariants.{InvalidAud, InvalidExp}
+use Rattle.spf_api.specs.declared.jwt_error.JwtSvidError.{JwtSvidError}
+use Rattle.spf_api.specs.declared.jwt_error.JwtSvidError.TheVariants.{Parts, UnsupportedAlg}
+use Rattle.spf_api.specs.declared.jwt_error.JwtSvidError.TheVariants.{InvalidTyp, InvalidKid}
+use Rattle.spf_api.specs.declared.jwt_error.JwtSvidError.TheVariants.{MissingClaim, InvalidSub}
+use Rattle.spf_api.specs.declared.jwt_error.JwtSvidError.TheVariants.{InvalidAud, InvalidExp}
 use Rattle.spf_jwt.specs.declared.token.PartFault.{PartFault}
 use Rattle.spf_jwt.specs.declared.token.PartFault.TheVariants.{NoObject, HoldsFloat}
 use Rattle.spf_jwt.specs.Errors.{sub_of, header_of, claims_of}

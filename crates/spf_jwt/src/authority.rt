@@ -8,9 +8,9 @@ ghost use Rattle.spf_jwt.specs.Authority.{authority_of, key_rule};
 ghost use Rattle.spf_jwt.specs.Errors.{is_memory_keys, of_any_kind};
 ghost use Rattle.spf_jwt.specs.Json.{data_of, whole_rule};
 
-use crate::error::JwtBundleError;
 use crate::json::{self, JsonFault};
 use serde_json::Value;
+use spf_api::{JsonError, JwtBundleError};
 use spf_io::{OutOfMemory, Text};
 use std::alloc::Global;
 use std::marker::Model;
@@ -40,7 +40,9 @@ pub(crate) fn whole_value(alloc: Global, jwk: &[u8]) -> Result<Value, JwtBundleE
 {
     let value = match json::read(alloc, jwk) {
         Ok(value) => value,
-        Err(JsonFault::Invalid(kind)) => return Err(JwtBundleError::Json(kind)),
+        Err(JsonFault::Invalid(kind)) => {
+            return Err(JwtBundleError::Json(JsonError::new(kind)));
+        }
         Err(JsonFault::OutOfMemory) => return Err(JwtBundleError::OutOfMemory),
     };
     if json::holds_float(&value) {

@@ -8,12 +8,13 @@ ghost use Rattle.serde_json.specs.Written.{has_float, items_have_float};
 ghost use Rattle.spf_io.specs.Rule.{Gives, broken_as, each};
 ghost use Rattle.spf_jwt.specs.Authority.{key_rule, key_set_of, keys_rule};
 ghost use Rattle.spf_jwt.specs.Bundle.{bundle_of, with_authorities};
-ghost use Rattle.spf_jwt.specs.Entries.{IsInOrder, KeepsOthers, find_entry, with_entry};
+ghost use Rattle.spf_x509.specs.Bundle.{find_entry, with_entry};
+ghost use Rattle.spf_jwt.specs.Entries.{IsInOrder, KeepsOthers};
 ghost use Rattle.spf_jwt.specs.Errors.{is_memory_keys, of_any_kind};
 
 use crate::authority::{JwtAuthority, whole_value};
-use crate::error::JwtBundleError;
 use serde_json::Value;
+use spf_api::JwtBundleError;
 use spf_id::TrustDomain;
 use spf_io::OutOfMemory;
 use std::alloc::Global;

@@ -3,7 +3,8 @@
 ghost use Rattle.std.specs.Prelude.{◌≡◌, ◌==◌, [], IfOk, Some, OnErr, OnOk, length};
 ghost use Rattle.std.specs.Option.{option_map};
 ghost use Rattle.std.specs.Arc.{arc_value};
-ghost use Rattle.spf_jwt.specs.Entries.{IsInOrder, KeepsOthers, find_entry, with_entry};
+ghost use Rattle.spf_x509.specs.Bundle.{find_entry, with_entry};
+ghost use Rattle.spf_jwt.specs.Entries.{IsInOrder, KeepsOthers};
 
 use crate::bundle::JwtBundle;
 use spf_id::TrustDomain;

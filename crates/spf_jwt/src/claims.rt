@@ -9,8 +9,8 @@ ghost use Rattle.spf_jwt.specs.Json.{list_of};
 ghost use Rattle.spf_jwt.specs.Token.{alg_rule, aud_rule, exp_rule, header_rule, is_algorithm};
 ghost use Rattle.spf_jwt.specs.Token.{kid_rule, sub_rule, text_rule, texts_rule, typ_rule};
 
-use crate::svid_error::JwtSvidError;
 use serde_json::Value;
+use spf_api::JwtSvidError;
 use spf_id::{SpiffeId, SpiffeIdError};
 use spf_io::{List, OutOfMemory, Text};
 use std::alloc::Global;
@@ -47,7 +47,8 @@ fn check_type(header: &Value) -> Result<(), JwtSvidError>
 }
 
 fn key_id(alloc: Global, header: &Value) -> Result<Option<Text>, JwtSvidError>
-    ensures { Gives is_memory_token (λ k. k) result (kid_rule (get (codes "kid") (view header.now))) }
+    ensures { Gives is_memory_token (λ k. k) result
+        (kid_rule (get (codes "kid") (view header.now))) }
 {
     let Some(kid) = header.get("kid") else {
         return Ok(None);
@@ -78,7 +79,11 @@ pub(crate) fn subject(alloc: Global, claims: &Value) -> Result<SpiffeId, JwtSvid
     };
     match sub.as_str() {
         None => Err(JwtSvidError::InvalidSub(SpiffeIdError::WrongScheme)),
-        Some(sub) => Ok(SpiffeId::new(alloc, sub)?),
+        Some(sub) => match SpiffeId::new(alloc, sub) {
+            Ok(id) => Ok(id),
+            Err(SpiffeIdError::OutOfMemory) => Err(JwtSvidError::OutOfMemory),
+            Err(error) => Err(JwtSvidError::InvalidSub(error)),
+        },
     }
 }
 

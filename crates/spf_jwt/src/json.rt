@@ -8,15 +8,15 @@ ghost use Rattle.serde_json.specs.Written.{has_float, items_have_float, members_
 ghost use Rattle.spf_jwt.specs.Json.{data_of};
 ghost use Rattle.spf_jwt.specs.Errors.{is_memory_json};
 
-use crate::error::JsonError;
 use serde_json::{Category, Error, Map, Value};
+use spf_api::JsonErrorKind;
 use std::alloc::Global;
 use std::str;
 
 /// Why no value was read.
 #[derive(Clone, Copy, Debug, PartialEq, Eq)]
 pub(crate) enum JsonFault {
-    Invalid(JsonError),
+    Invalid(JsonErrorKind),
     OutOfMemory,
 }
 
@@ -25,8 +25,8 @@ fn fault_of(error: &Error) -> JsonFault
 {
     match error.classify() {
         Category::Memory => JsonFault::OutOfMemory,
-        Category::Eof => JsonFault::Invalid(JsonError::Eof),
-        _ => JsonFault::Invalid(JsonError::Syntax),
+        Category::Eof => JsonFault::Invalid(JsonErrorKind::Eof),
+        _ => JsonFault::Invalid(JsonErrorKind::Syntax),
     }
 }
 
@@ -36,7 +36,7 @@ pub(crate) fn read(alloc: Global, bytes: &[u8]) -> Result<Value, JsonFault>
         (λ e. MatchBool (is_memory_json e) (Unit {0}) (data_of bytes.now ≡ None)) }
 {
     let Ok(text) = str::from_utf8(bytes) else {
-        return Err(JsonFault::Invalid(JsonError::Syntax));
+        return Err(JsonFault::Invalid(JsonErrorKind::Syntax));
     };
     match Value::from_str(alloc, text) {
         Ok(value) => Ok(value),

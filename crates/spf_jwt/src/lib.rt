@@ -6,15 +6,11 @@ mod authority;
 mod bundle;
 mod bundle_set;
 mod claims;
-mod error;
 mod json;
 mod svid;
-mod svid_error;
 mod token;
 
 pub use authority::JwtAuthority;
 pub use bundle::{JwtAuthorityIter, JwtBundle};
 pub use bundle_set::{JwtBundleIter, JwtBundleSet};
-pub use error::{JsonError, JwtBundleError};
 pub use svid::JwtSvid;
-pub use svid_error::JwtSvidError;

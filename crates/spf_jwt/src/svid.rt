@@ -8,9 +8,9 @@ ghost use Rattle.spf_jwt.specs.Errors.{claims_of, header_of, is_memory_token};
 ghost use Rattle.spf_jwt.specs.Token.{claims_rule, header_key_rule, part_rule, token_rule};
 
 use crate::claims::{audience, expiry, header_key_id, subject};
-use crate::svid_error::JwtSvidError;
 use crate::token::{self, PartFault};
 use serde_json::Value;
+use spf_api::JwtSvidError;
 use spf_id::SpiffeId;
 use spf_io::{List, OutOfMemory, Text};
 use std::alloc::Global;
@@ -82,6 +82,25 @@ fn named_key(alloc: Global, part: &str) -> Result<Option<Text>, JwtSvidError>
     header_key_id(alloc, &header)
 }
 
+fn copy(alloc: Global, text: &Option<Text>) -> Result<Option<Text>, OutOfMemory>
+    ensures { IfOk result (λ t. t ≡ text.now) }
+{
+    match text {
+        None => Ok(None),
+        Some(text) => Ok(Some(text.try_clone(alloc)?)),
+    }
+}
+
+fn copies(alloc: Global, texts: &[Text]) -> Result<List<Text>, OutOfMemory>
+    ensures { IfOk result (λ l. l ≡ texts.now) }
+{
+    let mut copies = Vec::with_capacity(alloc, texts.len())?;
+    for text in texts {
+        copies.push(text.try_clone(alloc)?)?;
+    }
+    Ok(List::new(copies))
+}
+
 impl JwtSvid {
     /// What a token says, or the first broken rule. Its signature is not checked.
     #[tactic(auto, unfolding(crate::specs::Token::token_rule))]
@@ -139,6 +158,20 @@ impl JwtSvid {
             hint: Some(hint),
             ..self
         }
+    }
+
+    /// A copy of the SVID.
+    pub fn try_clone(&self, alloc: Global) -> Result<JwtSvid, OutOfMemory>
+        ensures { IfOk result (λ s. s ≡ self.now) }
+    {
+        Ok(JwtSvid {
+            spiffe_id: self.spiffe_id.try_clone(alloc)?,
+            audience: copies(alloc, self.audience.as_slice())?,
+            expiry: self.expiry,
+            token: self.token.try_clone(alloc)?,
+            key_id: copy(alloc, &self.key_id)?,
+            hint: copy(alloc, &self.hint)?,
+        })
     }
 
     pub fn spiffe_id(&self) -> &SpiffeId

@@ -14,10 +14,10 @@ ghost use Rattle.spf_jwt.specs.Token.{is_base64url_octet, is_full_stop, is_signa
 ghost use Rattle.spf_jwt.specs.Token.{parts_rule};
 
 use crate::json::{self, JsonFault};
-use crate::svid_error::JwtSvidError;
 use base64::DecodeAllocError;
 use base64::engine::general_purpose::URL_SAFE_NO_PAD;
 use serde_json::Value;
+use spf_api::JwtSvidError;
 use std::alloc::Global;
 
 /// Why a part of a token is refused.

@@ -1,6 +1,6 @@
 use Rattle.std.proofs.Common.{◌≡◌, ◌++◌, ◌∷◌, [], ap, sym, ◌∙◌, append_assoc, arith}
 use Rattle.spf_jwt.specs.Bundle.{Bundle}
-use Rattle.spf_jwt.specs.Entries.{with_entry}
+use Rattle.spf_x509.specs.Bundle.{with_entry}
 use Rattle.spf_jwt.proofs.Entries.{one_more_key}
 use Rattle.spf_jwt.proofs.bundle.JwtBundle.add_all.Goals as goal
 

@@ -1,7 +1,7 @@
 use Rattle.std.proofs.Common.{map, ap, ◌∙◌}
 use Rattle.spf_jwt.specs.Bundle.{keyed}
 use Rattle.spf_jwt.proofs.Entries.{insert_keyed}
-use Rattle.spf_jwt.proofs.Found.{found_there, others_stay}
+use Rattle.spf_x509.proofs.Found.{found_there, others_stay}
 use Rattle.spf_jwt.proofs.bundle.JwtBundle.add_jwt_authority.Goals as goal
 
 pub returns-clause-ok : goal.returns-clause-ok

@@ -1,7 +1,7 @@
 use Rattle.std.proofs.Common.{string_bytes, ap, ◌∙◌}
 use Rattle.spf_jwt.specs.Authority.{Authority}
 use Rattle.spf_jwt.specs.Bundle.{Bundle}
-use Rattle.spf_jwt.specs.Entries.{find_entry}
+use Rattle.spf_x509.specs.Bundle.{find_entry}
 use Rattle.spf_jwt.proofs.Entries.{lookup_seen, seen_ref}
 use Rattle.spf_jwt.proofs.bundle.JwtBundle.find_jwt_authority.Goals as goal
 

@@ -1,9 +1,9 @@
 use Rattle.std.proofs.Common.{◌≡◌, ◌∙◌, ap, map}
 use Rattle.std.specs.Arc.{arc_value}
 use Rattle.spf_jwt.specs.Bundle.{Bundle, plain_entry}
-use Rattle.spf_jwt.specs.Entries.{with_entry}
+use Rattle.spf_x509.specs.Bundle.{with_entry}
 use Rattle.spf_jwt.proofs.Entries.{insert_plain}
-use Rattle.spf_jwt.proofs.Found.{found_there, others_stay}
+use Rattle.spf_x509.proofs.Found.{found_there, others_stay}
 use Rattle.spf_jwt.proofs.bundle_set.JwtBundleSet.add_shared.Goals as goal
 
 pub returns-clause-ok : goal.returns-clause-ok
