@@ -16,6 +16,7 @@ use Rattle.std.specs.List.{AllByRecursion}
 use Rattle.std.specs.List.Sorted.{IsStrictlySortedBy}
 use Rattle.std.specs.String.{string_cmp}
 use Rattle.std.proofs.lemmas.List.{map_push}
+use Rattle.spf_jwt.specs.Responses.{with_bundles}
 use Rattle.spf_jwt.specs.Authority.{Authority}
 use Rattle.spf_jwt.specs.Bundle.{Bundle, keyed, plain_entry, with_authorities}
 use Rattle.spf_x509.specs.Bundle.{with_entry, with_entries, find_entry}
@@ -123,3 +124,10 @@ pub plain_keys : (es : List (List ℕ × Arc Bundle Global))
     → keys_of es ≡ keys_of (map plain_entry es)
 plain_keys [] = refl
 plain_keys (e ∷ es) = ap (λ (ks : List (List ℕ)). e.0 ∷ ks) (plain_keys es)
+
+-- one more bundle is added
+pub one_more_bundle : (set : List (List ℕ × Bundle)) (bundles : List Bundle) (b : Bundle)
+    → with_bundles set (bundles ++ b ∷ []) ≡ with_entry (with_bundles set bundles) b.domain b
+one_more_bundle set bundles b =
+    ap (with_entries set) (map_push (λ (x : Bundle). (x.domain, x)) bundles b)
+    ∙ one_more set (map (λ (x : Bundle). (x.domain, x)) bundles) (b.domain, b)

@@ -3,3 +3,6 @@ pub mod Floats
 pub mod Texts
 pub mod Keys
 pub mod Signature
+pub mod Kept
+pub mod Octets
+pub mod Required

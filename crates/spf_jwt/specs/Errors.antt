@@ -7,6 +7,8 @@ use Rattle.spf_id.specs.declared.error.SpiffeIdError.{SpiffeIdError}
 use Rattle.spf_id.specs.declared.error.SpiffeIdError.TheVariants as id
 use Rattle.spf_api.specs.declared.jwt_error.JwtSvidError.{JwtSvidError}
 use Rattle.spf_api.specs.declared.jwt_error.JwtSvidError.TheVariants as token
+use Rattle.spf_api.specs.declared.error.WorkloadApiError.{WorkloadApiError}
+use Rattle.spf_api.specs.declared.error.WorkloadApiError.TheVariants as api
 use Rattle.spf_jwt.specs.declared.token.PartFault.{PartFault}
 use Rattle.spf_jwt.specs.declared.token.PartFault.TheVariants as part
 use Rattle.spf_jwt.specs.declared.json.JsonFault.{JsonFault}
@@ -49,3 +51,8 @@ abbrev pub claims_of : PartFault → JwtSvidError
 claims_of part.NoObject = token.ClaimsText
 claims_of part.HoldsFloat = token.ClaimsFloat
 claims_of part.OutOfMemory = token.OutOfMemory
+
+-- the same with an error of a key set inside
+abbrev pub api_of_any_kind : WorkloadApiError → WorkloadApiError
+api_of_any_kind (api.JwtBundle e) = api.JwtBundle (of_any_kind e)
+api_of_any_kind e = e

@@ -5,3 +5,5 @@ pub mod Entries
 pub mod Bundle
 pub mod Laws
 pub mod Token
+pub mod Limits
+pub mod Responses

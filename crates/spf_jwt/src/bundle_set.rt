@@ -4,11 +4,13 @@ ghost use Rattle.std.specs.Prelude.{◌≡◌, ◌==◌, [], IfOk, Some, OnErr, 
 ghost use Rattle.std.specs.Option.{option_map};
 ghost use Rattle.std.specs.Arc.{arc_value};
 ghost use Rattle.spf_x509.specs.Bundle.{find_entry, with_entry};
+ghost use Rattle.spf_jwt.specs.Responses.{with_bundles};
 ghost use Rattle.spf_jwt.specs.Entries.{IsInOrder, KeepsOthers};
 
 use crate::bundle::JwtBundle;
 use spf_id::TrustDomain;
 use spf_io::OutOfMemory;
+use spf_x509::BundleSource;
 use std::alloc::Global;
 use std::collections::{BTreeMap, btree_map};
 use std::marker::Model;
@@ -66,6 +68,16 @@ impl JwtBundleSet {
         Ok(())
     }
 
+    /// Adds each bundle in order.
+    pub(crate) fn extend(&mut self, bundles: Vec<JwtBundle>) -> Result<(), OutOfMemory>
+        ensures ok { OnOk result (self.new ≡ with_bundles self.old bundles.items) }
+    {
+        for bundle in bundles {
+            self.add_bundle(bundle)?;
+        }
+        Ok(())
+    }
+
     /// A share of the bundle of that trust domain.
     pub fn get(&self, trust_domain: &TrustDomain) -> Result<Option<Arc<JwtBundle>>, OutOfMemory>
         ensures { IfOk result (λ o. option_map arc_value o ≡ find_entry trust_domain.now self.now) }
@@ -102,6 +114,26 @@ impl JwtBundleSet {
         ensures { result ≡ (length self.now == 0) }
     {
         self.len() == 0
+    }
+}
+
+impl BundleSource for JwtBundleSet {
+    type Item = JwtBundle;
+
+    type Error = OutOfMemory;
+
+    type Seen = ();
+
+    ghost fits = { λ _ _. Unit {0} };
+
+    ghost answers = { λ set _ domain bundle. bundle ≡ find_entry domain set };
+
+    fn bundle_for_trust_domain(
+        &self,
+        _seen: &mut (),
+        trust_domain: &TrustDomain,
+    ) -> Result<Option<Arc<JwtBundle>>, OutOfMemory> {
+        self.get(trust_domain)
     }
 }
 

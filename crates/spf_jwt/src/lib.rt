@@ -7,10 +7,14 @@ mod bundle;
 mod bundle_set;
 mod claims;
 mod json;
+mod limits;
+mod responses;
 mod svid;
 mod token;
 
 pub use authority::JwtAuthority;
 pub use bundle::{JwtAuthorityIter, JwtBundle};
 pub use bundle_set::{JwtBundleIter, JwtBundleSet};
+pub use limits::{JwtLimitBroken, JwtLimitKind, JwtResourceLimits, validate_jwt_limits};
+pub use responses::{jwt_bundle_set_from, jwt_svids_from};
 pub use svid::JwtSvid;

@@ -154,10 +154,14 @@ impl JwtSvid {
     pub fn with_hint(self, hint: Text) -> JwtSvid
         ensures { result ≡ record self { hint = Some hint } }
     {
-        JwtSvid {
-            hint: Some(hint),
-            ..self
-        }
+        self.hinted(Some(hint))
+    }
+
+    /// The same SVID with that hint, or with none.
+    pub(crate) fn hinted(self, hint: Option<Text>) -> JwtSvid
+        ensures { result ≡ record self { hint = hint } }
+    {
+        JwtSvid { hint, ..self }
     }
 
     /// A copy of the SVID.
