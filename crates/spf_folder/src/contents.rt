@@ -68,8 +68,8 @@ fn read_once(rt: &HostRuntime, folder: &str) -> Result<Contents, FolderFault> {
     })
 }
 
-/// What the files hold at one moment: two readings, one after the other, that give the same. Another
-/// program may write the files meanwhile.
+/// What the files hold at one moment: two readings, one after the other, that give the same.
+/// Another program may write the files meanwhile.
 pub(crate) fn read_at_rest(rt: &HostRuntime, folder: &str) -> Result<Contents, FolderFault> {
     let _directory = File::open(rt, folder)?;
     let mut before = read_once(rt, folder)?;

@@ -1,5 +1,5 @@
-//! `spf_helper_watch` follows a stream of SPIFFE Workload API updates, and keeps the latest identity
-//! in a folder.
+//! `spf_helper_watch` follows a stream of SPIFFE Workload API updates, and
+//! keeps the latest identity in a folder.
 #![tactic(auto)]
 
 mod help;
