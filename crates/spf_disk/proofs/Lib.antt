@@ -6,3 +6,4 @@ pub mod MemoryLemmas
 pub mod Moments
 pub mod Octets
 pub mod Opens
+pub mod Taken

@@ -33,9 +33,11 @@ torn_file untouched end Gates files state one c left =
     let seen = bytes_left files.gates in
     record {
       stays = λ i octet outside each. torn.stays i octet outside (λ b out.
-          each (record c { gates = b }) (record { gates = out; first = left.first; second = left.second }));
+          each (record c { gates = b })
+          (record { gates = out; first = left.first; second = left.second }));
       no_longer = λ size each. torn.no_longer size (λ b out.
-          each (record c { gates = b }) (record { gates = out; first = left.first; second = left.second }));
+          each (record c { gates = b })
+          (record { gates = out; first = left.first; second = left.second }));
       others = (
         record c { gates = files.gates.bytes },
         record { gates = seen; first = left.first; second = left.second },
@@ -47,9 +49,11 @@ torn_file untouched end First files state one c left =
     let seen = bytes_left files.first in
     record {
       stays = λ i octet outside each. torn.stays i octet outside (λ b out.
-          each (record c { first = b }) (record { gates = left.gates; first = out; second = left.second }));
+          each (record c { first = b })
+          (record { gates = left.gates; first = out; second = left.second }));
       no_longer = λ size each. torn.no_longer size (λ b out.
-          each (record c { first = b }) (record { gates = left.gates; first = out; second = left.second }));
+          each (record c { first = b })
+          (record { gates = left.gates; first = out; second = left.second }));
       others = (
         record c { first = files.first.bytes },
         record { gates = left.gates; first = seen; second = left.second },
@@ -61,9 +65,11 @@ torn_file untouched end Second files state one c left =
     let seen = bytes_left files.second in
     record {
       stays = λ i octet outside each. torn.stays i octet outside (λ b out.
-          each (record c { second = b }) (record { gates = left.gates; first = left.first; second = out }));
+          each (record c { second = b })
+          (record { gates = left.gates; first = left.first; second = out }));
       no_longer = λ size each. torn.no_longer size (λ b out.
-          each (record c { second = b }) (record { gates = left.gates; first = left.first; second = out }));
+          each (record c { second = b })
+          (record { gates = left.gates; first = left.first; second = out }));
       others = (
         record c { second = files.second.bytes },
         record { gates = left.gates; first = left.first; second = seen },
@@ -79,8 +85,10 @@ pub write_torn : (at : ℕ) (piece : List ℕ) (f state : FileState) → at ≤ 
 write_torn at piece f state le written unsettled c left = record {
   stays = λ i octet outside each. file_stays f state i octet c
       (λ settled inside. (
-        unsettled.still i (omega (arith, slice_get_within f.settled i true settled)) settled outside,
-        ap (λ (l : List ℕ). slice_get l i) written ∙ written_outside at piece f.bytes i le outside inside,
+        unsettled.still i (omega (arith, slice_get_within f.settled i true settled)) settled
+            outside,
+        ap (λ (l : List ℕ). slice_get l i) written
+            ∙ written_outside at piece f.bytes i le outside inside,
       )) left each;
   no_longer = λ size each. file_no_longer f state (at + length piece) size c
       (omega (
@@ -187,8 +195,8 @@ elapses_pushed past later old new is =
     subst (λ (l : List MemFiles). Elapses (length past) (length l) (LeftSince past old)
     (LeftSince l new) (IsLeft new)) (sym is) (record {
       later = omega (arith, length-append past (old ∷ []));
-      nothing_else = λ t c le left. ⊎_elim (λ now. inr now) (λ was. inl (⊎_elim (λ w. inr w) (λ l. inl l)
-          (was_split (drop t past) old c
+      nothing_else = λ t c le left. ⊎_elim (λ now. inr now)
+          (λ was. inl (⊎_elim (λ w. inr w) (λ l. inl l) (was_split (drop t past) old c
           (subst (λ (l : List MemFiles). WasLeft l c) (drop_pushed t past old le) was)))) left;
       keeps = λ t c le left. inr (subst (λ (l : List MemFiles). WasLeft l c)
           (sym (drop_pushed t past old le))
@@ -276,7 +284,8 @@ torn_along untouched end file start before after last begins ends torn c left =
 settled_outcome : (f : FileState) (c : List ℕ)
     → f.settled ≡ replicate (length f.bytes) true → IsOutcome f c → c ≡ f.bytes
 settled_outcome f c all left = synced_outcome f c
-    (subst (λ (g : FileState). IsOutcome g c) (λ i. record { bytes = f.bytes; settled = all i }) left)
+    (subst (λ (g : FileState). IsOutcome g c) (λ i. record { bytes = f.bytes; settled = all i })
+    left)
 
 pub all_durable : (files : MemFiles) (c : Image)
     → files.gates.settled ≡ replicate (length files.gates.bytes) true

@@ -25,11 +25,13 @@ changed_at i octet [] = []
 changed_at zero octet (b ∷ bytes) = octet ∷ bytes
 changed_at (suc i) octet (b ∷ bytes) = b ∷ changed_at i octet bytes
 
-length-changed_at : (i octet : ℕ) (bytes : List ℕ) → length (changed_at i octet bytes) ≡ length bytes
+length-changed_at : (i octet : ℕ) (bytes : List ℕ)
+    → length (changed_at i octet bytes) ≡ length bytes
 unfolding changed_at
 length-changed_at i octet [] = refl
 length-changed_at zero octet (b ∷ bytes) = refl
-length-changed_at (suc i) octet (b ∷ bytes) = ap (λ (n : ℕ). suc n) (length-changed_at i octet bytes)
+length-changed_at (suc i) octet (b ∷ bytes) =
+    ap (λ (n : ℕ). suc n) (length-changed_at i octet bytes)
 
 changed_here : (i octet : ℕ) (bytes : List ℕ) → i < length bytes
     → slice_get (changed_at i octet bytes) i ≡ Some octet

@@ -30,7 +30,8 @@ torn_other slot.First m c old room only torn = ⊎_elim
     let short : length c.gates ≤ 1 = omega (
       arith,
       torn.no_longer 1 (λ d left.
-          let same : length d.gates ≡ length m.gates = ap (λ (e : Image). length e.gates) (only d left) in
+          let same : length d.gates ≡ length m.gates =
+          ap (λ (e : Image). length e.gates) (only d left) in
           omega (arith, past, same)),
     ) in
     slice_get_past c.gates 1 short ∙ sym (slice_get_past m.gates 1 past))

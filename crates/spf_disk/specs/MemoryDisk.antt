@@ -1,7 +1,8 @@
 -- A disk in memory: its files now, and as they were before each change.
-use Rattle.std.specs.Prelude.{◌≡◌, ℕ, ◌⊎◌, List, [], ◌∷◌, ◌++◌, length, drop, refl}
+use Rattle.std.specs.Prelude.{◌≡◌, ℕ, ◌⊎◌, List, [], ◌∷◌, ◌++◌, length, map, drop, refl}
 use Rattle.std.proofs.Common.{arith}
 use mathlib.Core.Logic.{inl, inr}
+use Rattle.std.specs.declared.snapshot.Snapshot.{Snapshot}
 use Rattle.spf_disk.specs.declared.disk.HelperFile.{HelperFile}
 use Rattle.spf_disk.specs.declared.disk.HelperFile.TheVariants.{Gates, First, Second}
 use Rattle.spf_disk.specs.declared.mem_disk.MemFiles.{MemFiles}
@@ -26,9 +27,9 @@ image_of files = record {
   second = files.second.bytes;
 }
 
--- one more state is kept
-abbrev pub Pushed : List MemFiles → MemFiles → List MemFiles → Type 0
-Pushed past files later = later ≡ past ++ files ∷ []
+-- what the files were, before each change
+abbrev pub moments : List (Snapshot MemFiles) → List MemFiles
+moments past = map (λ s. s.value) past
 
 -- a crash may leave this of the files
 pub record IsLeft (files : MemFiles) (c : Image) : Type 0 where

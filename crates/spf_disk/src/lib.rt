@@ -4,6 +4,7 @@
 
 mod disk;
 mod generation;
+pub mod laws;
 mod mem_disk;
 mod mem_file;
 mod open_error;

@@ -7,12 +7,13 @@ ghost use Rattle.spf_disk.specs.Crash.{Only, Elapses, NoMore, IsSynced, TornByWr
 ghost use Rattle.spf_disk.specs.Image.{Image, IsRead, OnFile, Written, Kept, bytes_of};
 ghost use Rattle.spf_disk.specs.Memory.{FileState, IsUnsettled, IsFilled, longest};
 ghost use Rattle.spf_disk.specs.MemoryDisk.{state_of, with_state, image_of, IsLeft, LeftSince};
-ghost use Rattle.spf_disk.specs.MemoryDisk.{IsCrashed, Pushed};
+ghost use Rattle.spf_disk.specs.MemoryDisk.{IsCrashed, moments};
 
 use crate::disk::{Disk, DiskFailed, HelperFile};
 use crate::mem_file::MemFile;
 use spf_io::OutOfMemory;
 use std::alloc::Global;
+use std::snapshot::Snapshot;
 
 /// The three files.
 #[derive(Debug, Drop)]
@@ -40,6 +41,26 @@ impl MemFiles {
         }
     }
 
+    fn holding(
+        alloc: Global,
+        gates: Vec<u8>,
+        first: Vec<u8>,
+        second: Vec<u8>,
+    ) -> Result<MemFiles, OutOfMemory>
+        ensures held { IfOk result (λ f. image_of f ≡ record {
+          gates = gates.items;
+          first = first.items;
+          second = second.items;
+        }) }
+        ensures durable { IfOk result (λ f. Only (image_of f) (IsLeft f)) }
+    {
+        Ok(MemFiles {
+            gates: MemFile::holding(alloc, gates)?,
+            first: MemFile::holding(alloc, first)?,
+            second: MemFile::holding(alloc, second)?,
+        })
+    }
+
     fn file(&self, file: HelperFile) -> &MemFile
         ensures { result.now ≡ state_of self.now file }
     {
@@ -48,16 +69,6 @@ impl MemFiles {
             HelperFile::First => &self.first,
             HelperFile::Second => &self.second,
         }
-    }
-
-    fn try_clone(&self, alloc: Global) -> Result<MemFiles, OutOfMemory>
-        ensures { IfOk result (λ f. f ≡ self.now) }
-    {
-        Ok(MemFiles {
-            gates: self.gates.try_clone(alloc)?,
-            first: self.first.try_clone(alloc)?,
-            second: self.second.try_clone(alloc)?,
-        })
     }
 
     fn set(&mut self, file: HelperFile, state: MemFile)
@@ -71,13 +82,13 @@ impl MemFiles {
     }
 }
 
-/// A disk in memory. A call for which there is no memory fails. It keeps what it was before each
-/// change, which its contract speaks of.
-#[derive(Debug, Drop)]
+/// A disk in memory. A call for which there is no memory fails. What it was before each change, of
+/// which its contract speaks, takes no memory.
+#[derive(Drop)]
 pub struct MemDisk {
     alloc: Global,
     files: MemFiles,
-    past: Vec<MemFiles>,
+    past: Vec<Snapshot<MemFiles>>,
     calls_left: Option<u64>,
     failed: u64,
 }
@@ -96,18 +107,18 @@ fn take_call(calls_left: &mut Option<u64>) -> bool {
 
 /// Puts a file in the place of another. What the files were is kept.
 fn change(
-    alloc: Global,
     files: &mut MemFiles,
-    past: &mut Vec<MemFiles>,
+    past: &mut Vec<Snapshot<MemFiles>>,
     file: HelperFile,
     state: MemFile,
 ) -> Result<(), OutOfMemory>
     ensures ok { OnOk result (files.new ≡ with_state file state files.old) }
-    ensures kept { OnOk result (past.new.items ≡ past.old.items ++ files.old ∷ []) }
+    ensures kept { OnOk result
+        (moments past.new.items ≡ moments past.old.items ++ files.old ∷ []) }
     ensures err { OnErr result (files.new ≡ files.old) }
     ensures kept_err { OnErr result (past.new.items ≡ past.old.items) }
 {
-    past.push(files.try_clone(alloc)?)?;
+    past.push(Snapshot::of(files))?;
     files.set(file, state);
     Ok(())
 }
@@ -128,6 +139,31 @@ impl MemDisk {
             calls_left: None,
             failed: 0,
         }
+    }
+
+    /// A disk whose files hold these bytes, of which nothing is pending.
+    pub fn holding(
+        alloc: Global,
+        gates: Vec<u8>,
+        first: Vec<u8>,
+        second: Vec<u8>,
+    ) -> Result<MemDisk, OutOfMemory>
+        ensures held { IfOk result (λ d. ⟦<MemDisk as Disk>⟧.seen d ≡ record {
+          gates = gates.items;
+          first = first.items;
+          second = second.items;
+        }) }
+        ensures durable { IfOk result (λ d. Only (⟦<MemDisk as Disk>⟧.seen d)
+            (⟦<MemDisk as Disk>⟧.may_leave d)) }
+        ensures failures { IfOk result (λ d. ⟦<MemDisk as Disk>⟧.failures d ≡ 0) }
+    {
+        Ok(MemDisk {
+            alloc,
+            files: MemFiles::holding(alloc, gates, first, second)?,
+            past: Vec::new(alloc),
+            calls_left: None,
+            failed: 0,
+        })
     }
 
     /// The same, of which the first `after` calls go through and each later one fails.
@@ -151,7 +187,7 @@ impl MemDisk {
 fn write_file(
     alloc: Global,
     files: &mut MemFiles,
-    past: &mut Vec<MemFiles>,
+    past: &mut Vec<Snapshot<MemFiles>>,
     file: HelperFile,
     at: usize,
     piece: &[u8],
@@ -161,19 +197,19 @@ fn write_file(
         (OnFile file (Written at piece.now) (image_of files.old) (image_of files.new)) }
     ensures crash { TornByWrite file at (at + length piece.now) (IsLeft files.old)
         (IsLeft files.new) }
-    ensures time { Elapses (length past.old.items) (length past.new.items)
-        (LeftSince past.old.items files.old) (LeftSince past.new.items files.new)
-        (IsLeft files.new) }
+    ensures time { Elapses (length (moments past.old.items)) (length (moments past.new.items))
+        (LeftSince (moments past.old.items) files.old)
+        (LeftSince (moments past.new.items) files.new) (IsLeft files.new) }
 {
     let state = files.file(file).written(alloc, at, piece)?;
-    change(alloc, files, past, file, state)?;
+    change(files, past, file, state)?;
     Ok(())
 }
 
 fn cut_file(
     alloc: Global,
     files: &mut MemFiles,
-    past: &mut Vec<MemFiles>,
+    past: &mut Vec<Snapshot<MemFiles>>,
     file: HelperFile,
     count: usize,
 ) -> Result<(), OutOfMemory>
@@ -181,30 +217,30 @@ fn cut_file(
     ensures kept { OnOk result
         (OnFile file (Kept count) (image_of files.old) (image_of files.new)) }
     ensures crash { TornByCut file count (IsLeft files.old) (IsLeft files.new) }
-    ensures time { Elapses (length past.old.items) (length past.new.items)
-        (LeftSince past.old.items files.old) (LeftSince past.new.items files.new)
-        (IsLeft files.new) }
+    ensures time { Elapses (length (moments past.old.items)) (length (moments past.new.items))
+        (LeftSince (moments past.old.items) files.old)
+        (LeftSince (moments past.new.items) files.new) (IsLeft files.new) }
 {
     let state = files.file(file).kept(alloc, count)?;
-    change(alloc, files, past, file, state)?;
+    change(files, past, file, state)?;
     Ok(())
 }
 
 fn sync_file(
     alloc: Global,
     files: &mut MemFiles,
-    past: &mut Vec<MemFiles>,
+    past: &mut Vec<Snapshot<MemFiles>>,
     file: HelperFile,
 ) -> Result<(), OutOfMemory>
     ensures durable { OnOk result (IsSynced file (image_of files.old) (IsLeft files.new)) }
     ensures seen { image_of files.new ≡ image_of files.old }
     ensures crash { NoMore (IsLeft files.old) (IsLeft files.new) }
-    ensures time { Elapses (length past.old.items) (length past.new.items)
-        (LeftSince past.old.items files.old) (LeftSince past.new.items files.new)
-        (IsLeft files.new) }
+    ensures time { Elapses (length (moments past.old.items)) (length (moments past.new.items))
+        (LeftSince (moments past.old.items) files.old)
+        (LeftSince (moments past.new.items) files.new) (IsLeft files.new) }
 {
     let state = files.file(file).synced(alloc)?;
-    change(alloc, files, past, file, state)?;
+    change(files, past, file, state)?;
     Ok(())
 }
 
@@ -284,15 +320,16 @@ impl MemDisk {
 
 impl Disk for MemDisk {
     ghost use Rattle.spf_disk.specs.MemoryDisk.{image_of, IsLeft, LeftSince, only_now, seen_left};
+    ghost use Rattle.spf_disk.specs.MemoryDisk.{moments};
     ghost use mathlib.Core.Logic.{inl};
 
     ghost seen = { λ m. image_of m.files };
 
     ghost may_leave = { λ m c. IsLeft m.files c };
 
-    ghost moment = { λ m. length m.past.items };
+    ghost moment = { λ m. length (moments m.past.items) };
 
-    ghost left_since = { λ m t c. LeftSince m.past.items m.files t c };
+    ghost left_since = { λ m t c. LeftSince (moments m.past.items) m.files t c };
 
     ghost failures = { λ m. m.failed };
 
@@ -300,7 +337,7 @@ impl Disk for MemDisk {
 
     ghost counts_now = { λ m t c le now. inl now };
 
-    ghost only_now = { λ m c left. only_now m.past.items m.files c left };
+    ghost only_now = { λ m c left. only_now (moments m.past.items) m.files c left };
 
     fn length(&mut self, file: HelperFile) -> Result<u64, DiskFailed> {
         self.begin()?;

@@ -75,13 +75,14 @@ impl MemFile {
         self.bytes.as_slice()
     }
 
-    pub(crate) fn try_clone(&self, alloc: Global) -> Result<MemFile, OutOfMemory>
-        ensures { IfOk result (λ f. f ≡ self.now) }
+    /// A file of which nothing is pending.
+    pub(crate) fn holding(alloc: Global, bytes: Vec<u8>) -> Result<MemFile, OutOfMemory>
+        ensures bytes { IfOk result (λ f. f.bytes ≡ bytes.items) }
+        ensures settled { IfOk result
+            (λ f. f.settled ≡ replicate (length f.bytes) true) }
     {
-        Ok(MemFile {
-            bytes: self.bytes.to_vec(alloc)?,
-            settled: self.settled.to_vec(alloc)?,
-        })
+        let settled = vec![in alloc; true; bytes.len()]?;
+        Ok(MemFile { bytes, settled })
     }
 
     fn longest(&self) -> usize

@@ -1,4 +1,5 @@
--- What a connector, where it tells, and its link have still to tell, and what the asks take of it.
+-- What is still to come from a connector, where that is known, and from its link, and what the asks
+-- take of it.
 use Rattle.std.specs.Prelude.{◌≡◌, List, [], ◌∷◌, Option, None, Some, Result, Ok, Err}
 use Rattle.spf_api.specs.declared.link.ClientFault.{ClientFault}
 use Rattle.spf_api.specs.declared.response.ResponseKind.TheVariants as kind

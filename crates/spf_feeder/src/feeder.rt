@@ -121,6 +121,13 @@ where
         self.session.events()
     }
 
+    /// The events so far, which contracts alone see.
+    pub fn noted_events(&self) -> snapshot::Snapshot<Vec<Event>>
+        ensures { result.value.items ≡ self.now.core.run }
+    {
+        self.session.noted_events()
+    }
+
     /// Whether an item was accepted.
     pub(crate) fn is_synced(&self) -> bool
         requires { self.now.core.stuck ≡ false }

@@ -25,6 +25,7 @@ use spf_io::OutOfMemory;
 use spf_pace::AttemptEnd;
 use std::alloc::Global;
 use std::marker::Model;
+use std::snapshot;
 use std::sync::Arc;
 
 /// Why a run goes no further.
@@ -207,6 +208,13 @@ impl<P: Publisher + Drop, M: MetricsRecorder + Drop, K: SvidPicker + Drop> Sessi
         ensures { result.now ≡ self.now.run }
     {
         self.events.as_slice()
+    }
+
+    /// The events so far, which contracts alone see.
+    pub(crate) fn noted_events(&self) -> snapshot::Snapshot<Vec<Event>>
+        ensures { result.value.items ≡ self.now.run }
+    {
+        snapshot::Snapshot::of(&self.events)
     }
 
     /// The rules of the session.

@@ -114,6 +114,8 @@ module _ {D : Type 0} (seen : D → Image) (may_leave : D → Image → Type 0) 
       → new.disk.ghost_name ≡ old.disk.ghost_name → new.disk.now ≡ old.disk.now
       → new.fault ≡ old.fault → new.full ≡ old.full → (old.fault || old.full) ≡ true → Keeps new
   kept_stopped old new s k steps base name disk fault full stopped = record {
+    entry = k.entry;
+    undamaged = k.undamaged;
     loan = name ∙ k.loan;
     base = base ∙ k.base;
     time = subst (λ (d : D). b.moment ≤ moment d) (sym disk) k.time;
@@ -142,6 +144,8 @@ module _ {D : Type 0} (seen : D → Image) (may_leave : D → Image → Type 0) 
       → base_of b.image + length old.steps < 2 ^ 64
       → IsWhole seen may_leave b.image old.steps old.disk.now → Keeps new
   kept_written old new s k steps base name run later fault full standing room whole = record {
+    entry = k.entry;
+    undamaged = k.undamaged;
     loan = name ∙ k.loan;
     base = base ∙ k.base;
     time = omega (arith, k.time, run.later);

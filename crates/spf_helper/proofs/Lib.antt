@@ -5,4 +5,5 @@ pub mod Pieces
 pub mod Ready
 pub mod RunLemmas
 pub mod Statuses
+pub mod Stepped
 pub mod WatchLemmas

@@ -23,6 +23,7 @@ use Rattle.spf_helper.specs.Helping.{Helping}
 use Rattle.spf_helper.specs.Keeping.{Beginning, IsKept, IsWhole, base_in, base_of}
 use Rattle.spf_helper.specs.Runs.{Follows, Ended, Ran, LeavesBeside, LeavesFound, IsUnopened}
 use Rattle.spf_helper.specs.Runs.{ended_as, is_disk_fault}
+use Rattle.spf_helper.proofs.Stepped.{with_step}
 
 -- how a run ended, by how the session ended and by the publisher
 pub ended_by : (limits : ResourceLimits) (max : ℕ) (image : Image)
@@ -31,7 +32,8 @@ pub ended_by : (limits : ResourceLimits) (max : ℕ) (image : Image)
     → Ended limits max image left left' held held' steps (ended_as fault full r)
 ended_by limits max image left left' held held' steps true full r followed = (r, followed)
 ended_by limits max image left left' held held' steps false true r followed = (r, followed)
-ended_by limits max image left left' held held' steps false false (Ok count) followed = followed
+ended_by limits max image left left' held held' steps false false (Ok count) followed =
+    (followed, with_step limits max left left' held held' steps count followed)
 ended_by limits max image left left' held held' steps false false (Err e) followed = followed
 
 both_off : (f g : Bool) (X : Type 0) → f ≡ false → g ≡ false → OnFalse (f || g) X → X
@@ -78,6 +80,8 @@ module _ {D : Type 0} (seen : D → Image) (may_leave : D → Image → Type 0) 
       opened.number ∙ sym (ap base_in opened.is_next.latest) in
       subst (λ (x : Beginning). IsKept seen may_leave moment left_since failures x past p) (sym is)
       (record {
+        entry = opened.entry;
+        undamaged = opened.is_next.latest;
         loan = name;
         base = base ∙ number;
         time = subst (λ (d : D). moment old ≤ moment d) (sym disk) looks.any_moment.later;
@@ -102,6 +106,7 @@ module _ {D : Type 0} (seen : D → Image) (may_leave : D → Image → Type 0) 
       → Ran seen may_leave failures old p.disk.now p.steps (ended_as f g r)
   ran_case true g r loan old past p fault full k = record {
     written = λ no. absurd cc;
+    undamaged = λ opened. (k.entry, k.undamaged);
     later = k.count;
     fault = λ h. k.fault fault;
     full = λ no. absurd cc;
@@ -109,6 +114,7 @@ module _ {D : Type 0} (seen : D → Image) (may_leave : D → Image → Type 0) 
   }
   ran_case false true r loan old past p fault full k = record {
     written = λ no. absurd cc;
+    undamaged = λ opened. (k.entry, k.undamaged);
     later = k.count;
     fault = λ no. absurd cc;
     full = λ h. k.full full;
@@ -118,6 +124,7 @@ module _ {D : Type 0} (seen : D → Image) (may_leave : D → Image → Type 0) 
       let room = both_off p.fault p.full _ fault full k.room in
       record {
         written = λ h. both_off p.fault p.full _ fault full k.whole;
+        undamaged = λ opened. (k.entry, k.undamaged);
         later = k.count;
         fault = λ no. absurd cc;
         full = λ no. absurd cc;
@@ -127,6 +134,7 @@ module _ {D : Type 0} (seen : D → Image) (may_leave : D → Image → Type 0) 
       let room = both_off p.fault p.full _ fault full k.room in
       record {
         written = λ h. both_off p.fault p.full _ fault full k.whole;
+        undamaged = λ opened. (k.entry, k.undamaged);
         later = k.count;
         fault = λ no. absurd cc;
         full = λ no. absurd cc;
@@ -166,6 +174,7 @@ module _ {D : Type 0} (seen : D → Image) (may_leave : D → Image → Type 0) 
       → Ran seen may_leave failures old new [] (Err (errors.Open e))
   ran_unopened old new e cause = record {
     written = λ no. absurd cc;
+    undamaged = λ no. absurd cc;
     later = cause.later;
     fault = by_error e cause;
     full = λ no. absurd cc;
@@ -197,6 +206,7 @@ pub ran_lent : {D : Type 0} (seen : D → Image) (may_leave : D → Image → Ty
 ran_lent seen may_leave failures old new end steps r is ran = rw is (record {
   written = λ h. let whole = ran.written h in
       record { durable = whole.durable; found_is = whole.found_is };
+  undamaged = ran.undamaged;
   later = ran.later;
   fault = ran.fault;
   full = ran.full;

@@ -1,11 +1,15 @@
 -- What the exit statuses mean.
-use Rattle.std.proofs.Common.{◌≡◌, ℕ, Result, Ok, Err, refl, arith}
+use Rattle.std.proofs.Common.{◌≡◌, ℕ, ◌⊎◌, inl, inr, List, Result, Ok, Err, refl, sym, ◌∙◌, arith}
 use Rattle.std.specs.Prelude.{IsTrue}
+use Rattle.spf_io.specs.Outside.{Rose}
 use Rattle.spf_disk.specs.declared.open_error.OpenError.TheVariants as opening
+use Rattle.spf_disk.specs.Image.{Image}
+use Rattle.spf_disk.specs.Standing.{latest}
+use Rattle.spf_feed.specs.Steps.{PlainStep}
 use Rattle.spf_feed.specs.declared.follow_error.FollowError.TheVariants as answers
 use Rattle.spf_helper.specs.declared.helper_error.HelperError.{HelperError}
 use Rattle.spf_helper.specs.declared.helper_error.HelperError.TheVariants as errors
-use Rattle.spf_helper.specs.Runs.{is_disk_fault}
+use Rattle.spf_helper.specs.Runs.{Ran, is_disk_fault}
 use Rattle.spf_helper.specs.Watching.{status_of_end}
 
 pub read_failed : (r : Result ℕ HelperError) → status_of_end r ≡ 3
@@ -83,3 +87,23 @@ was_damaged (Err (errors.Follow answers.Closed)) is = absurd (omega (arith, is))
 was_damaged (Err (errors.Follow answers.NeverSynced)) is = absurd (omega (arith, is))
 was_damaged (Err errors.DiskFault) is = absurd (omega (arith, is))
 was_damaged (Err errors.Full) is = absurd (omega (arith, is))
+
+-- a damage is said, unless the disk failed or memory ran out
+pub damage_said : {D : Type 0} (seen : D → Image) (may_leave : D → Image → Type 0)
+    (failures : D → ℕ) (old new : D) (steps : List PlainStep) (r : Result ℕ HelperError)
+    → Ran seen may_leave failures old new steps r → latest (seen old) ≡ Err opening.Damaged
+    → (Rose (failures old) (failures new) → ⊥) → (status_of_end r ≡ 22) ⊎ (status_of_end r ≡ 2)
+damage_said seen may_leave failures old new steps (Ok count) ran is well =
+    let no = sym is ∙ (ran.undamaged refl).1 in absurd cc
+damage_said seen may_leave failures old new steps (Err (errors.Open opening.OutOfMemory)) ran is
+    well = inr refl
+damage_said seen may_leave failures old new steps (Err (errors.Open opening.DiskFault)) ran is
+    well = absurd (well (ran.fault refl))
+damage_said seen may_leave failures old new steps (Err (errors.Open opening.Damaged)) ran is
+    well = inl refl
+damage_said seen may_leave failures old new steps (Err (errors.Follow e)) ran is well =
+    let no = sym is ∙ (ran.undamaged refl).1 in absurd cc
+damage_said seen may_leave failures old new steps (Err errors.DiskFault) ran is well =
+    absurd (well (ran.fault refl))
+damage_said seen may_leave failures old new steps (Err errors.Full) ran is well =
+    let no = sym is ∙ (ran.undamaged refl).1 in absurd cc

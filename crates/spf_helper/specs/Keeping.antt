@@ -60,6 +60,9 @@ pub record IsWhole {D : Type 0} (seen : D → Image) (may_leave : D → Image �
 pub record IsKept {D : Type 0} (seen : D → Image) (may_leave : D → Image → Type 0)
     (moment : D → ℕ) (left_since : D → ℕ → Image → Type 0) (failures : D → ℕ) (b : Beginning)
     (past : ℕ → Image → Type 0) (p : Helping D) : Type 0 where
+  -- what was there at the beginning is not damaged
+  pub entry : Option Entry
+  pub undamaged : latest b.image ≡ Ok entry
   pub loan : p.disk.ghost_name ≡ b.loan
   pub base : p.base ≡ base_of b.image
   pub time : b.moment ≤ moment p.disk.now

@@ -1,9 +1,10 @@
 -- Following a session over a disk.
 use Rattle.std.specs.Prelude.{◌≡◌, ℕ, ◌+◌, ◌^◌, ◌≤◌, ◌⊎◌, Bool, true, false, IsTrue, List, []}
-use Rattle.std.specs.Prelude.{length, Option, None, Some, Result, Ok, Err}
+use Rattle.std.specs.Prelude.{◌≢◌, length, Option, None, Some, Result, Ok, Err}
 use Rattle.spf_io.specs.Outside.{Rose}
 use Rattle.spf_disk.specs.declared.open_error.OpenError.{OpenError}
 use Rattle.spf_disk.specs.declared.open_error.OpenError.TheVariants.{DiskFault, Damaged}
+use Rattle.spf_disk.specs.declared.generation.Entry.{Entry}
 use Rattle.spf_disk.specs.Crash.{Only}
 use Rattle.spf_disk.specs.Image.{Image}
 use Rattle.spf_disk.specs.Standing.{latest}
@@ -37,11 +38,16 @@ abbrev pub IsUnopened : Image → OpenError → Type 0
 IsUnopened image Damaged = latest image ≡ Err Damaged
 IsUnopened image _ = Unit {0}
 
+-- Where the bytes of the source are known, a session that is followed to its end has a step.
+abbrev pub HasStep : Option (List ℕ) → List PlainStep → Type 0
+HasStep None steps = Unit {0}
+HasStep (Some bytes) steps = steps ≢ []
+
 -- How it ended: nothing is read, put and published where the files could not be opened.
 abbrev pub Ended : ResourceLimits → ℕ → Image → Option (List ℕ) → Option (List ℕ)
     → Option (List ℕ) → Option (List ℕ) → List PlainStep → Result ℕ HelperError → Type 0
 Ended limits max image left left' held held' steps (Ok count) =
-    Follows limits max left left' held held' steps (Ok count)
+    Follows limits max left left' held held' steps (Ok count) × HasStep left steps
 Ended limits max image left left' held held' steps (Err (errors.Open e)) =
     IsUnopened image e × (left' ≡ left) × (held' ≡ held) × (steps ≡ [])
 Ended limits max image left left' held held' steps (Err (errors.Follow e)) =
@@ -96,6 +102,8 @@ pub record Ran {D : Type 0} (seen : D → Image) (may_leave : D → Image → Ty
     (old new : D) (steps : List PlainStep) (r : Result ℕ HelperError) : Type 0 where
   -- each crash after it leaves what is found after all steps
   pub written : IsTrue (is_written r) → IsWhole seen may_leave (seen old) steps new
+  -- what is opened is not damaged
+  pub undamaged : IsTrue (is_opened r) → (e : Option Entry) × (latest (seen old) ≡ Ok e)
   pub later : failures old ≤ failures new
   pub fault : IsTrue (is_disk_fault r) → Rose (failures old) (failures new)
   -- the numbers ran out, and exactly then where the files were opened and the disk did not fail

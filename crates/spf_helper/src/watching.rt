@@ -1,6 +1,6 @@
 //! The program over an input, a disk and outputs of any kind.
 
-ghost use Rattle.std.specs.Prelude.{◌≡◌, ◌≢◌, ◌↔◌, Err, length, codes};
+ghost use Rattle.std.specs.Prelude.{◌≡◌, ◌≢◌, ◌↔◌, ◌⊎◌, Err, length, codes};
 ghost use Rattle.spf_io.specs.Outside.{Rose};
 ghost use Rattle.spf_disk.specs.declared.open_error.OpenError.TheVariants.{Damaged};
 ghost use Rattle.spf_disk.specs.Standing.{latest};
@@ -53,6 +53,9 @@ pub fn helper_watch<S: Source, D: Disk, K: Sink, E: Sink>(
     ensures write_fault { result ≡ 4 → Rose (K.failures out.old) (K.failures out.new) }
     ensures disk_fault { result ≡ 21 → Rose (D.failures disk.old) (D.failures disk.new) }
     ensures damaged { result ≡ 22 → latest (D.seen disk.old) ≡ Err Damaged }
+    ensures damage_is_said { length arguments.now ≡ 1 → latest (D.seen disk.old) ≡ Err Damaged
+        → (Rose (D.failures disk.old) (D.failures disk.new) → ⊥)
+        → (result ≡ 22) ⊎ (result ≡ 2) }
     // A whole session over a disk that is not damaged ends with 0, or out of memory.
     ensures complete { length arguments.now ≡ 1
         → Completes (helper_rules default_limits) 1000000 (D.seen disk.old) (S.left source.old)

@@ -11,7 +11,7 @@ const MAX_MESSAGE: usize = 1 << 24;
 /// What a message that has come in part still needs.
 #[derive(Clone, Copy, Debug, PartialEq, Eq)]
 pub(crate) enum Needed {
-    /// So many octets, or more.
+    /// At least this many octets.
     Octets(usize),
     /// Nothing: it is whole.
     Nothing,

@@ -1,6 +1,6 @@
 use Rattle.std.proofs.Common.{subst}
 use Rattle.spf_disk.specs.declared.mem_disk.MemFiles.{MemFiles}
-use Rattle.spf_disk.specs.MemoryDisk.{IsLeft}
+use Rattle.spf_disk.specs.MemoryDisk.{IsLeft, moments}
 use Rattle.spf_disk.proofs.MemDiskLemmas.{sync_no_more, sync_durable, synced_files, elapses_pushed}
 use Rattle.spf_disk.proofs.mem_disk.sync_file.Goals as goal
 
@@ -20,5 +20,5 @@ returns-clause-crash c = λ image left.
 
 pub returns-clause-time : goal.returns-clause-time
 returns-clause-time c =
-    elapses_pushed c.args.past.now.items c.change.new.past.items c.args.files.now
-    c.change.new.files c.in_ok-change.ensures.kept
+    elapses_pushed (moments c.args.past.now.items) (moments c.change.new.past.items)
+    c.args.files.now c.change.new.files c.in_ok-change.ensures.kept

@@ -1,3 +1,4 @@
+use Rattle.spf_disk.specs.MemoryDisk.{moments}
 use Rattle.spf_disk.proofs.MemDiskLemmas.{write_change, elapses_pushed}
 use Rattle.spf_disk.proofs.mem_disk.write_file.Goals as goal
 
@@ -9,5 +10,5 @@ returns-clause-crash c =
 
 pub returns-clause-time : goal.returns-clause-time
 returns-clause-time c =
-    elapses_pushed c.args.past.now.items c.change.new.past.items c.args.files.now
-    c.change.new.files c.in_ok-change.ensures.kept
+    elapses_pushed (moments c.args.past.now.items) (moments c.change.new.past.items)
+    c.args.files.now c.change.new.files c.in_ok-change.ensures.kept

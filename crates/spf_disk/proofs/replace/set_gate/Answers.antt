@@ -12,7 +12,8 @@ returns-in_err-write_at-clause-any_moment g c =
     (c.requires.durable image (g.met.D.Disk.only_now disk image left))) in
     goes_on g.D.Disk.moment g.D.Disk.left_since disk disk c.write_at.new.self P _ begun
     c.write_at.ensures.time
-    (gate_crash c.args.slot _ _ _ _ c.gate.ensures c.requires.room c.requires.durable c.write_at.ensures.crash)
+    (gate_crash c.args.slot _ _ _ _ c.gate.ensures c.requires.room c.requires.durable
+    c.write_at.ensures.crash)
 
 pub returns-clause-any_moment : goal.returns-clause-any_moment
 returns-clause-any_moment g c =

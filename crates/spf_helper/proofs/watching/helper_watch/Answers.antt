@@ -1,9 +1,10 @@
-use Rattle.std.proofs.Common.{sym, ◌∙◌, subst}
+use Rattle.std.proofs.Common.{◌≡◌, ℕ, ◌⊎◌, sym, ◌∙◌, subst}
 use Rattle.spf_feed.specs.declared.limits.ResourceLimits.{ResourceLimits}
 use Rattle.spf_helper.specs.Completing.{Completes}
 use Rattle.spf_helper.specs.Runs.{helper_rules}
 use Rattle.spf_helper.proofs.Completeness.{completes}
 use Rattle.spf_helper.proofs.Statuses.{read_failed, write_failed, disk_failed, was_damaged}
+use Rattle.spf_helper.proofs.Statuses.{damage_said}
 use Rattle.spf_helper.proofs.WatchLemmas.{watched, damaged}
 use Rattle.spf_helper.proofs.watching.helper_watch.Goals as goal
 
@@ -58,3 +59,10 @@ returns-clause-complete g c = λ one.
       read = c.helper_follow-end.ensures.read_fault;
       write = c.helper_follow-end.ensures.write_fault;
     }) c.report.ensures.status)
+
+pub returns-clause-damage_is_said : goal.returns-clause-damage_is_said
+returns-clause-damage_is_said g c = λ one is well.
+    subst (λ (n : ℕ). (n ≡ 22) ⊎ (n ≡ 2)) (sym c.report.ensures.status)
+    (damage_said g.D.Disk.seen g.D.Disk.may_leave g.D.Disk.failures c.args.disk.now
+    c.helper_follow-end.new.disk c.helper_follow-end.ensures.ran.0 c.helper_follow-end.result
+    c.helper_follow-end.ensures.ran.2 is well)

@@ -1,0 +1,72 @@
+//! Why nothing, or not all, is exported.
+
+use spf_disk::OpenError;
+use spf_folder::FolderFault;
+use spf_io::OutOfMemory;
+use spf_x509::X509SvidError;
+use std::alloc::{AllocError, AllocFailed};
+use std::io;
+use thiserror::Error;
+
+#[derive(Debug, Error, Drop)]
+pub(crate) enum ExportError {
+    #[error("bad words")]
+    BadArguments,
+    #[error("out of memory")]
+    OutOfMemory,
+    #[error("write failed")]
+    NotPrinted,
+    #[error("write failed: {0}")]
+    NotWritten(io::Error),
+    #[error("disk failed: {0}")]
+    Folder(FolderFault),
+    #[error("damaged")]
+    Damaged,
+}
+
+impl ExportError {
+    pub(crate) fn status(&self) -> u8 {
+        match self {
+            ExportError::BadArguments => 1,
+            ExportError::OutOfMemory => 2,
+            ExportError::NotPrinted => 4,
+            ExportError::NotWritten(_) => 4,
+            ExportError::Folder(_) => 21,
+            ExportError::Damaged => 22,
+        }
+    }
+}
+
+impl From<AllocError> for ExportError {
+    fn from(_error: AllocError) -> ExportError {
+        ExportError::OutOfMemory
+    }
+}
+
+impl<T: Drop> From<AllocFailed<T>> for ExportError {
+    fn from(_failed: AllocFailed<T>) -> ExportError {
+        ExportError::OutOfMemory
+    }
+}
+
+impl From<OutOfMemory> for ExportError {
+    fn from(_error: OutOfMemory) -> ExportError {
+        ExportError::OutOfMemory
+    }
+}
+
+impl From<io::Error> for ExportError {
+    fn from(error: io::Error) -> ExportError {
+        ExportError::NotWritten(error)
+    }
+}
+
+impl From<X509SvidError> for ExportError {
+    fn from(error: X509SvidError) -> ExportError {
+        match error {
+            X509SvidError::OutOfMemory => ExportError::OutOfMemory,
+            // What the folder holds was no identity when it was written.
+            _ => ExportError::Damaged,
+        }
+    }
+}

@@ -1,0 +1,115 @@
+//! `spf_helper_watch` follows a stream of SPIFFE Workload API updates, and
+//! keeps the latest identity in a folder.
+#![tactic(auto)]
+
+mod help;
+
+use help::HELP;
+use spf_folder::{FolderDisk, FolderFault};
+use spf_helper::helper_watch;
+use spf_io::{Sink, StdSink, StdSource};
+use std::alloc::Global;
+use std::io::BufReader;
+use std::process::ExitCode;
+use std::rt::Env;
+use std::{env, io};
+
+/// How many bytes of standard input are read at once.
+const INPUT_BUFFER: usize = 1 << 16;
+
+/// The status where the disk failed.
+const DISK_FAILED: u8 = 21;
+
+/// Why the program ends before a session is followed.
+enum StartError {
+    BadArguments,
+    OutOfMemory,
+}
+
+fn main(rt: HostRuntime) -> ExitCode {
+    let mut errors = StdSink::new(rt.stderr());
+    match run(&rt, &mut errors) {
+        Ok(status) => ExitCode::from(status),
+        Err(StartError::BadArguments) => {
+            let _ = errors.put(b"spf_helper: bad words\n");
+            ExitCode::from(1)
+        }
+        Err(StartError::OutOfMemory) => {
+            let _ = errors.put(b"spf_helper: out of memory\n");
+            ExitCode::from(2)
+        }
+    }
+}
+
+/// Answers `--help`, alone, and otherwise calls `helper_watch` over
+/// the folder that is named. It returns the exit status.
+fn run<E: Sink>(rt: &HostRuntime, errors: &mut E) -> Result<u8, StartError> {
+    let arguments = arguments_of(rt)?;
+    match arguments.as_slice() {
+        [argument] if argument.as_str() == "--help" => Ok(put_help(rt)),
+        [folder] => follow(rt, folder.as_str(), arguments.as_slice(), errors),
+        // Without a folder no file is opened, and the arguments are refused.
+        _ => follow(rt, "", arguments.as_slice(), errors),
+    }
+}
+
+/// Follows the session on standard input. Where the disk fails, a second line says why.
+fn follow<E: Sink>(
+    rt: &HostRuntime,
+    folder: &str,
+    arguments: &[String],
+    errors: &mut E,
+) -> Result<u8, StartError> {
+    let mut out = StdSink::new(rt.stdout());
+    let Ok(input) = BufReader::with_capacity(rt.alloc(), INPUT_BUFFER, rt.stdin()) else {
+        return Err(StartError::OutOfMemory);
+    };
+    let mut source = StdSource::new(input);
+    let mut disk = FolderDisk::open(rt, folder);
+    let status = helper_watch(
+        rt.alloc(),
+        arguments,
+        &mut source,
+        &mut disk,
+        &mut out,
+        errors,
+    );
+    if status == DISK_FAILED {
+        explain(rt.alloc(), errors, disk.fault());
+    }
+    Ok(status)
+}
+
+fn explain<E: Sink>(alloc: Global, errors: &mut E, fault: Option<&FolderFault>) {
+    if let Some(fault) = fault {
+        if let Ok(line) = format!(in alloc; "spf_helper: {fault}\n") {
+            let _ = errors.put(line.as_bytes());
+        }
+    }
+}
+
+fn put_help(rt: &HostRuntime) -> u8 {
+    match StdSink::new(rt.stdout()).put(HELP.as_bytes()) {
+        Ok(()) => 0,
+        Err(_) => 4,
+    }
+}
+
+/// The arguments after the name of the program.
+fn arguments_of(rt: &(impl Env + AllocGlobal)) -> Result<Vec<String>, StartError> {
+    let all = match env::args(rt) {
+        Ok(all) => all,
+        Err(error) if error.kind() == io::ErrorKind::OutOfMemory => {
+            return Err(StartError::OutOfMemory);
+        }
+        Err(_) => return Err(StartError::BadArguments),
+    };
+    let mut arguments = Vec::new(rt.alloc());
+    for argument in all.skip(1) {
+        match arguments.push(argument) {
+            Ok(()) => {}
+            Err(_) => return Err(StartError::OutOfMemory),
+        }
+    }
+    Ok(arguments)
+}

@@ -1,0 +1,7 @@
+use Rattle.std.proofs.Common.{lit<}
+use Rattle.std.proofs.lemmas.Str.Pattern.{split_once_first}
+use Rattle.spf_jwt.proofs.token.cut.Goals as goal
+
+pub returns : goal.returns
+returns c =
+    split_once_first 46 c.args.text.now c.split_once.result c.split_once.ensures.cases (lit< tt)
