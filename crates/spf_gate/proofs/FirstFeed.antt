@@ -37,7 +37,7 @@ pub position_in : (xs ys : List ℕ) (n : ℕ) → IsFirstFeed xs (Some n)
 position_in xs ys n h =
     prefix_len-append (λ c. not (is_feed c)) xs ys
     ∙ second (eqb (position_or_len is_feed xs) (length xs)) _ _ (λ is.
-        let same = eqb-true _ _ is in absurd (omega (arith, h.0, h.1, same)))
+    let same = eqb-true _ _ is in absurd (omega (arith, h.0, h.1, same)))
     ∙ h.0
 
 -- and it stands after bytes that have none

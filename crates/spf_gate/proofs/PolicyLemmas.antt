@@ -62,7 +62,7 @@ stepped max first (Some a) (Some b) None number rules line true so takes is = ab
 stepped max first (Some a) (Some b) (Some c) number rules line true so takes is =
     so ∙ ap (λ (l : List (List ℕ)). after_rules rules (policy_of max (number + 1) l)) takes.0
     ∙ ap (λ (r : Result (Unit {0}) GateError).
-        after_rules rules (r >>= λ _. line_step max (number + 1) line (lines_of c))) takes.1
+    after_rules rules (r >>= λ _. line_step max (number + 1) line (lines_of c))) takes.1
 
 -- the policy ends with the line
 pub ended : (max before : ℕ) (old new : Option (List ℕ)) (number : ℕ) (rules : List Rule)

@@ -183,7 +183,7 @@ pub refused_fed : (a b : Option (List ℕ)) (o q r text : List ℕ) (n max numbe
 refused_fed a b o q r text n max number e end f end_is r_is broken =
     let h = subst (λ (x : LineEnd). EndsLine b q max number (Ok x)) end_is f.end in
     subst (λ (l : List ℕ).
-        TakesLine max (number + 1) (prepend_known o a) (prepend_known l b) text (Err e)) (sym r_is)
+    TakesLine max (number + 1) (prepend_known o a) (prepend_known l b) text (Err e)) (sym r_is)
     (take_refused max (number + 1) (prepend_known o a) (prepend_known q b) text
     (text_rule (number + 1) (take n q)) e (hands a b o q q [] f.adds (λ y. refl)) broken
     (λ rule. all_known b q _ (λ y. breaks_fed max number q y n e h.0 h.1 rule)))
@@ -213,12 +213,12 @@ refused_rest a b o q r text n max number e end f end_is n_is r_is broken =
     let h = subst (λ (x : LineEnd). EndsLine b q max number (Ok x)) end_is f.end in
     let whole = take_all n q (omega (arith, n_is)) in
     subst (λ (l : List ℕ).
-        TakesLine max (number + 1) (prepend_known o a) (prepend_known l b) text (Err e)) (sym r_is)
+    TakesLine max (number + 1) (prepend_known o a) (prepend_known l b) text (Err e)) (sym r_is)
     (take_refused max (number + 1) (prepend_known o a) (prepend_known q b) text
     (text_rule (number + 1) (take n q)) e (hands a b o q q [] f.adds (λ y. refl)) broken
     (λ rule. end_known b q _ h.0
-        (breaks_whole max number q e h.1 h.2 h.3
-        (ap (text_rule (number + 1)) (sym whole) ∙ rule))))
+    (breaks_whole max number q e h.1 h.2 h.3
+    (ap (text_rule (number + 1)) (sym whole) ∙ rule))))
 
 -- nothing is left
 pub took_nothing : (a b : Option (List ℕ)) (o q text : List ℕ) (max number : ℕ) (end : LineEnd)

@@ -6,6 +6,8 @@ mod gate_error;
 mod line_reader;
 mod policy;
 mod rule;
+#[cfg(test)]
+mod tests;
 mod verdict;
 
 pub use gate_error::GateError;

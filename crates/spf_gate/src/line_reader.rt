@@ -196,7 +196,13 @@ impl LineReader {
         ensures max { self.new.max ≡ self.old.max }
         ensures cause { ReadHasCause (S.failures source.old) (S.failures source.new) result }
     {
-        match fill_line(source, &mut self.piece, &mut self.octets, self.max, self.number) {
+        match fill_line(
+            source,
+            &mut self.piece,
+            &mut self.octets,
+            self.max,
+            self.number,
+        ) {
             Ok(LineEnd::Nothing) => Ok(false),
             Ok(LineEnd::Feed(size)) => match self.take(size, size + 1, text) {
                 Ok(()) => Ok(true),
