@@ -6,3 +6,4 @@ pub mod Signature
 pub mod Kept
 pub mod Octets
 pub mod Required
+pub mod Later

@@ -7,3 +7,4 @@ pub mod Laws
 pub mod Token
 pub mod Limits
 pub mod Responses
+pub mod Validation

@@ -11,6 +11,7 @@ mod limits;
 mod responses;
 mod svid;
 mod token;
+mod validation;
 
 pub use authority::JwtAuthority;
 pub use bundle::{JwtAuthorityIter, JwtBundle};
@@ -18,3 +19,4 @@ pub use bundle_set::{JwtBundleIter, JwtBundleSet};
 pub use limits::{JwtLimitBroken, JwtLimitKind, JwtResourceLimits, validate_jwt_limits};
 pub use responses::{jwt_bundle_set_from, jwt_svids_from};
 pub use svid::JwtSvid;
+pub use validation::check_validation;

@@ -17,7 +17,7 @@ use spf_id::TrustDomain;
 use spf_io::{OutOfMemory, Text};
 use std::alloc::Global;
 
-fn missing(alloc: Global, field: &str) -> WorkloadApiError
+pub(crate) fn missing(alloc: Global, field: &str) -> WorkloadApiError
     ensures { MatchBool (is_memory_api result) (Unit {0})
         (result ≡ MissingRequiredField field.now) }
 {
@@ -67,7 +67,7 @@ pub fn jwt_bundle_set_from(
     Ok(set)
 }
 
-fn require(alloc: Global, text: &str, field: &str) -> Result<(), WorkloadApiError>
+pub(crate) fn require(alloc: Global, text: &str, field: &str) -> Result<(), WorkloadApiError>
     ensures { Gives is_memory_api (λ _. tt) result (required text.now field.now) }
 {
     if text.is_empty() {
