@@ -1,5 +1,5 @@
 -- What a supervisor is given, and what it leaves.
-use Rattle.std.specs.Prelude.{◌≡◌, ℕ, List, Option, IfSome, reverse}
+use Rattle.std.specs.Prelude.{◌≡◌, ℕ, List, Option, None, IfSome, reverse}
 use Rattle.logbook.specs.Pages.{Book}
 use Rattle.spf_close.specs.Marks.{Held}
 use Rattle.spf_close.specs.declared.maker.Maker.TheVariants as makers
@@ -39,6 +39,14 @@ assigned board cell run settings picker bounds first = record {
   bounds = bounds;
   first = first;
 }
+
+-- the same, its connector aside
+abbrev pub task_of : {S K : Type 0} → Assigned S K → Assigned (Unit {0}) K
+task_of job = assigned job.board job.cell job.run job.settings job.picker job.bounds tt
+
+-- a connector of which nothing is known
+abbrev pub untold : {S : Type 0} → S → Option (List Member)
+untold connector = None
 
 -- what contracts see of a supervisor's record
 pub record Recorded (K : Type 0) : Type 0 where

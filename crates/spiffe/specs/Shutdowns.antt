@@ -7,6 +7,11 @@ use Rattle.spf_system.specs.Clock.{later, next_moment}
 use Rattle.spf_feed.specs.declared.state.X509SourceError.{X509SourceError}
 use Rattle.spf_feed.specs.declared.state.X509SourceError.TheVariants as errors
 
+-- the cell that a handle is to close, and the grace of its builder
+pub record Pending : Type 0 where
+  pub cell : ℕ
+  pub grace : Option Duration
+
 -- the job that was started, the cell that the handle closes, and the grace of its builder
 pub record Handled (J : Type 0) : Type 0 where
   pub job : J

@@ -1,11 +1,10 @@
 //! Builders of live sources.
 
-ghost use Rattle.std.specs.Prelude.{◌≡◌, Err, IfErr, IfOk, None, Ok, Some};
+ghost use Rattle.std.specs.Prelude.{◌≡◌, ◌≤◌, Err, IfErr, IfOk, None, Ok, Some};
 ghost use Rattle.std.specs.Option.{ForSome};
 ghost use Rattle.spiffe.specs.Building.{BuildFails, IsAssigned, IsBuilt, PrepareFails};
 
-use crate::closing::Closing;
-use crate::handle::SupervisorHandle;
+use crate::handle::{PendingHandle, SupervisorHandle};
 use crate::job::X509Job;
 use crate::opening::{joined, open_cells, synchronised};
 use crate::source::X509Source;
@@ -103,6 +102,22 @@ where
             × (result.settings.grace ≡ self.settings.grace)
             × (result.settings.bounds ≡ self.settings.bounds) }
     {
+        self.optional_picker(Some(picker))
+    }
+
+    /// Lets this picker choose, where there is one, and takes the first SVID otherwise.
+    pub fn optional_picker<Q: SvidPicker + Drop>(
+        self,
+        picker: Option<Q>,
+    ) -> X509SourceBuilder<Q, C, M>
+        ensures picker { result.settings.picker ≡ picker }
+        ensures others { (result.connector ≡ self.connector)
+            × (result.settings.limits ≡ self.settings.limits)
+            × (result.settings.ready ≡ self.settings.ready)
+            × (result.settings.timeout ≡ self.settings.timeout)
+            × (result.settings.grace ≡ self.settings.grace)
+            × (result.settings.bounds ≡ self.settings.bounds) }
+    {
         let X509SourceBuilder {
             settings,
             connector,
@@ -118,7 +133,7 @@ where
         } = settings;
         X509SourceBuilder {
             settings: Settings {
-                picker: Some(picker),
+                picker,
                 bounds,
                 limits,
                 ready,
@@ -195,9 +210,10 @@ where
         self
     }
 
-    /// Synchronises, and makes all of a source but its thread: the source, its first pass, what
-    /// closes it, and the job of its supervisor.
-    pub(crate) fn prepare<T, W, N, R, L>(
+    /// Synchronises, and makes all of a source but what runs its supervisor: the source, its first
+    /// pass, the job of the supervisor, and what is left to make a handle of it. The caller starts
+    /// the job, as on a thread of its own.
+    pub fn prepare<T, W, N, R, L>(
         self,
         rt: R,
         alloc: Global,
@@ -205,7 +221,7 @@ where
         pause: W,
         random: N,
         places: &mut L,
-    ) -> Result<(X509Source, Pass, Closing, X509Job<C, P, M, W, N, R>), X509SourceError>
+    ) -> Result<(X509Source, Pass, X509Job<C, P, M, W, N, R>, PendingHandle), X509SourceError>
     where
         T: Clock,
         W: Pause + Drop,
@@ -213,10 +229,12 @@ where
         R: Wait + Copy + Drop,
         L: Places,
         requires picker { ForSome self.settings.picker P.can_pick }
-        ensures built { IfOk result (λ r. IsBuilt P.picks r.0 r.1 r.2 r.3) }
+        ensures built { IfOk result (λ r. IsBuilt P.picks r.0 r.1 r.3.cell r.2) }
         ensures assigned { IfOk result (λ r. IsAssigned C.members P.picks self.settings
-            self.connector (T.moments clock.old) (T.moments clock.new) r.3) }
+            self.connector (T.moments clock.old) (T.moments clock.new) r.2) }
+        ensures grace { IfOk result (λ r. r.3.grace ≡ self.settings.grace) }
         ensures endpoint { IfOk result (λ _. C.validates self.connector ≡ Ok tt) }
+        ensures places { IfOk result (λ _. L.refusals places.old ≤ L.refusals places.new) }
         ensures failed { IfErr result (PrepareFails P.picks self.settings
             (C.validates self.connector) (L.refusals places.old) (L.refusals places.new)) }
     {
@@ -227,6 +245,7 @@ where
         } = self;
         let mut pause = pause;
         let mut random = random;
+        let grace = settings.grace;
         let cells = open_cells(alloc)?;
         let (feeder, pace) = synchronised(
             &rt,
@@ -239,7 +258,10 @@ where
             &mut pause,
             &mut random,
         )?;
-        joined(rt, alloc, cells, feeder, pace, pause, random, places)
+        let (source, pass, closing, job) = joined(
+            rt, alloc, cells, feeder, pace, pause, random, places,
+        )?;
+        Ok((source, pass, job, PendingHandle::new(closing, grace)))
     }
 
     /// Synchronises, and starts the supervisor. The source comes with its first pass, and with the
@@ -279,10 +301,9 @@ where
             (C.validates self.connector) (L.refusals places.old) (L.refusals places.new)
             (S.refusals spawner.old) (S.refusals spawner.new)) }
     {
-        let grace = self.settings.grace;
-        let (source, pass, closing, job) = self.prepare(rt, alloc, clock, pause, random, places)?;
+        let (source, pass, job, pending) = self.prepare(rt, alloc, clock, pause, random, places)?;
         match spawner.start(job) {
-            Ok(handle) => Ok((source, pass, SupervisorHandle::new(handle, closing, grace))),
+            Ok(handle) => Ok((source, pass, pending.started(handle))),
             Err(_) => Err(X509SourceError::NoSupervisor),
         }
     }

@@ -20,6 +20,43 @@ use std::marker::{Model, PhantomData};
 use std::sync::Wait;
 use std::time::Duration;
 
+/// What the handle of a supervisor needs besides the handle of its started job.
+#[derive(Drop)]
+pub struct PendingHandle {
+    closing: Closing,
+    grace: Option<Duration>,
+}
+
+impl Model for PendingHandle {
+    ghost use Rattle.spiffe.specs.Shutdowns.{Pending};
+
+    ghost Value = { Pending };
+
+    ghost view = { λ h. record { cell = h.closing; grace = h.grace } };
+}
+
+impl PendingHandle {
+    pub(crate) fn new(closing: Closing, grace: Option<Duration>) -> PendingHandle
+        ensures { (result.cell ≡ closing) × (result.grace ≡ grace) }
+    {
+        PendingHandle { closing, grace }
+    }
+
+    /// The handle of the supervisor whose job was started.
+    pub fn started<J: Job, H: Joins<J> + Drop>(self, handle: H) -> SupervisorHandle<J, H>
+        ensures { (result.job ≡ H.job handle) × (result.cell ≡ self.cell)
+            × (result.grace ≡ self.grace) }
+    {
+        let PendingHandle { closing, grace } = self;
+        SupervisorHandle {
+            handle,
+            closing,
+            grace,
+            job: PhantomData,
+        }
+    }
+}
+
 /// The handle of a started supervisor. It stays with the thread that built the source. Dropping it
 /// leaves the supervisor running.
 #[derive(Drop)]
@@ -39,22 +76,6 @@ impl<J: Job, H: Joins<J> + Drop> Model for SupervisorHandle<J, H> {
 }
 
 impl<J: Job, H: Joins<J> + Drop> SupervisorHandle<J, H> {
-    pub(crate) fn new(
-        handle: H,
-        closing: Closing,
-        grace: Option<Duration>,
-    ) -> SupervisorHandle<J, H>
-        ensures { (result.job ≡ H.job handle) × (result.cell ≡ closing)
-            × (result.grace ≡ grace) }
-    {
-        SupervisorHandle {
-            handle,
-            closing,
-            grace,
-            job: PhantomData,
-        }
-    }
-
     /// Closes the source and waits for the supervisor. It asks the clock right before and right
     /// after the wait, which may take the grace.
     pub fn shutdown_with_timeout<T: Clock>(

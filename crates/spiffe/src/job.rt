@@ -7,7 +7,7 @@ ghost use Rattle.spf_feeder.specs.Kept.{rules_by};
 ghost use Rattle.spf_feeder.specs.Orderly.{IsSynced};
 ghost use Rattle.spf_feeder.specs.Pacing.{KeepsPace};
 ghost use Rattle.spf_history.specs.Lists.{steps_of};
-ghost use Rattle.spiffe.specs.Records.{IsLeftBy, IsRecord, assigned};
+ghost use Rattle.spiffe.specs.Records.{IsLeftBy, IsRecord, assigned, task_of, untold};
 
 use crate::publishing::BoardPublisher;
 use crate::record::Supervised;
@@ -176,7 +176,8 @@ where
     ghost may_give = { IsLeftBy C.members K.picks };
 
     fn run(self) -> X509Done<K, R>
-        ensures { IsLeftBy C.members K.picks self result }
+        ensures left { IsLeftBy C.members K.picks self result }
+        ensures task { IsLeftBy untold K.picks (task_of self) result }
     {
         let X509Job {
             mut feeder,

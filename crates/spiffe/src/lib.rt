@@ -12,14 +12,16 @@ mod opening;
 mod publishing;
 mod record;
 mod source;
+mod task;
 #[cfg(test)]
 mod tests;
 mod updates;
 
 pub use builder::{Settings, X509SourceBuilder};
-pub use handle::SupervisorHandle;
+pub use handle::{PendingHandle, SupervisorHandle};
 pub use job::{X509Done, X509Job};
 pub use publishing::BoardPublisher;
 pub use record::{Supervised, SupervisorEnd};
 pub use source::X509Source;
+pub use task::Task;
 pub use updates::X509SourceUpdates;

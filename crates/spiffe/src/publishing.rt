@@ -8,7 +8,7 @@ ghost use Rattle.spf_feed.specs.Steps.{MayFollow, plain};
 use spf_close::Bell;
 use spf_feed::{Publisher, Step};
 use spf_io::OutOfMemory;
-use spf_x509_board::{Desk, Ended};
+use spf_x509_board::{Desk, Ended, Front, X509};
 use std::marker::Model;
 use std::sync::Wait;
 
@@ -48,6 +48,13 @@ impl<R: Wait + Drop> BoardPublisher<R> {
             bell,
             is_refused: false,
         }
+    }
+
+    /// What is published.
+    pub(crate) fn front(&self) -> Front<X509>
+        ensures { result ≡ self.now }
+    {
+        self.desk.front()
     }
 
     /// Publishes the end, and gives the steps.

@@ -1,0 +1,71 @@
+//! What a supervisor is given, as contracts see it.
+
+ghost use Rattle.std.specs.Prelude.{◌≡◌};
+ghost use Rattle.spiffe.specs.Records.{task_of};
+
+use crate::job::{X509Done, X509Job};
+use rand_core::Rng;
+use spf_close::Watch;
+use spf_feed::{Event, MetricsRecorder, SessionRules, SvidPicker};
+use spf_feeder::Pace;
+use spf_link::Connector;
+use spf_system::Pause;
+use spf_x509_board::{Front, X509};
+use std::marker::Model;
+use std::snapshot::Snapshot;
+use std::sync::Wait;
+use std::thread::Promise;
+
+/// What a supervisor is given, its connector aside. Contracts alone see it. It is a promise of what
+/// a thread leaves that runs the job.
+#[derive(Drop)]
+pub struct Task<K: SvidPicker + Drop> {
+    front: Snapshot<Front<X509>>,
+    watch: Snapshot<Watch>,
+    events: Snapshot<Vec<Event>>,
+    rules: Snapshot<SessionRules>,
+    picker: Snapshot<Option<K>>,
+    pace: Snapshot<Pace>,
+}
+
+impl<K: SvidPicker + Drop> Model for Task<K> {
+    ghost use Rattle.spiffe.specs.Records.{Assigned, assigned};
+
+    ghost Value = { Assigned (Unit {0}) K };
+
+    ghost view = { λ t. assigned t.front.value.book t.watch.value t.events.value.items
+        t.rules.value t.picker.value t.pace.value.bounds tt };
+}
+
+impl<K: SvidPicker + Drop, R: Wait + Drop> Promise<X509Done<K, R>> for Task<K> {
+    ghost use Rattle.spiffe.specs.Records.{IsLeftBy, untold};
+
+    ghost kept_by = { λ task done. IsLeftBy untold K.picks task done };
+}
+
+impl<C, K, M, W, N, R> X509Job<C, K, M, W, N, R>
+where
+    C: Connector + Drop,
+    C::Link: Drop,
+    K: SvidPicker + Drop,
+    M: MetricsRecorder + Drop,
+    W: Pause + Drop,
+    N: Rng + Drop,
+    R: Wait + Drop,
+{
+    /// What it is given, its connector aside.
+    pub fn task(&self) -> Task<K>
+        ensures { result ≡ task_of self.now }
+    {
+        let front = self.feeder.publisher().front();
+        let rules = self.feeder.rules();
+        Task {
+            front: Snapshot::of(&front),
+            watch: Snapshot::of(&self.watch),
+            events: self.feeder.noted_events(),
+            rules: Snapshot::of(&rules),
+            picker: Snapshot::of(self.feeder.picker()),
+            pace: Snapshot::of(&self.pace),
+        }
+    }
+}
