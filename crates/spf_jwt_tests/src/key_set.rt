@@ -1,0 +1,98 @@
+//! Keys and key sets.
+
+use spf_api::JwtBundleError;
+use spf_id::TrustDomain;
+use spf_jwt::JwtBundle;
+use std::alloc::Global;
+use std::str;
+use std::test::Fail;
+
+fn bundle_of(alloc: Global, keys: &str) -> Result<JwtBundle, JwtBundleError> {
+    let Ok(domain) = TrustDomain::new(alloc, "example.org") else {
+        return Err(JwtBundleError::OutOfMemory);
+    };
+    JwtBundle::from_jwt_authorities(alloc, domain, keys.as_bytes())
+}
+
+/// The keys of a bundle in its order, each as its ID and its JSON text, before a space.
+fn keys_in(alloc: Global, bundle: &JwtBundle) -> Result<String, Fail> {
+    let mut text = String::new(alloc);
+    for authority in bundle.jwt_authorities() {
+        text.push_str(authority.key_id())?;
+        text.push('=')?;
+        text.push_str(str::from_utf8(authority.jwk_json()).unwrap_or("?"))?;
+        text.push(' ')?;
+    }
+    Ok(text)
+}
+
+fn keys_of(alloc: Global, keys: &str) -> Result<String, Fail> {
+    let bundle = bundle_of(alloc, keys)?;
+    keys_in(alloc, &bundle)
+}
+
+/// Key sets and their keys: of an equal key ID the last stands, and in a key the names stand in
+/// order at every depth, of equal ones the last.
+const KEYS: [(&str, &str); 4] = [
+    ("{\"keys\":[]}", ""),
+    (
+        "{\"keys\":[{\"kid\":\"k\",\"kty\":\"EC\"}]}",
+        "k={\"kid\":\"k\",\"kty\":\"EC\"} ",
+    ),
+    (
+        "{\"keys\":[{\"kid\":\"k\",\"n\":1},{\"kid\":\"b\"},{\"kid\":\"k\",\"n\":2}]}",
+        "b={\"kid\":\"b\"} k={\"kid\":\"k\",\"n\":2} ",
+    ),
+    (
+        "{\"keys\":[{ \"x\" : { \"b\" : [ 1, -2 ] }, \"kid\":\"k\", \"x\" : {\"d\":true, \"c\":\"\\u0041\"} }]}",
+        "k={\"kid\":\"k\",\"x\":{\"c\":\"A\",\"d\":true}} ",
+    ),
+];
+
+#[test]
+fn key_set(rt: HostRuntime) -> Result<(), Fail> {
+    for (keys, wanted) in KEYS {
+        let found = keys_of(rt.alloc(), keys)?;
+        assert!(rt; found.as_str() == wanted, "{keys}: {found}");
+    }
+    Ok(())
+}
+
+/// The name of the rule that a key set breaks first; `Ok` where it breaks none.
+fn outcome(alloc: Global, keys: &str) -> Result<String, Fail> {
+    match bundle_of(alloc, keys) {
+        Ok(_) => Ok(String::from_str(alloc, "Ok")?),
+        Err(error) => Ok(format!(in alloc; "{error}")?),
+    }
+}
+
+const KEY_SETS: [(&str, &str); 16] = [
+    ("{\"keys\":[]}", "Ok"),
+    (
+        "{\"keys\":[],\"keys\":[{\"kid\":\"k\"}],\"x\":-9223372036854775808}",
+        "Ok",
+    ),
+    ("{\"a\":1.5,\"a\":1,\"keys\":[]}", "Ok"),
+    ("{", "Json"),
+    ("", "Json"),
+    ("{\"keys\":[]} x", "Json"),
+    ("{\"keys\":[\"\\ud800\"]}", "Json"),
+    ("{\"keys\":[1.5]}", "HoldsFloat"),
+    ("{\"x\":{\"y\":[0,-0]}}", "HoldsFloat"),
+    ("[1e1]", "HoldsFloat"),
+    ("{}", "MissingKeys"),
+    ("[]", "MissingKeys"),
+    ("{\"keys\":{}}", "MissingKeys"),
+    ("{\"keys\":[{\"kid\":\"k\"},1]}", "NotAnObject"),
+    ("{\"keys\":[{}]}", "MissingKeyId"),
+    ("{\"keys\":[{\"kid\":\"\"},1]}", "MissingKeyId"),
+];
+
+#[test]
+fn key_sets(rt: HostRuntime) -> Result<(), Fail> {
+    for (keys, wanted) in KEY_SETS {
+        let found = outcome(rt.alloc(), keys)?;
+        assert!(rt; found.as_str() == wanted, "{keys}: {found}");
+    }
+    Ok(())
+}

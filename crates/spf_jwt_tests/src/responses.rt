@@ -1,0 +1,35 @@
+//! Responses that carry key sets.
+
+use spf_api::{BundleEntry, BundlesResponse};
+use spf_io::{Bytes, List, Text};
+use spf_jwt::{JwtBundleSet, JwtResourceLimits, jwt_bundle_set_from, validate_jwt_limits};
+use std::alloc::Global;
+use std::test::Fail;
+
+fn entry(alloc: Global, name: &str, keys: &str) -> Result<BundleEntry, Fail> {
+    Ok(BundleEntry {
+        name: Text::copy_of(alloc, name)?,
+        bundle: Bytes::copy_of(alloc, keys.as_bytes())?,
+    })
+}
+
+/// The set of two bundles of one trust domain, of which the last stands.
+fn bundle_set(alloc: Global) -> Result<JwtBundleSet, Fail> {
+    let first = entry(alloc, "example.org", "{\"keys\":[]}")?;
+    let last = entry(alloc, "example.org", "{\"keys\":[{\"kid\":\"k\"}]}")?;
+    let bundles = List::new(vec![in alloc; first, last]?);
+    Ok(jwt_bundle_set_from(alloc, &BundlesResponse { bundles })?)
+}
+
+fn is_within(set: &JwtBundleSet, max_bundles: usize) -> bool {
+    validate_jwt_limits(set, JwtResourceLimits::new(Some(max_bundles), None)).is_ok()
+}
+
+#[test]
+fn last_bundle_stands(rt: HostRuntime) -> Result<(), Fail> {
+    let set = bundle_set(rt.alloc())?;
+    assert_eq!(rt; set.len(), 1);
+    assert!(rt; is_within(&set, 1));
+    assert!(rt; !is_within(&set, 0));
+    Ok(())
+}
