@@ -1,3 +1,4 @@
 mod FirstFeed
 mod PolicyLemmas
+mod ServeLemmas
 mod Taking

@@ -3,4 +3,5 @@ pub mod Lines
 pub mod Policies
 pub mod Reading
 pub mod Rules
+pub mod Serving
 pub mod Verdicts

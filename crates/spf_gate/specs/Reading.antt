@@ -10,10 +10,11 @@ use Rattle.spf_gate.specs.declared.line_reader.LineEnd.{LineEnd}
 use Rattle.spf_gate.specs.declared.line_reader.LineEnd.TheVariants as ends
 use Rattle.spf_gate.specs.Lines.{is_feed, lines_of, line_rule}
 
--- the count never falls, and `ReadFault` comes only where it rose
+-- the count never falls, and `ReadFault` comes only where it rose; nothing is written
 pub record ReadHasCause {T : Type 0} (before now : ℕ) (r : Result T GateError) : Type 0 where
   pub later : before ≤ now
   pub failed : IsErrOf r errors.ReadFault → Rose before now
+  pub unwritten : IsErrOf r errors.WriteFault → ⊥
 
 -- bytes are added that the source gave
 pub record Adds (left left' : Option (List ℕ)) (octets octets' : List ℕ) : Type 0 where

@@ -6,10 +6,14 @@ mod gate_error;
 mod line_reader;
 mod policy;
 mod rule;
+mod serve;
+#[cfg(test)]
+mod serve_tests;
 #[cfg(test)]
 mod tests;
 mod verdict;
 
 pub use gate_error::GateError;
 pub use rule::{Pattern, Rule, RuleError, parse_rule};
+pub use serve::gate_serve;
 pub use verdict::{Verdict, decide};

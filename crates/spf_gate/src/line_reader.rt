@@ -118,7 +118,7 @@ fn fill_line<S: Source>(
 fn line_text(octets: &[u8], number: u64) -> Result<&str, GateError>
     ensures text { IfOk result (λ text. text.now ≡ octets.now) }
     ensures rule { Gives is_memory_gate (λ _. tt) result (text_rule number octets.now) }
-    ensures calm { IfErr result (λ e. e ≢ errors.ReadFault) }
+    ensures calm { IfErr result (λ e. (e ≢ errors.ReadFault) × (e ≢ errors.WriteFault)) }
 {
     if octets.len() > MAX_LINE {
         return Err(GateError::LineTooLong { line: number });
@@ -172,7 +172,7 @@ impl LineReader {
         ensures refused { OnErr result ((self.new.octets.items ≡ self.old.octets.items)
             × (self.new.number ≡ self.old.number)) }
         ensures max { self.new.max ≡ self.old.max }
-        ensures calm { IfErr result (λ e. e ≢ errors.ReadFault) }
+        ensures calm { IfErr result (λ e. (e ≢ errors.ReadFault) × (e ≢ errors.WriteFault)) }
     {
         let line = line_text(&self.octets[..size], self.number + 1)?;
         text.clear();

@@ -19,7 +19,7 @@ use std::alloc::Global;
 /// The rule of a line of this number, if it gives one.
 fn rule_at(alloc: Global, line: &str, number: u64) -> Result<Option<Rule>, GateError>
     ensures rule { Gives is_memory_gate (λ rule. rule) result (spec.rule_at number line.now) }
-    ensures calm { IfErr result (λ e. e ≢ errors.ReadFault) }
+    ensures calm { IfErr result (λ e. (e ≢ errors.ReadFault) × (e ≢ errors.WriteFault)) }
 {
     match parse_rule(alloc, line) {
         Ok(rule) => Ok(rule),

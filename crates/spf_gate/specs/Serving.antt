@@ -1,0 +1,108 @@
+-- Answering the asks of an input.
+use Rattle.std.specs.Prelude.{◌≡◌, ℕ, ◌+◌, ◌≤◌, Bool, true, false, IsTrue, ◌⊎◌, List, [], ◌∷◌, ◌++◌}
+use Rattle.std.specs.Prelude.{length, Option, Some, None, IfOk, IfSome, Result, Ok, Err, IsErrOf}
+use Rattle.std.specs.Io.KnownBytes.{Appends}
+use mathlib.Core.List.{IsPrefix}
+use Rattle.spf_io.specs.Outside.{Rose}
+use Rattle.spf_history.specs.declared.entry.Entry.{Entry}
+use Rattle.spf_feed.specs.Steps.{PlainStep, StateView}
+use Rattle.spf_x509_board.specs.States.{IsStateOf}
+use Rattle.spf_gate.specs.declared.rule.Rule.{Rule}
+use Rattle.spf_gate.specs.declared.gate_error.GateError.{GateError}
+use Rattle.spf_gate.specs.declared.gate_error.GateError.TheVariants as errors
+use Rattle.spf_gate.specs.Answers.{answer_line}
+use Rattle.spf_gate.specs.Lines.{lines_of}
+use Rattle.spf_gate.specs.Policies.{Policy, policy_of, asks_rule, asks_before}
+
+-- what a pass has seen of its board
+abbrev pub Seen : Type 0
+Seen = List (Entry PlainStep)
+
+-- The text is one line for each ask, in order. Each is written by a state that was read of a legal
+-- list, which begins with the list before it; the first begins with `seen`, and the last is a
+-- beginning of `seen'`.
+abbrev pub AreAnswers : List Rule → Seen → List (List ℕ) → List ℕ → Seen → Type 0
+AreAnswers rules seen [] text seen' = (text ≡ []) × IsPrefix seen seen'
+AreAnswers rules seen (ask ∷ asks) text seen' =
+    (read : Seen) × (state : StateView) × IsPrefix seen read × IsStateOf read state.closed state
+    × (rest : List ℕ) × (text ≡ answer_line rules state ask ++ rest)
+    × AreAnswers rules read asks rest seen'
+
+-- the line that answers an ask is written, by a state that was read of what the pass has seen
+abbrev pub AnswersAsk : List Rule → Seen → List ℕ → Option (List ℕ) → Option (List ℕ) → Type 0
+AnswersAsk rules seen ask held held' =
+    (state : StateView) × IsStateOf seen state.closed state
+    × Appends held held' (answer_line rules state ask)
+
+-- ---- the asks
+
+-- the errors after which the line of an ask may be cut or missing
+abbrev pub cuts : GateError → Bool
+cuts errors.WriteFault = true
+cuts errors.OutOfMemory = true
+cuts _ = false
+
+abbrev pub is_cut : {T : Type 0} → Result T GateError → Bool
+is_cut (Ok x) = false
+is_cut (Err e) = cuts e
+
+-- What the asks are, where the bytes are known: all lines that are left, those before one that
+-- breaks a rule, or those that were read before the source failed.
+abbrev pub AreAsks : ℕ → ℕ → Option (List ℕ) → Option (List ℕ) → List (List ℕ) → Result ℕ GateError
+    → Type 0
+AreAsks max first None new asks r = Unit {0}
+AreAsks max first (Some old) None asks r = ⊥
+AreAsks max first (Some old) (Some new) asks (Ok count) =
+    (lines_of old ≡ asks) × (asks_rule max first asks ≡ Ok tt) × (count ≡ length asks)
+AreAsks max first (Some old) (Some new) asks (Err errors.ReadFault) =
+    (lines_of old ≡ asks ++ lines_of new) × (asks_rule max first asks ≡ Ok tt)
+AreAsks max first (Some old) (Some new) asks (Err e) =
+    (asks_before max first (lines_of old) ≡ asks) × (asks_rule max first (lines_of old) ≡ Err e)
+
+-- asks are answered, one line for each
+pub record ServesAsks (max first : ℕ) (old new : Option (List ℕ)) (rules : List Rule)
+    (seen seen' : Seen) (held held' : Option (List ℕ)) (r : Result ℕ GateError) : Type 0 where
+  pub asks : List (List ℕ)
+  pub text : List ℕ
+  pub written : Appends held held' text
+  pub answers : AreAnswers rules seen asks text seen'
+  pub asks_are : AreAsks max first old new asks r
+
+-- ---- the whole input
+
+-- What the rules and the asks of an input are: those that stand before the first broken rule, which
+-- fixes the error; or, where the source failed, the asks that were read before it.
+abbrev pub AreRead : ℕ → List ℕ → List Rule → List (List ℕ) → Result ℕ GateError → Type 0
+AreRead max bytes rules asks (Ok count) =
+    (p : Policy) × (policy_of max 1 (lines_of bytes) ≡ Ok p) × (p.rules ≡ rules)
+    × (p.asks ≡ asks) × (asks_rule max p.first asks ≡ Ok tt) × (count ≡ length asks)
+AreRead max bytes rules asks (Err errors.ReadFault) =
+    (asks ≡ [])
+    ⊎ ((p : Policy) × (others : List (List ℕ)) × (policy_of max 1 (lines_of bytes) ≡ Ok p)
+    × (p.rules ≡ rules) × (p.asks ≡ asks ++ others) × (asks_rule max p.first asks ≡ Ok tt))
+AreRead max bytes rules asks (Err e) =
+    ((asks ≡ []) × (policy_of max 1 (lines_of bytes) ≡ Err e))
+    ⊎ ((p : Policy) × (policy_of max 1 (lines_of bytes) ≡ Ok p) × (p.rules ≡ rules)
+    × (asks_before max p.first p.asks ≡ asks) × (asks_rule max p.first p.asks ≡ Err e))
+
+-- The asks of an input are answered by the rules of its policy.
+pub record Serves (max : ℕ) (left : Option (List ℕ)) (seen seen' : Seen)
+    (held held' : Option (List ℕ)) (r : Result ℕ GateError) : Type 0 where
+  pub rules : List Rule
+  pub asks : List (List ℕ)
+  pub text : List ℕ
+  pub written : Appends held held' text
+  pub answers : AreAnswers rules seen asks text seen'
+  pub read : IfSome left (λ bytes. AreRead max bytes rules asks r)
+
+-- the count never falls, and `WriteFault` comes only where it rose
+pub record PutHasCause {T : Type 0} (before now : ℕ) (r : Result T GateError) : Type 0 where
+  pub later : before ≤ now
+  pub failed : IsErrOf r errors.WriteFault → Rose before now
+
+-- a failure comes only where its count rose
+pub record HasCauses (reads reads' writes writes' : ℕ) (r : Result ℕ GateError) : Type 0 where
+  pub reads_later : reads ≤ reads'
+  pub writes_later : writes ≤ writes'
+  pub read : IsErrOf r errors.ReadFault → Rose reads reads'
+  pub write : IsErrOf r errors.WriteFault → Rose writes writes'
