@@ -90,7 +90,8 @@ counted_takes {A} {one} {text} {P} reads (suc n) bytes xs rest octets found =
     first.1.0 ∙ ap (λ (l : List ℕ). text a.0.0 ++ l) others.2
     ∙ sym (append_assoc (text a.0.0) (flat_map text b.0.0) b.0.1)
     ∙ ap (λ (l : List ℕ). l ++ b.0.1) (sym (flat_map-cons text a.0.0 b.0.0)) in
-    subst (λ (l : List A). (length l ≡ suc n) × All P l × (bytes ≡ flat_map text l ++ rest)) same.0 (
+    subst (λ (l : List A).
+    (length l ≡ suc n) × All P l × (bytes ≡ flat_map text l ++ rest)) same.0 (
       ap suc others.0,
       All-cons P a.0.0 b.0.0 first.0 others.1,
       cut ∙ ap (λ (l : List ℕ). flat_map text (a.0.0 ∷ b.0.0) ++ l) same.1,

@@ -25,7 +25,8 @@ is_open None = false
 is_open (Some octet) = octet == 1
 
 abbrev pub standing_of : Option ℕ → List ℕ → Standing
-standing_of gate bytes = if is_open gate then option_map_or Holds (entry_at bytes) Broken else Closed
+standing_of gate bytes =
+    if is_open gate then option_map_or Holds (entry_at bytes) Broken else Closed
 
 abbrev pub standing : Image → Slot → Standing
 standing image s = standing_of (gate_of image s) (held_by image s)

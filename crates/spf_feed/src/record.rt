@@ -77,7 +77,8 @@ pub trait MetricsRecorder {
         ensures { RecordAppends (records self.old) (records self.new) result MetricsRecord.Update };
 
     fn record_reconnect(&mut self) -> Result<(), OutOfMemory>
-        ensures { RecordAppends (records self.old) (records self.new) result MetricsRecord.Reconnect };
+        ensures { RecordAppends (records self.old) (records self.new) result
+            MetricsRecord.Reconnect };
 
     fn record_error(&mut self, kind: MetricsErrorKind) -> Result<(), OutOfMemory>
         ensures { RecordAppends (records self.old) (records self.new) result

@@ -36,8 +36,8 @@ impl<J: Job> Spawner<J> for RefusingSpawner {
     ghost refusals = { λ s. s.refusals };
 
     fn start(&mut self, job: J) -> Result<Held<J>, Failed>
-        ensures starts { Starts (⟦<Held<J> as Joins<J>>⟧.job) self.old.refusals self.new.refusals job
-            result }
+        ensures starts { Starts (⟦<Held<J> as Joins<J>>⟧.job) self.old.refusals self.new.refusals
+            job result }
         ensures refused { IsErr result }
         ensures counted { self.new.refusals ≡ min (self.old.refusals + 1) (2 ^ 64 - 1) }
     {

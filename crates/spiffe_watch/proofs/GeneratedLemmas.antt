@@ -19,7 +19,8 @@ use Rattle.spiffe_watch.specs.declared.generated.Workload.{Workload}
 use Rattle.spiffe_watch.specs.declared.template.Template.{Template}
 use Rattle.spiffe_watch.specs.MadeSession.{client_frames, close_frame, denial_frame, end_frame}
 use Rattle.spiffe_watch.specs.MadeSession.{entry, frames_by, frames_from, frames_left}
-use Rattle.spiffe_watch.specs.MadeSession.{expiry_of, generation_by, item, item_frame, next_seed, leaf}
+use Rattle.spiffe_watch.specs.MadeSession.{expiry_of, generation_by, item, item_frame}
+use Rattle.spiffe_watch.specs.MadeSession.{next_seed, leaf}
 use Rattle.spiffe_watch.specs.MadeSession.{leaf_spec, moment_frame, root, root_spec, intermediate}
 use Rattle.spiffe_watch.specs.MadeSession.{intermediate_spec}
 use Rattle.spiffe_watch.specs.GeneratedParts.{Yields, IsExpiry, IsWorkload}
