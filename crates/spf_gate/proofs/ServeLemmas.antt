@@ -1,6 +1,8 @@
 -- Answering asks one by one.
-use Rattle.std.proofs.Common.{◌≡◌, ◌∙◌, refl, sym, ap, ℕ, suc, ◌+◌, Bool, true, false, List, [], ◌∷◌, ◌++◌}
-use Rattle.std.proofs.Common.{length, Option, Some, None, IfSome, Result, Ok, Err, append_assoc, subst}
+use Rattle.std.proofs.Common.{◌≡◌, ◌∙◌, refl, sym, ap, ℕ, suc, ◌+◌, Bool, true, false, List, []}
+use Rattle.std.proofs.Common.{◌∷◌, ◌++◌}
+use Rattle.std.proofs.Common.{length, Option, Some, None, IfSome, Result, Ok, Err, append_assoc}
+use Rattle.std.proofs.Common.{subst}
 use Rattle.std.proofs.Common.{inl, inr, ◌⊎◌, arith}
 use Rattle.std.specs.Prelude.{if◌then◌else◌, is_ok, IsErrOf}
 use Rattle.std.specs.Io.KnownBytes.{Appends, prepend_known}
@@ -92,7 +94,8 @@ Remains (Some old) None asks = ⊥
 Remains (Some old) (Some new) asks = lines_of old ≡ asks ++ lines_of new
 
 -- what is answered so far
-pub record Asking (max first : ℕ) (old new : Option (List ℕ)) (rules : List Rule) (seen seen' : Seen)
+pub record Asking (max first : ℕ) (old new : Option (List ℕ)) (rules : List Rule)
+    (seen seen' : Seen)
     (held held' : Option (List ℕ)) (number : ℕ) : Type 0 where
   pub asks : List (List ℕ)
   pub text : List ℕ
@@ -185,9 +188,11 @@ pub asked_all : (max first : ℕ) (old mid new : Option (List ℕ)) (rules : Lis
     → TakesLine max (number + 1) mid new ask (Ok is_line) → is_line ≡ false
     → count + first ≡ number + 1
     → ServesAsks max first old new rules seen seen' held held' (Ok count)
-asked_all max first old mid new rules seen seen' held held' number count ask true so takes is count_is =
+asked_all max first old mid new rules seen seen' held held' number count ask true so takes is
+    count_is =
     absurd (cc)
-asked_all max first old mid new rules seen seen' held held' number count ask false so takes is count_is =
+asked_all max first old mid new rules seen seen' held held' number count ask false so takes is
+    count_is =
     record {
       asks = so.asks;
       text = so.text;
@@ -217,29 +222,43 @@ broken_asks : (max first number : ℕ) (old mid new : Option (List ℕ)) (asks :
     → TakesLine max (number + 1) mid new ask (Err e) → AreAsks max first old new asks (Err e)
 broken_asks max first number None mid new asks ask e uncut so kept at takes = tt
 broken_asks max first number (Some a) None new asks ask e uncut so kept at takes = absurd so
-broken_asks max first number (Some a) (Some b) None asks ask errors.ReadFault uncut so kept at takes = absurd takes
-broken_asks max first number (Some a) (Some b) (Some c) asks ask errors.ReadFault uncut so kept at takes =
+broken_asks max first number (Some a) (Some b) None asks ask errors.ReadFault uncut so kept at takes
+    = absurd takes
+broken_asks max first number (Some a) (Some b) (Some c) asks ask errors.ReadFault uncut so kept at
+    takes =
     (so ∙ ap (λ (l : List (List ℕ)). asks ++ l) takes, kept)
-broken_asks max first number (Some a) (Some b) new asks ask errors.OutOfMemory uncut so kept at takes = absurd (cc)
-broken_asks max first number (Some a) (Some b) new asks ask errors.WriteFault uncut so kept at takes = absurd (cc)
-broken_asks max first number (Some a) (Some b) None asks ask (errors.BadRule line) uncut so kept at takes = absurd takes.0
-broken_asks max first number (Some a) (Some b) (Some c) asks ask (errors.BadRule line) uncut so kept at takes =
+broken_asks max first number (Some a) (Some b) new asks ask errors.OutOfMemory uncut so kept at
+    takes = absurd (cc)
+broken_asks max first number (Some a) (Some b) new asks ask errors.WriteFault uncut so kept at takes
+    = absurd (cc)
+broken_asks max first number (Some a) (Some b) None asks ask (errors.BadRule line) uncut so kept at
+    takes = absurd takes.0
+broken_asks max first number (Some a) (Some b) (Some c) asks ask (errors.BadRule line) uncut so kept
+    at takes =
     first_breaks max first number a c asks _
     (so ∙ ap (λ (l : List (List ℕ)). asks ++ l) takes.0) kept at takes.1
-broken_asks max first number (Some a) (Some b) None asks ask errors.NoPolicyEnd uncut so kept at takes = absurd takes.0
-broken_asks max first number (Some a) (Some b) (Some c) asks ask errors.NoPolicyEnd uncut so kept at takes =
+broken_asks max first number (Some a) (Some b) None asks ask errors.NoPolicyEnd uncut so kept at
+    takes = absurd takes.0
+broken_asks max first number (Some a) (Some b) (Some c) asks ask errors.NoPolicyEnd uncut so kept at
+    takes =
     first_breaks max first number a c asks _
     (so ∙ ap (λ (l : List (List ℕ)). asks ++ l) takes.0) kept at takes.1
-broken_asks max first number (Some a) (Some b) None asks ask (errors.LineTooLong line) uncut so kept at takes = absurd takes.0
-broken_asks max first number (Some a) (Some b) (Some c) asks ask (errors.LineTooLong line) uncut so kept at takes =
+broken_asks max first number (Some a) (Some b) None asks ask (errors.LineTooLong line) uncut so kept
+    at takes = absurd takes.0
+broken_asks max first number (Some a) (Some b) (Some c) asks ask (errors.LineTooLong line) uncut so
+    kept at takes =
     first_breaks max first number a c asks _
     (so ∙ ap (λ (l : List (List ℕ)). asks ++ l) takes.0) kept at takes.1
-broken_asks max first number (Some a) (Some b) None asks ask (errors.NotText line) uncut so kept at takes = absurd takes.0
-broken_asks max first number (Some a) (Some b) (Some c) asks ask (errors.NotText line) uncut so kept at takes =
+broken_asks max first number (Some a) (Some b) None asks ask (errors.NotText line) uncut so kept at
+    takes = absurd takes.0
+broken_asks max first number (Some a) (Some b) (Some c) asks ask (errors.NotText line) uncut so kept
+    at takes =
     first_breaks max first number a c asks _
     (so ∙ ap (λ (l : List (List ℕ)). asks ++ l) takes.0) kept at takes.1
-broken_asks max first number (Some a) (Some b) None asks ask errors.TooManyLines uncut so kept at takes = absurd takes.0
-broken_asks max first number (Some a) (Some b) (Some c) asks ask errors.TooManyLines uncut so kept at takes =
+broken_asks max first number (Some a) (Some b) None asks ask errors.TooManyLines uncut so kept at
+    takes = absurd takes.0
+broken_asks max first number (Some a) (Some b) (Some c) asks ask errors.TooManyLines uncut so kept
+    at takes =
     first_breaks max first number a c asks _
     (so ∙ ap (λ (l : List (List ℕ)). asks ++ l) takes.0) kept at takes.1
 
@@ -313,25 +332,31 @@ asks_read max after (Some a) (Some m) (Some c) rules asks (Err errors.OutOfMemor
     absurd (cc)
 asks_read max after (Some a) (Some m) (Some c) rules asks (Err errors.WriteFault) policy so uncut =
     absurd (cc)
-asks_read max after (Some a) (Some m) (Some c) rules asks (Err (errors.BadRule line)) policy so uncut =
+asks_read max after (Some a) (Some m) (Some c) rules asks (Err (errors.BadRule line)) policy so
+    uncut =
     inr (_, policy, refl, so.0, so.1)
 asks_read max after (Some a) (Some m) (Some c) rules asks (Err errors.NoPolicyEnd) policy so uncut =
     inr (_, policy, refl, so.0, so.1)
-asks_read max after (Some a) (Some m) (Some c) rules asks (Err (errors.LineTooLong line)) policy so uncut =
+asks_read max after (Some a) (Some m) (Some c) rules asks (Err (errors.LineTooLong line)) policy so
+    uncut =
     inr (_, policy, refl, so.0, so.1)
-asks_read max after (Some a) (Some m) (Some c) rules asks (Err (errors.NotText line)) policy so uncut =
+asks_read max after (Some a) (Some m) (Some c) rules asks (Err (errors.NotText line)) policy so
+    uncut =
     inr (_, policy, refl, so.0, so.1)
-asks_read max after (Some a) (Some m) (Some c) rules asks (Err errors.TooManyLines) policy so uncut =
+asks_read max after (Some a) (Some m) (Some c) rules asks (Err errors.TooManyLines) policy so uncut
+    =
     inr (_, policy, refl, so.0, so.1)
 
 -- the policy is read, and asks are answered by it
 pub served : (max max' max'' number after : ℕ) (o : List ℕ) (left mid new : Option (List ℕ))
     (rules rules' : List Rule) (seen seen' : Seen) (held held' : Option (List ℕ))
-    (r : Result ℕ GateError) → o ≡ [] → number ≡ 0 → max' ≡ max → max'' ≡ max' → rules' ≡ rules → is_cut r ≡ false
+    (r : Result ℕ GateError) → o ≡ [] → number ≡ 0 → max' ≡ max → max'' ≡ max' → rules' ≡ rules
+    → is_cut r ≡ false
     → ReadsPolicy max' number after (prepend_known o left) mid (Ok rules)
     → ServesAsks max'' (after + 1) mid new rules' seen seen' held held' r
     → Serves max left seen seen' held held' r
-served max max' max'' number after o left mid new rules rules' seen seen' held held' r o_is number_is
+served max max' max'' number after o left mid new rules rules' seen seen' held held' r o_is
+    number_is
     max_is again same uncut reads so =
     let first = subst (λ (x : List ℕ).
     ReadsPolicy max' number after (prepend_known x left) mid (Ok rules)) o_is reads in
