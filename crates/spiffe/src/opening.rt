@@ -265,7 +265,7 @@ where
     } = cells;
     let (feeder, front, first) = on_board(rt, alloc, feeder, publisher_bell)?;
     let pass = placed(first, places)?;
-    let source = X509Source::new(alloc, front, caller, stop, source_bell)?;
+    let source = X509Source::over(alloc, front, caller, stop, source_bell)?;
     let job = X509Job {
         feeder,
         pace,

@@ -1,6 +1,5 @@
 //! Sources that are built over doubles.
 
-use crate::X509SourceBuilder;
 use spf_api::{GrpcStatusCode, GrpcStatusError, LinkFault, Response};
 use spf_feed::{NoPicker, NoRecorder, X509SourceError};
 use spf_io::Text;
@@ -9,6 +8,7 @@ use spf_link::{Answer, MemConnector, MemLink};
 use spf_responses::first_item;
 use spf_system::{MemClock, MemPause};
 use spf_x509_board::{BoardPlaces, RefusingPlaces};
+use spiffe::X509SourceBuilder;
 use std::alloc::Global;
 use std::sync::Wait;
 use std::test::Fail;

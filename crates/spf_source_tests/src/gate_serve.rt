@@ -1,9 +1,8 @@
 //! Inputs that are answered from a source over doubles.
 
-use crate::gate_error::GateError;
-use crate::serve::gate_serve;
 use spf_api::Response;
 use spf_feed::{NoPicker, NoRecorder};
+use spf_gate::{GateError, gate_serve};
 use spf_io::{MemSink, MemSource};
 use spf_job::{InlineSpawner, StepWords};
 use spf_link::{Answer, MemConnector, MemLink};

@@ -4,7 +4,6 @@ ghost use Rattle.std.specs.Prelude.{◌≡◌, ◌≢◌, Some, [], IfOk};
 ghost use Rattle.spf_history.specs.Lists.{steps_of};
 ghost use Rattle.spf_feed.specs.Steps.{MayFollow};
 
-use crate::{X509Source, X509SourceUpdates};
 use spf_api::context_from;
 use spf_close::{Bell, closed_cell};
 use spf_feed::{
@@ -17,6 +16,7 @@ use spf_responses::first_item;
 use spf_system::StopFlag;
 use spf_x509::X509Context;
 use spf_x509_board::{BoardPlaces, Desk, Pass, RefusingPlaces, open};
+use spiffe::{X509Source, X509SourceUpdates};
 use std::alloc::Global;
 use std::sync::{Arc, Wait};
 use std::test::Fail;
@@ -98,7 +98,7 @@ fn opened<R: Wait + Drop>(
     let (caller, _supervisor, _watch) = closed_cell(alloc)?;
     let stop = StopFlag::new(alloc)?;
     let bell = Bell::new(alloc)?;
-    let source = X509Source::new(alloc, desk.front(), caller, stop.try_clone()?, bell)?;
+    let source = X509Source::over(alloc, desk.front(), caller, stop.try_clone()?, bell)?;
     Ok((source, pass, desk, stop))
 }
 

@@ -3,11 +3,10 @@
 ghost use Rattle.std.specs.Prelude.{IsTrue, IfOk};
 ghost use Rattle.spf_feed.specs.Steps.{is_accept};
 
-use crate::answer::write_answer;
-use crate::rule::{Rule, RuleError, parse_rule};
 use spf_api::{context_from_view, read_context_view};
 use spf_feed::{Denial, Prepared, ResourceLimits, Snapshot, Step, X509SourceState};
 use spf_fixtures::octets;
+use spf_gate::{Rule, RuleError, parse_rule, write_answer};
 use spf_x509::X509Context;
 use std::alloc::Global;
 use std::sync::Arc;
