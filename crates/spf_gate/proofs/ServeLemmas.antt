@@ -9,6 +9,7 @@ use Rattle.std.specs.Io.KnownBytes.{Appends, prepend_known}
 use Rattle.std.proofs.KnownBytes.{Appends-trans, Appends-nil}
 use Rattle.std.proofs.lemmas.List.{append-nil}
 use mathlib.Core.List.{IsPrefix}
+use Rattle.spf_history.proofs.Prefixes.{begins_self, begins_trans}
 use Rattle.spf_io.specs.Rule.{◌>>=◌}
 use Rattle.spf_feed.specs.Steps.{StateView}
 use Rattle.spf_x509_board.specs.Passes.{PassView}
@@ -24,15 +25,6 @@ use Rattle.spf_gate.specs.Reading.{Breaks, TakesLine, number_after}
 use Rattle.spf_gate.specs.Serving.{AnswersAsk, AreAnswers, AreAsks, AreRead, Seen, Serves}
 use Rattle.spf_gate.specs.Serving.{ServesAsks, is_cut}
 
-prefix_trans : {A : Type 0} (a b c : List A) → IsPrefix a b → IsPrefix b c → IsPrefix a c
-prefix_trans a b c p q = (
-  p.0 ++ q.0,
-  sym (append_assoc a p.0 q.0) ∙ ap (λ l. l ++ q.0) p.1 ∙ q.1,
-)
-
-prefix_self : {A : Type 0} (a : List A) → IsPrefix a a
-prefix_self a = ([], append-nil a)
-
 -- one more ask is answered
 pub answers_more : (rules : List Rule) (seen mid read : Seen) (asks : List (List ℕ)) (ask : List ℕ)
     (text : List ℕ) (state : StateView) → AreAnswers rules seen asks text mid → IsPrefix mid read
@@ -41,12 +33,12 @@ pub answers_more : (rules : List Rule) (seen mid read : Seen) (asks : List (List
 answers_more rules seen mid read [] ask text state so grows is = (
   read,
   state,
-  prefix_trans seen mid read so.1 grows,
+  begins_trans seen mid read so.1 grows,
   is,
   [],
   ap (λ (l : List ℕ). l ++ answer_line rules state ask) so.0
       ∙ sym (append-nil (answer_line rules state ask)),
-  (refl, prefix_self read),
+  (refl, begins_self read),
 )
 answers_more rules seen mid read (x ∷ asks) ask text state so grows is = (
   so.0,
@@ -115,7 +107,7 @@ asking_none max number old rules seen held = record {
   asks = [];
   text = [];
   written = Appends-nil held;
-  answers = (refl, prefix_self seen);
+  answers = (refl, begins_self seen);
   number_is = omega arith;
   kept = refl;
   remains = remains_all old;
@@ -312,7 +304,7 @@ refused_policy max max' number after o left new seen held e o_is number_is max_i
       asks = [];
       text = [];
       written = Appends-nil held;
-      answers = (refl, prefix_self seen);
+      answers = (refl, begins_self seen);
       read = policy_error max after left new e third uncut;
     }
 
@@ -385,12 +377,12 @@ retake max max' number old new line r same takes =
 pub sees_more : (a b c : PassView) → SeesNoLess a b → SeesNoLess b c → SeesNoLess a c
 sees_more a b c first second = record {
   book = second.book ∙ first.book;
-  seen = prefix_trans a.seen b.seen c.seen first.seen second.seen;
-  entered = prefix_trans a.entered b.entered c.entered first.entered second.entered;
+  seen = begins_trans a.seen b.seen c.seen first.seen second.seen;
+  entered = begins_trans a.entered b.entered c.entered first.entered second.entered;
 }
 
 pub sees_same : (a : PassView) → SeesNoLess a a
-sees_same a = record { book = refl; seen = prefix_self a.seen; entered = prefix_self a.entered }
+sees_same a = record { book = refl; seen = begins_self a.seen; entered = begins_self a.entered }
 
 -- an error is the same in results of any kind
 pub retyped : {A B : Type 0} (e f : GateError) → IsErrOf {T = A} (Err e) f

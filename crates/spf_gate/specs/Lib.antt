@@ -1,4 +1,5 @@
 pub mod Answers
+pub mod Ends
 pub mod Lines
 pub mod Policies
 pub mod Reading

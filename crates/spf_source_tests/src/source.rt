@@ -86,7 +86,7 @@ fn tries(source: &X509Source, pass: &mut Pass, trust_domain: &TrustDomain) -> (b
 }
 
 /// An open source, with what sets its mark and a pass of its board.
-fn opened<R: Wait + Drop>(
+pub(crate) fn opened<R: Wait + Drop>(
     rt: R,
     alloc: Global,
 ) -> Result<(X509Source, Pass, Desk<R>, StopFlag), Fail>
@@ -151,7 +151,7 @@ fn updates_of_a_source(rt: HostRuntime) -> Result<(), Fail> {
 }
 
 /// Publishes a denial.
-fn withdraw<R: Wait + Drop>(alloc: Global, desk: &mut Desk<R>) -> Result<(), OutOfMemory>
+pub(crate) fn withdraw<R: Wait + Drop>(alloc: Global, desk: &mut Desk<R>) -> Result<(), OutOfMemory>
     requires { steps_of desk.old.list ≢ [] }
 {
     let reason = Arc::new(alloc, Denial::NoIdentityIssued)?;

@@ -2,6 +2,8 @@
 
 ghost use Rattle.std.specs.Prelude.{◌≡◌, ◌≤◌, Err, IfErr, IfOk, None, Ok, Some};
 ghost use Rattle.std.specs.Option.{ForSome};
+ghost use Rattle.spf_feed.specs.Limits.{default_limits};
+ghost use Rattle.spf_feed.specs.declared.ready.Ready.TheVariants as readiness;
 ghost use Rattle.spiffe.specs.Building.{BuildFails, IsAssigned, IsBuilt, PrepareFails};
 
 use crate::handle::{PendingHandle, SupervisorHandle};
@@ -51,7 +53,11 @@ impl<C: Connector + Drop> X509SourceBuilder<NoPicker, C, NoRecorder> {
     /// Pauses of 200 ms to 10 s between attempts, the default limits, ready with a usable SVID, a
     /// shutdown that takes at most 30 s, and no limit of the initial synchronisation.
     pub fn new(connector: C) -> X509SourceBuilder<NoPicker, C, NoRecorder>
-        ensures { result.connector ≡ connector }
+        ensures connector { result.connector ≡ connector }
+        ensures settings { (result.settings.picker ≡ None)
+            × (result.settings.limits ≡ default_limits)
+            × (result.settings.ready ≡ readiness.Usable)
+            × (result.settings.timeout ≡ None) }
     {
         X509SourceBuilder {
             settings: Settings {

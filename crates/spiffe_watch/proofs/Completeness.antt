@@ -16,7 +16,7 @@ use Rattle.spiffe_watch.specs.declared.arguments.Command.{Command}
 use Rattle.spiffe_watch.specs.declared.arguments.Command.TheVariants as commands
 use Rattle.spiffe_watch.specs.Causes.{HasCauses}
 use Rattle.spiffe_watch.specs.Setting.{Setting}
-use Rattle.spiffe_watch.specs.Streams.{Failed, Streams}
+use Rattle.spf_program.specs.Streams.{Failed, Streams}
 use Rattle.spiffe_watch.specs.Headline.{rules_for, FollowsSession, Does, ended_by, status_of_end}
 use Rattle.spiffe_watch.specs.Headline.{IsWholeSession, Completes}
 

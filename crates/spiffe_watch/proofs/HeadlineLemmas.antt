@@ -10,7 +10,7 @@ use Rattle.spf_view.specs.Sessions.{GrowsUpTo, Followed}
 use Rattle.spf_feed.specs.Items.{Event, Rules}
 use Rattle.spf_feed.specs.Run.{stream, outputs, end_for}
 use Rattle.spiffe_watch.specs.Setting.{Setting}
-use Rattle.spiffe_watch.specs.Streams.{Streams}
+use Rattle.spf_program.specs.Streams.{Streams}
 use Rattle.spf_view.proofs.FollowLemmas.{followed_early}
 use Rattle.spf_feed.specs.declared.follow_error.FollowError.{FollowError}
 use Rattle.spf_feed.specs.declared.follow_error.FollowError.TheVariants as errors

@@ -5,8 +5,8 @@ use Rattle.std.specs.Option.{option_map}
 use Rattle.spf_feed.specs.declared.ready.Ready.{Ready}
 use Rattle.spf_feed.specs.declared.ready.Ready.TheVariants as readiness
 use Rattle.spiffe_watch.specs.Setting.{default_setting}
-use Rattle.spiffe_watch.specs.Arguments.{are_options, option_in, limit_in, moment_in, number_in}
-use Rattle.spiffe_watch.specs.Arguments.{ready_in, x509_setting}
+use Rattle.spf_program.specs.Numbers.{moment_in, number_in}
+use Rattle.spiffe_watch.specs.Arguments.{are_options, option_in, limit_in, ready_in, x509_setting}
 
 pub setting_read : (arguments : List (List ℕ)) (a b c d : Option ℕ) (e : Option ℤ) (f : ℕ)
     (g : Option (List ℕ)) (h : Ready)

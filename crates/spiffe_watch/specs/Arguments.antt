@@ -1,43 +1,16 @@
 -- What the arguments of the command line mean.
-use Rattle.std.specs.Prelude.{ℕ, ◌-◌, ◌^◌, ℤ, pos, Bool, true, false, ◌&&◌, ◌||◌, not, List, []}
-use Rattle.std.specs.Prelude.{◌∷◌, length, Option, None, Some, nat_lt, ◌==◌, if◌then◌else◌, codes}
-use Rattle.std.specs.Char.{is_ascii_digit}
-use Rattle.std.specs.List.{list_all}
+use Rattle.std.specs.Prelude.{ℕ, Bool, true, false, ◌&&◌, ◌||◌, not, List, [], ◌∷◌, Option, None}
+use Rattle.std.specs.Prelude.{Some, if◌then◌else◌, codes}
 use Rattle.std.specs.Option.{option_map}
 use Rattle.std.specs.Str.{bytes_eq}
-use Rattle.std.specs.Str.Parse.{digits_value}
 use Rattle.spf_io.specs.Option.{◌>>=◌}
 use Rattle.spf_feed.specs.declared.ready.Ready.{Ready}
 use Rattle.spf_feed.specs.declared.ready.Ready.TheVariants as ready
+use Rattle.spf_program.specs.Numbers.{number_up_to, number_in, moment_in}
 use Rattle.spiffe_watch.specs.Setting.{Setting, default_setting}
 use Rattle.spiffe_watch.specs.declared.arguments.Command.{Command}
 use Rattle.spiffe_watch.specs.declared.arguments.Command.TheVariants as commands
 use Rattle.spiffe_watch.specs.declared.arguments.MakeArguments.{MakeArguments}
-
--- a zero before a further digit
-abbrev pub leads_with_zero : List ℕ → Bool
-leads_with_zero (digit ∷ next ∷ digits) = digit == 48
-leads_with_zero _ = false
-
--- decimal digits, at least one, without a leading zero
-unfoldable pub is_numeral : List ℕ → Bool
-is_numeral text =
-    (not (length text == 0)) && (list_all is_ascii_digit text && not (leads_with_zero text))
-
--- the number that a text spells, where it is at most `max`
-unfoldable pub number_up_to : ℕ → List ℕ → Option ℕ
-number_up_to max text =
-    if not (is_numeral text) then None
-    else (if nat_lt max (digits_value 10 text) then None
-    else Some (digits_value 10 text))
-
--- a number, at most 2^63 - 1
-abbrev pub number_in : List ℕ → Option ℕ
-number_in text = number_up_to (2 ^ 63 - 1) text
-
--- a moment, in Unix seconds
-abbrev pub moment_in : List ℕ → Option ℤ
-moment_in text = option_map pos (number_in text)
 
 -- a limit: a number, or `none`
 unfoldable pub limit_in : List ℕ → Option (Option ℕ)

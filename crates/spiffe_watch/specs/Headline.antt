@@ -15,11 +15,12 @@ use Rattle.spiffe_watch.specs.declared.arguments.Command.{Command}
 use Rattle.spiffe_watch.specs.declared.arguments.Command.TheVariants as commands
 use Rattle.spiffe_watch.specs.declared.exit_reason.ExitReason.TheVariants as reasons
 use Rattle.spiffe_watch.specs.declared.arguments.MakeArguments.{MakeArguments}
-use Rattle.spiffe_watch.specs.Causes.{IsReported, reason_line, reason_of_error, is_output_failure}
+use Rattle.spf_program.specs.Reports.{IsReported}
+use Rattle.spiffe_watch.specs.Causes.{reason_line, reason_of_error, is_output_failure}
 use Rattle.spiffe_watch.specs.Causes.{status}
 use Rattle.spiffe_watch.specs.MadeSession.{made_session}
 use Rattle.spiffe_watch.specs.Setting.{Setting, default_setting}
-use Rattle.spiffe_watch.specs.Streams.{Failed, Streams}
+use Rattle.spf_program.specs.Streams.{Failed, Streams}
 use Rattle.spiffe_watch.specs.Summary.{summary}
 
 -- the rules of a session of a setting: a hint, where one is set, picks the first SVID that has it

@@ -1,9 +1,8 @@
 //! The arguments of the command line.
 
-ghost use Rattle.std.specs.Prelude.{◌≡◌, ◌≤◌, None, Some, map, string_bytes};
-ghost use Rattle.std.specs.Char.{is_ascii_digit};
-ghost use Rattle.std.specs.List.{list_all};
-ghost use Rattle.std.specs.Option.{option_map, option_copied, ForSome};
+ghost use Rattle.std.specs.Prelude.{◌≡◌, None, Some, map, string_bytes};
+ghost use Rattle.std.specs.Option.{option_map, option_copied};
+ghost use Rattle.spf_program.specs.Numbers.{moment_in, number_in};
 ghost use Rattle.spiffe_watch.specs.Arguments.{
   command_in,
   make_arguments_in,
@@ -14,21 +13,15 @@ ghost use Rattle.spiffe_watch.specs.Arguments.{
   at_most_one,
   option_in,
   limit_in,
-  moment_in,
-  number_in,
   ready_in,
-  is_numeral as numeral_rule,
-  number_up_to as number_in_up_to,
 };
 
 use spf_feed::{Ready, ResourceLimits};
+use spf_program::{MAX_NUMBER, moment, number_up_to};
 use std::marker::Model;
 
 /// The default of `--max-frames`.
 pub(crate) const DEFAULT_MAX_FRAMES: u64 = 1_000_000;
-
-/// The max number that an argument may spell.
-const MAX_NUMBER: u64 = i64::MAX as u64;
 
 /// The max number of operations of a generated session.
 const MAX_OPERATIONS: u64 = 10_000;
@@ -237,46 +230,6 @@ fn ready_option(arguments: &[String], option: &str, absent: Ready) -> Option<Rea
         None => Some(absent),
         Some(value) => ready(value),
     }
-}
-
-/// Whether all bytes are decimal digits.
-fn all_digits(text: &[u8]) -> bool
-    ensures { result ≡ list_all is_ascii_digit text.now }
-{
-    text.iter().all(|digit| digit.is_ascii_digit())
-}
-
-/// Whether a text is decimal digits, at least one, without a leading zero.
-#[tactic(auto, unfolding(crate::specs::Arguments::is_numeral))]
-fn is_numeral(text: &[u8]) -> bool
-    ensures { result ≡ numeral_rule text.now }
-{
-    match text {
-        [] => false,
-        [b'0', _, ..] => false,
-        _ => all_digits(text),
-    }
-}
-
-/// The number that a text spells, where it is at most `max`.
-pub(crate) fn number_up_to(max: u64, text: &str) -> Option<u64>
-    ensures value { result ≡ number_in_up_to max text.now }
-    ensures bound { ForSome result (λ n. n ≤ max) }
-{
-    if !is_numeral(text.as_bytes()) {
-        return None;
-    }
-    match text.parse::<u64>() {
-        Ok(number) if number <= max => Some(number),
-        _ => None,
-    }
-}
-
-/// A moment, in Unix seconds.
-fn moment(text: &str) -> Option<i64>
-    ensures { result ≡ moment_in text.now }
-{
-    Some(number_up_to(MAX_NUMBER, text)? as i64)
 }
 
 /// A limit: a number, or `none`.

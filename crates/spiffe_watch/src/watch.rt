@@ -9,7 +9,7 @@ ghost use Rattle.spiffe_watch.specs.Causes.{HasCauses, is_bad_arguments};
 ghost use Rattle.spiffe_watch.specs.Headline.{FollowsSession, Does, Ended, Headline, Completes};
 ghost use Rattle.spiffe_watch.specs.Headline.{Puts, ended_by};
 ghost use Rattle.spiffe_watch.specs.MadeSession.{made_session};
-ghost use Rattle.spiffe_watch.specs.Streams.{Side, Streams, side};
+ghost use Rattle.spf_program.specs.Streams.{Side, Streams, side};
 ghost use Rattle.spiffe_watch.specs.declared.exit_reason.ExitReason.TheVariants as reasons;
 
 use crate::arguments::{Command, MakeArguments, X509Arguments, parse_command};

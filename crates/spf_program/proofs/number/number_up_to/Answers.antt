@@ -1,7 +1,7 @@
 use Rattle.std.proofs.Common.{◌≡◌, sym, true, false, arith}
-use Rattle.spf_proto.specs.Arguments.{is_numeral}
-use Rattle.spf_proto.proofs.Numbers.{number_missing, number_read, number_over, number_refused}
-use Rattle.spf_proto.proofs.arguments.number_up_to.Goals as goal
+use Rattle.spf_program.specs.Numbers.{is_numeral}
+use Rattle.spf_program.proofs.Numbers.{number_missing, number_read, number_over, number_refused}
+use Rattle.spf_program.proofs.number.number_up_to.Goals as goal
 
 pub returns-then-not-is_numeral-clause-value : goal.returns-then-not-is_numeral-clause-value
 returns-then-not-is_numeral-clause-value c =

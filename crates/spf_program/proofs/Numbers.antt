@@ -10,7 +10,7 @@ use Rattle.std.specs.Str.Parse.{ParsesUnsigned, digits_value}
 use Rattle.std.proofs.lemmas.Bool.Decides.{nat_tests}
 use Rattle.std.proofs.lemmas.Bool.{cases_lt, and_parts}
 use Rattle.std.proofs.lemmas.Str.Parse.{parse_digits, numerals_by_value, tells_all_ascii_digits}
-use Rattle.spf_proto.specs.Arguments.{is_numeral, leads_with_zero, number_up_to}
+use Rattle.spf_program.specs.Numbers.{is_numeral, leads_with_zero, number_up_to}
 
 same_digits : (ds : List ℕ) → list_all is_ascii_digit ds ≡ all_ascii_digits ds
 same_digits [] = refl
