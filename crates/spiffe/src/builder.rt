@@ -54,10 +54,10 @@ impl<C: Connector + Drop> X509SourceBuilder<NoPicker, C, NoRecorder> {
     /// shutdown that takes at most 30 s, and no limit of the initial synchronisation.
     pub fn new(connector: C) -> X509SourceBuilder<NoPicker, C, NoRecorder>
         ensures connector { result.connector ≡ connector }
-        ensures settings { (result.settings.picker ≡ None)
+        ensures timeout { result.settings.timeout ≡ None }
+        ensures rules { (result.settings.picker ≡ None)
             × (result.settings.limits ≡ default_limits)
-            × (result.settings.ready ≡ readiness.Usable)
-            × (result.settings.timeout ≡ None) }
+            × (result.settings.ready ≡ readiness.Usable) }
     {
         X509SourceBuilder {
             settings: Settings {
