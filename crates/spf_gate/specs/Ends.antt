@@ -1,5 +1,5 @@
 -- How a live run of the gate ends: its exit status, and its line on the error output.
-use Rattle.std.specs.Prelude.{ℕ, List, [], codes, Option, None, Some, Result, Ok, Err}
+use Rattle.std.specs.Prelude.{ℕ, Bool, true, false, List, [], codes, Option, None, Some, Result, Ok, Err}
 use Rattle.spf_feed.specs.declared.state.X509SourceError.{X509SourceError}
 use Rattle.spf_feed.specs.declared.state.X509SourceError.TheVariants as source
 use Rattle.spf_program.specs.Reports.{failure_line}
@@ -15,6 +15,11 @@ error_of (source.UnsupportedRpc e) = errors.Unsupported
 error_of source.NoSupervisor = errors.NoSupervisor
 error_of source.NoPlace = errors.NoPlace
 error_of _ = errors.Gate gate.OutOfMemory
+
+-- whether a run ended since there were arguments
+abbrev pub is_bad_arguments : LiveGateError → Bool
+is_bad_arguments errors.BadArguments = true
+is_bad_arguments _ = false
 
 abbrev pub gate_number : GateError → ℕ
 gate_number gate.ReadFault = 1

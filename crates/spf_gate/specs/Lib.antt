@@ -1,6 +1,7 @@
 pub mod Answers
 pub mod Ends
 pub mod Lines
+pub mod Live
 pub mod Policies
 pub mod Reading
 pub mod Rules
