@@ -3,46 +3,19 @@
 ghost use Rattle.std.specs.Prelude.{◌≡◌, ◌≢◌, [], All, IfOk, OnOk};
 ghost use Rattle.spf_history.specs.Lists.{steps_of};
 
+use crate::bench_error::BenchError;
 use crate::board::opened;
 use crate::item::first_context;
 use crate::publishing::publish_until;
 use crate::reader::{Call, Reader};
 use spf_io::{OutOfMemory, Sink};
 use spf_system::StopFlag;
-use spf_x509_board::{BoardPlaces, Desk, Pass};
+use spf_x509_board::{Desk, Pass};
 use spiffe::X509Source;
-use std::alloc::{AllocError, AllocFailed, Global};
+use std::alloc::Global;
 use std::sync::{Arc, Wait};
 use std::thread::{self, JoinHandle, Threads};
 use std::time::{Clock, Duration, Instant};
-
-/// Why nothing was measured.
-#[derive(Clone, Copy, Debug, PartialEq, Eq)]
-pub(crate) enum BenchError {
-    BadArguments,
-    OutOfMemory,
-    WriteFailed,
-    NoThread,
-    NoClock,
-}
-
-impl From<OutOfMemory> for BenchError {
-    fn from(_e: OutOfMemory) -> BenchError {
-        BenchError::OutOfMemory
-    }
-}
-
-impl From<AllocError> for BenchError {
-    fn from(_e: AllocError) -> BenchError {
-        BenchError::OutOfMemory
-    }
-}
-
-impl<T: Drop> From<AllocFailed<T>> for BenchError {
-    fn from(_e: AllocFailed<T>) -> BenchError {
-        BenchError::OutOfMemory
-    }
-}
 
 type Reading = JoinHandle<Option<(Duration, u64)>>;
 
@@ -57,14 +30,7 @@ fn start_reader<R: Threads + Wait + Clock + Copy + Drop + Send + 'static>(
     requires { pass.old.book ≡ source.old.board }
     ensures { (pass.new.book ≡ pass.old.book) × (source.new.board ≡ source.old.board) }
 {
-    let other = match source.another_pass(pass, &mut BoardPlaces::new()) {
-        Ok(other) => other,
-        Err(_) => return Err(BenchError::OutOfMemory),
-    };
-    let reader = Reader {
-        source: source.try_clone()?,
-        pass: other,
-    };
+    let reader = Reader::new(source, pass)?;
     match thread::spawn(&rt, move || reader.run(&rt, call, reads)) {
         Ok(handle) => Ok(handle),
         Err(_) => Err(BenchError::NoThread),

@@ -2,8 +2,12 @@
 
 ghost use Rattle.std.specs.Prelude.{◌≡◌};
 
-use spf_x509_board::Pass;
+use crate::storm::{Steps, read_until};
+use spf_io::OutOfMemory;
+use spf_system::StopFlag;
+use spf_x509_board::{BoardPlaces, Pass};
 use spiffe::X509Source;
+use std::sync::Wait;
 use std::time::{Clock, Duration, Instant};
 
 /// A read of a source.
@@ -48,6 +52,30 @@ fn read_all(source: &X509Source, pass: &mut Pass, call: Call, reads: u64) -> u64
 }
 
 impl Reader {
+    /// Another handle and another pass of the source.
+    pub(crate) fn new(source: &mut X509Source, pass: &mut Pass) -> Result<Reader, OutOfMemory>
+        requires { pass.old.book ≡ source.old.board }
+        ensures { (pass.new.book ≡ pass.old.book) × (source.new.board ≡ source.old.board) }
+    {
+        match source.another_pass(pass, &mut BoardPlaces::new()) {
+            Ok(pass) => Ok(Reader {
+                source: source.try_clone()?,
+                pass,
+            }),
+            Err(_) => Err(OutOfMemory),
+        }
+    }
+
+    /// Checks reads until the flag is set, and returns how often; none where one was not sound.
+    pub(crate) fn watch(self, rt: &impl Wait, steps: &Steps, stop: &StopFlag) -> Option<u64> {
+        let Reader {
+            source,
+            mut pass,
+            ..
+        } = self;
+        read_until(rt, &source, &mut pass, steps, stop)
+    }
+
     /// How long the reads take, and how many gave something.
     pub(crate) fn run(self, clock: &impl Clock, call: Call, reads: u64) -> Option<(Duration, u64)> {
         let Reader {
