@@ -2,10 +2,10 @@
 //! and lines of their failures.
 #![tactic(auto)]
 
+mod failure;
 mod follow_failure;
 mod number;
-mod report;
 
+pub use failure::report;
 pub use follow_failure::{follow_message, follow_number, follow_status};
 pub use number::{MAX_NUMBER, moment, number_up_to};
-pub use report::report;

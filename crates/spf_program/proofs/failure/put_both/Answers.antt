@@ -1,6 +1,6 @@
 use Rattle.std.proofs.lemmas.Result.{err_from_is_err_and}
 use Rattle.spf_program.proofs.Pieces.{first_failed, then_second}
-use Rattle.spf_program.proofs.report.put_both.Goals as goal
+use Rattle.spf_program.proofs.failure.put_both.Goals as goal
 
 pub returns-in_err-put-clause-bytes : goal.returns-in_err-put-clause-bytes
 returns-in_err-put-clause-bytes g c =
