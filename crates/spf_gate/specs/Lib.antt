@@ -1,7 +1,5 @@
 pub mod Answers
-pub mod Ends
 pub mod Lines
-pub mod Live
 pub mod Policies
 pub mod Reading
 pub mod Rules

@@ -1,7 +1,7 @@
 -- Rules of a policy: how they are written, and which IDs they match.
 use Rattle.std.specs.Prelude.{ℕ, Bool, true, false, ◌||◌, ◌&&◌, ◌==◌, List, length, take}
 use Rattle.std.specs.Prelude.{drop, codes}
-use Rattle.std.specs.Prelude.{Option, Some, None, Result, nat_eq, if◌then◌else◌}
+use Rattle.std.specs.Prelude.{Option, Some, None, Result, Ok, Err, nat_eq, if◌then◌else◌}
 use Rattle.std.specs.List.{starts_with}
 use Rattle.std.specs.Option.{option_map}
 use Rattle.std.specs.Str.{bytes_eq}

@@ -4,8 +4,6 @@
 mod answer;
 mod gate_error;
 mod line_reader;
-mod live;
-mod live_error;
 mod policy;
 mod rule;
 mod serve;
@@ -13,8 +11,6 @@ mod verdict;
 
 pub use answer::write_answer;
 pub use gate_error::GateError;
-pub use live::{gate_live, serve_and_join};
-pub use live_error::{LiveGateError, error_of, report};
 pub use rule::{Pattern, Rule, RuleError, parse_rule};
 pub use serve::gate_serve;
 pub use verdict::{Verdict, decide};

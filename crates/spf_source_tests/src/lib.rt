@@ -8,8 +8,6 @@ mod gate;
 #[cfg(test)]
 mod gate_late;
 #[cfg(test)]
-mod gate_live;
-#[cfg(test)]
 mod gate_serve;
 #[cfg(test)]
 mod source;
