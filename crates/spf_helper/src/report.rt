@@ -1,6 +1,6 @@
 //! The exit status of an error, and its line on the error output.
 
-ghost use Rattle.std.specs.Prelude.{◌≡◌, ◌++◌, ◌∷◌, [], codes};
+ghost use Rattle.std.specs.Prelude.{◌≡◌, ◌++◌};
 ghost use Rattle.spf_io.specs.Outside.{HasCause, PutAppends};
 ghost use Rattle.spf_helper.specs.Watching.{follow_status, status, follow_text, text, number_text};
 ghost use Rattle.spf_helper.specs.Watching.{error_line, status_of_end, line_of_end, IsReported};
