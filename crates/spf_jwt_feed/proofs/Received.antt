@@ -1,0 +1,68 @@
+-- The item that was read is the one that the response brings.
+use Rattle.std.proofs.Common.{◌≡◌, Bool, true, false, cond, Result, Ok, Err, Option, Some, sym, ap}
+use Rattle.std.proofs.Common.{◌∙◌, refl}
+use Rattle.std.specs.Prelude.{ℕ, List, IsErr, length, ◌==◌, IfOk}
+use Rattle.spf_io.specs.declared.memory.OutOfMemory.{OutOfMemory}
+use Rattle.std.specs.Option.{option_map}
+use Rattle.spf_io.specs.Rule.{Gives, broken_as}
+use Rattle.spf_api.specs.declared.response.BundlesResponse.{BundlesResponse}
+use Rattle.spf_api.specs.declared.error.WorkloadApiError.{WorkloadApiError}
+use Rattle.spf_api.specs.declared.error.WorkloadApiError.TheVariants as api
+use Rattle.spf_api.specs.Errors.{is_memory_api}
+use Rattle.spf_jwt.specs.Errors.{api_of_any_kind}
+use Rattle.spf_jwt.specs.Responses.{jwt_bundle_set_of}
+use Rattle.spf_jwt_feed.specs.declared.event.JwtItem.{JwtItem}
+use Rattle.spf_jwt_feed.specs.declared.event.JwtItem.TheVariants as item
+use Rattle.spf_jwt_feed.specs.Items.{item_by, item_in, IsReceived}
+use Rattle.spf_jwt_feed.specs.Steps.{BundleSet}
+
+found : (rule : Result BundleSet WorkloadApiError) (set : BundleSet) (i : JwtItem)
+    (q : Result JwtItem OutOfMemory) → q ≡ Ok i → rule ≡ Ok set → q ≡ Ok (item.Bundles set)
+    → i ≡ item_by rule
+found rule set i q p is said = let same : i ≡ item.Bundles set = cc in same ∙ sym (ap item_by is)
+
+broken : (rule : Result BundleSet WorkloadApiError) (e : WorkloadApiError) (i : JwtItem)
+    (q : Result JwtItem OutOfMemory) → q ≡ Ok i → rule ≡ Err e → q ≡ Ok item.Broken
+    → i ≡ item_by rule
+broken rule e i q p is said = let same : i ≡ item.Broken = cc in same ∙ sym (ap item_by is)
+
+unread : (rule : Result BundleSet WorkloadApiError) (i : JwtItem) (q : Result JwtItem OutOfMemory)
+    → q ≡ Ok i → IsErr q → i ≡ item_by rule
+unread rule i (Ok y) p bad = absurd cc
+unread rule i (Err e) p bad = absurd cc
+
+-- what was read, where it is what the rule says
+pub read_by : (rule parsed : Result BundleSet WorkloadApiError) (i : JwtItem)
+    (q : Result JwtItem OutOfMemory) → q ≡ Ok i
+    → Gives is_memory_api (λ s. s) (broken_as api_of_any_kind parsed) rule → IsReceived parsed q
+    → i ≡ item_by rule
+read_by rule (Ok set) i q p given is = found rule set i q p given is
+read_by rule (Err api.OutOfMemory) i q p given is = unread rule i q p is
+read_by rule (Err api.MissingEndpointSocket) i q p given is = broken rule _ i q p given is
+read_by rule (Err api.NotUnicodeEndpointSocket) i q p given is = broken rule _ i q p given is
+read_by rule (Err api.EmptyResponse) i q p given is = broken rule _ i q p given is
+read_by rule (Err (api.MissingRequiredField f)) i q p given is = broken rule _ i q p given is
+read_by rule (Err (api.InvalidResponseField f)) i q p given is = broken rule _ i q p given is
+read_by rule (Err (api.Endpoint f)) i q p given is = broken rule _ i q p given is
+read_by rule (Err api.NoIdentityIssued) i q p given is = broken rule _ i q p given is
+read_by rule (Err (api.PermissionDenied f)) i q p given is = broken rule _ i q p given is
+read_by rule (Err (api.HintNotFound f)) i q p given is = broken rule _ i q p given is
+read_by rule (Err (api.Transport f)) i q p given is = broken rule _ i q p given is
+read_by rule (Err (api.X509Svid f)) i q p given is = broken rule _ i q p given is
+read_by rule (Err (api.JwtSvid f)) i q p given is = broken rule _ i q p given is
+read_by rule (Err (api.X509Bundle f)) i q p given is = broken rule _ i q p given is
+read_by rule (Err (api.JwtBundle f)) i q p given is = broken rule _ i q p given is
+read_by rule (Err (api.SpiffeId f)) i q p given is = broken rule _ i q p given is
+
+pub item_empty : (r : BundlesResponse) → (length r.bundles == 0) ≡ true → item.Empty ≡ item_in r
+unfolding item_in
+item_empty r is = ap (λ b. cond b item.Empty (item_by (jwt_bundle_set_of r))) (sym is)
+
+pub item_read : (r : BundlesResponse) (parsed : Result BundleSet WorkloadApiError) (i : JwtItem)
+    (q : Result JwtItem OutOfMemory) → q ≡ Ok i → (length r.bundles == 0) ≡ false
+    → Gives is_memory_api (λ s. s) (broken_as api_of_any_kind parsed) (jwt_bundle_set_of r)
+    → IsReceived parsed q → i ≡ item_in r
+unfolding item_in
+item_read r parsed i q p some given is =
+    read_by (jwt_bundle_set_of r) parsed i q p given is
+    ∙ ap (λ b. cond b item.Empty (item_by (jwt_bundle_set_of r))) (sym some)
