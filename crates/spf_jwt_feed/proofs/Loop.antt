@@ -472,7 +472,7 @@ pub loop_on : (rules : Rules) (max_frames : ℕ) (old cur new : Sides) (count : 
 loop_on rules max_frames old cur new count kept kept' phase phase' line line' put_line b synced
     received at read through lined put going began asks text =
     let e = read.event in
-    let open : closes e ≡ false =
+    let going_on : closes e ≡ false =
     closes-map_item item_in e ∙ ap closes (sym read.is) ∙ going in
     let asked : phase' ≡ asked_by (λ i. i) phase (is_some kept) (map_item item_in e) =
     asks ∙ ap (λ x. received_ask phase x received) began
@@ -483,7 +483,7 @@ loop_on rules max_frames old cur new count kept kept' phase phase' line line' pu
       so_far = goes_on (stream rules) (outputs rules) max_frames old cur new at.past count e
           at.so_far
           (next_of rules max_frames old cur count kept phase line new.left received at read)
-          through.none open
+          through.none going_on
           (added rules at.past e cur new count kept kept' line' b through lined put);
       at = lined.at;
       asks = (λ i.

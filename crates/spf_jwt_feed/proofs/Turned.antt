@@ -63,7 +63,8 @@ turn_at rules past now kept e turn at h =
     (records_by item_in (has_synced (subject rules) past) rules.limits e) turn) (sym becomes)
     (subst (λ t.
     IsTurn (refusal_by rules.deadline (is_some kept) (map_item item_in e))
-    (outcome_with (subject_by (λ i. i) rules.limits) (is_some kept) None (map_item item_in e)) t turn)
+    (outcome_with (subject_by (λ i. i) rules.limits) (is_some kept) None (map_item item_in e)) t
+    turn)
     (sym recorded) h))
 
 -- ---- the records of an accepted item

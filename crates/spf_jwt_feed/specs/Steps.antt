@@ -1,5 +1,6 @@
 -- Steps without their sharing, and what they make visible.
-use Rattle.std.specs.Prelude.{◌≢◌, ℕ, Bool, true, false, IsTrue, List, [], Option, None, Some, is_ok}
+use Rattle.std.specs.Prelude.{◌≢◌, ℕ, Bool, true, false, IsTrue, List, [], Option, None, Some}
+use Rattle.std.specs.Prelude.{is_ok}
 use Rattle.std.specs.Arc.{arc_value}
 use Rattle.spf_view.specs.Steps.{Step, Accept, Deny}
 use Rattle.spf_jwt.specs.Bundle.{Bundle}

@@ -147,10 +147,7 @@ fn publish<P: JwtPublisher>(
 }
 
 /// An update is recorded where something else than before is visible.
-fn record_change<M: JwtMetricsRecorder>(
-    recorder: &mut M,
-    change: Change,
-) -> Result<(), OutOfMemory>
+fn record_change<M: JwtMetricsRecorder>(recorder: &mut M, change: Change) -> Result<(), OutOfMemory>
     ensures { HandsOn (M.records recorder.old) (M.records recorder.new) result (update_of change) }
 {
     match change {

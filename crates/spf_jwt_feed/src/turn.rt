@@ -95,10 +95,7 @@ fn limit_error(kind: JwtLimitKind) -> JwtMetricsErrorKind
 pub(crate) enum Turn {
     Terminal(Terminal),
     Accepted(JwtBundleSet),
-    Denied {
-        reason: Denial,
-        records: Records,
-    },
+    Denied { reason: Denial, records: Records },
     Passed(Records),
 }
 

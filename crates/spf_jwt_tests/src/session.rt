@@ -47,7 +47,10 @@ static NAMES: [(&str, &str); 8] = [
          3a226b222c226e223a2230313233343536373839303132333435363738393031323334353637 \
          227d5d7d",
     ),
-    ("NOKEYS", "05 00000019 000000010000000b6578616d706c652e6f7267000000027b7d"),
+    (
+        "NOKEYS",
+        "05 00000019 000000010000000b6578616d706c652e6f7267000000027b7d",
+    ),
     ("NOSETS", "05 00000004 00000000"),
 ];
 
@@ -128,7 +131,13 @@ fn left_by(alloc: Global, frames: &str, mut publisher: MemJwtPublisher) -> Resul
     let mut sink = MemSink::new(alloc, 65536, Vec::new(alloc))?;
     let mut recorder = MemJwtRecorder::new(alloc);
     let answer = follow(alloc, frames, &mut sink, &mut publisher, &mut recorder);
-    text_of(alloc, sink.bytes(), answer, publisher.steps(), recorder.records())
+    text_of(
+        alloc,
+        sink.bytes(),
+        answer,
+        publisher.steps(),
+        recorder.records(),
+    )
 }
 
 /// A name, the frames, and what a run leaves.
@@ -143,11 +152,7 @@ static SESSIONS: [(&str, &str, &str); 9] = [
         "CM CN CL",
         "1 waiting\n2 waiting\nclosed []",
     ),
-    (
-        "deadline",
-        "M5 M999",
-        "1 waiting\ntimed out []",
-    ),
+    ("deadline", "M5 M999", "1 waiting\ntimed out []"),
     (
         "another-kind-of-item",
         "CM CN I1",
@@ -204,7 +209,11 @@ fn sessions(rt: HostRuntime) -> Result<(), Fail> {
 #[test]
 fn refusing_publisher(rt: HostRuntime) -> Result<(), Fail> {
     let alloc = rt.alloc();
-    let left = left_by(alloc, "CM CN SET1 CM CN SET2", MemJwtPublisher::refusing(alloc, 2))?;
+    let left = left_by(
+        alloc,
+        "CM CN SET1 CM CN SET2",
+        MemJwtPublisher::refusing(alloc, 2),
+    )?;
     let wanted = "1 waiting\n2 waiting\n3 0 permitted P1\n4 0 permitted P1\n5 0 permitted P1\n\
          out of memory accept []";
     let wanted = written_out(alloc, wanted)?;

@@ -4,7 +4,8 @@ use Rattle.spf_view.proofs.FollowLemmas.{followed_early}
 use Rattle.spf_jwt_feed.specs.Items.{Rules}
 use Rattle.spf_feed.proofs.FailureLemmas.{no_failure}
 use Rattle.spf_jwt_feed.proofs.Loop.{loop_begins, next_of, exit_end, exit_unread, went_through}
-use Rattle.spf_jwt_feed.proofs.Loop.{exit_turn, lined, exit_no_line, exit_unput, exit_close, loop_on}
+use Rattle.spf_jwt_feed.proofs.Loop.{exit_turn, lined, exit_no_line, exit_unput, exit_close}
+use Rattle.spf_jwt_feed.proofs.Loop.{loop_on}
 use Rattle.spf_jwt_feed.proofs.following.follow_jwt.Goals as goal
 
 pub returns-in-Ok-None-clause-cause : goal.returns-in-Ok-None-clause-cause
