@@ -1,19 +1,27 @@
 -- The item that was read is the one that the response brings.
-use Rattle.std.proofs.Common.{◌≡◌, Bool, true, false, cond, Result, Ok, Err, Option, Some, sym, ap}
-use Rattle.std.proofs.Common.{◌∙◌, refl}
+use Rattle.std.proofs.Common.{◌≡◌, Bool, true, false, cond, Result, Ok, Err, Option, Some, None}
+use Rattle.std.proofs.Common.{◌∙◌, refl, sym, ap, ◌<◌, zero, suc, [], ◌∷◌, get_or, arith}
 use Rattle.std.specs.Prelude.{ℕ, List, IsErr, length, ◌==◌, IfOk}
 use Rattle.spf_io.specs.declared.memory.OutOfMemory.{OutOfMemory}
 use Rattle.std.specs.Option.{option_map}
 use Rattle.spf_io.specs.Rule.{Gives, broken_as}
 use Rattle.spf_api.specs.declared.response.BundlesResponse.{BundlesResponse}
+use Rattle.spf_api.specs.declared.response.BundleEntry.{BundleEntry}
+use Rattle.spf_api.specs.declared.response.Response.{Response}
+use Rattle.spf_api.specs.declared.response.Response.TheVariants as response
+use Rattle.spf_api.specs.declared.response.ResponseKind.TheVariants as kinds
+use Rattle.spf_api.specs.Payload.{IsRead}
+use Rattle.spf_api.specs.Reading.{bundles_at}
+use Rattle.spf_api.proofs.Payloads.{finds, laid_is_read}
 use Rattle.spf_api.specs.declared.error.WorkloadApiError.{WorkloadApiError}
 use Rattle.spf_api.specs.declared.error.WorkloadApiError.TheVariants as api
 use Rattle.spf_api.specs.Errors.{is_memory_api}
+use Rattle.spf_feed.specs.Texts.{AreOctets}
 use Rattle.spf_jwt.specs.Errors.{api_of_any_kind}
 use Rattle.spf_jwt.specs.Responses.{jwt_bundle_set_of}
 use Rattle.spf_jwt_feed.specs.declared.event.JwtItem.{JwtItem}
 use Rattle.spf_jwt_feed.specs.declared.event.JwtItem.TheVariants as item
-use Rattle.spf_jwt_feed.specs.Items.{item_by, item_in, IsReceived}
+use Rattle.spf_jwt_feed.specs.Items.{item_by, item_in, IsReceived, response_at, item_at, ItemText}
 use Rattle.spf_jwt_feed.specs.Steps.{BundleSet}
 
 found : (rule : Result BundleSet WorkloadApiError) (set : BundleSet) (i : JwtItem)
@@ -66,3 +74,41 @@ unfolding item_in
 item_read r parsed i q p some given is =
     read_by (jwt_bundle_set_of r) parsed i q p given is
     ∙ ap (λ b. cond b item.Empty (item_by (jwt_bundle_set_of r))) (sym some)
+
+-- ---- payloads
+
+twice : (o : Option (List BundleEntry))
+    → option_map (λ l. response.JwtBundles (record { bundles = l })) o
+    ≡ option_map response.JwtBundles (option_map (λ l. record { bundles = l }) o)
+twice None = refl
+twice (Some l) = refl
+
+-- what is read of a payload is the response that it lays out
+pub payload_is : (bytes : List ℕ) (found : Option Response) → IsRead kinds.JwtBundles bytes found
+    → found ≡ option_map response.JwtBundles (response_at bytes)
+unfolding IsRead
+payload_is bytes found is = is ∙ twice (bundles_at bytes)
+
+octets_at : (bytes : List ℕ) → AreOctets bytes → (i : ℕ) → get_or bytes i 0 < 256
+octets_at [] are i = omega arith
+octets_at (x ∷ bytes) are zero = are.0
+octets_at (x ∷ bytes) are (suc i) = octets_at bytes are.1 i
+
+pub item_takes : (bytes : List ℕ) (r : BundlesResponse) → AreOctets bytes
+    → response_at bytes ≡ Some r → ItemText bytes r
+unfolding IsRead
+item_takes bytes r are h =
+    finds kinds.JwtBundles bytes (Some (response.JwtBundles r)) (octets_at bytes are)
+    (sym (twice (bundles_at bytes) ∙ ap (option_map response.JwtBundles) h))
+
+inside : (o : Option BundlesResponse) (r : BundlesResponse)
+    → Some (response.JwtBundles r) ≡ option_map response.JwtBundles o → o ≡ Some r
+inside None r h = absurd cc
+inside (Some x) r h = cc
+
+pub item_again : (bytes : List ℕ) (r : BundlesResponse) → ItemText bytes r
+    → response_at bytes ≡ Some r
+item_again bytes r h =
+    inside (response_at bytes) r
+    (payload_is bytes (Some (response.JwtBundles r))
+    (laid_is_read kinds.JwtBundles bytes (response.JwtBundles r) h))

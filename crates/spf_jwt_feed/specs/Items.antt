@@ -5,6 +5,9 @@ use Rattle.std.specs.Option.{option_map}
 use Rattle.spf_api.specs.declared.error.WorkloadApiError.{WorkloadApiError}
 use Rattle.spf_api.specs.declared.error.WorkloadApiError.TheVariants as api
 use Rattle.spf_api.specs.declared.response.BundlesResponse.{BundlesResponse}
+use Rattle.spf_api.specs.declared.response.Response.TheVariants as response
+use Rattle.spf_api.specs.declared.response.ResponseKind.TheVariants as kinds
+use Rattle.spf_api.specs.Payload.{Payload}
 use Rattle.spf_api.specs.Reading.{bundles_at}
 use Rattle.spf_jwt.specs.Bundle.{set_eq}
 use Rattle.spf_jwt.specs.declared.limits.JwtResourceLimits.{JwtResourceLimits}
@@ -44,6 +47,10 @@ IsReceived (Err e) r = r ≡ Ok item.Broken
 -- the response that a payload lays out
 abbrev pub response_at : List ℕ → Option BundlesResponse
 response_at payload = option_map (λ l. record { bundles = l }) (bundles_at payload)
+
+-- an item of a JWT session: the payload of a response
+abbrev pub ItemText : List ℕ → BundlesResponse → Type 0
+ItemText bytes r = Payload kinds.JwtBundles bytes (response.JwtBundles r)
 
 -- the item that a payload lays out
 abbrev pub item_at : List ℕ → Option JwtItem

@@ -4,6 +4,7 @@
 
 mod event;
 mod following;
+pub mod laws;
 mod line;
 mod payload;
 mod phase;
