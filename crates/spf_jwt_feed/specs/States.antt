@@ -1,7 +1,8 @@
 -- The state of a source, and what its calls return, where memory does not run out.
-use Rattle.std.specs.Prelude.{◌≡◌, ℕ, Bool, any, not, ◌==◌, length, List, Option, None, Some}
+use Rattle.std.specs.Prelude.{◌≡◌, ℕ, Bool, not, ◌==◌, length, List, Option, None, Some}
 use Rattle.std.specs.Prelude.{Result, Ok, Err}
 use Rattle.std.specs.Arc.{arc_value}
+use Rattle.std.specs.List.{list_any}
 use Rattle.std.specs.declared.sync.Arc.{Arc}
 use Rattle.std.specs.declared.alloc.Global.{Global}
 use Rattle.spf_api.specs.declared.error.WorkloadApiError.{WorkloadApiError}
@@ -22,7 +23,7 @@ pub record StateView : Type 0 where
 
 -- the bundle of some trust domain has a key
 abbrev pub has_authority : BundleSet → Bool
-has_authority = any (λ (e : List ℕ × Bundle). not (length e.1.authorities == 0))
+has_authority = list_any (λ (e : List ℕ × Bundle). not (length e.1.authorities == 0))
 
 -- the held bundle set, or the reason of the withdrawal
 abbrev pub SetAnswer : View BundleSet Denial → Result (Arc BundleSet Global) JwtSourceError → Type 0

@@ -55,7 +55,7 @@ fn push_key(line: &mut Vec<u8>, key: &JwtAuthority) -> Result<(), OutOfMemory>
 /// Each key with a comma before it.
 fn push_others(line: &mut Vec<u8>, keys: JwtAuthorityIter<'_>) -> Result<(), OutOfMemory>
     ensures text { OnOk result
-        (line.new.items ≡ line.old.items ++ flat_map after_comma keys) }
+        (line.new.items ≡ line.old.items ++ flat_map after_comma keys.entry) }
     ensures grows { vec_len line.old ≤ vec_len line.new }
 {
     for key in keys {
