@@ -5,7 +5,7 @@ use Rattle.std.specs.Prelude.{IsErr}
 use Rattle.std.specs.Option.{option_to_list}
 use Rattle.spf_view.specs.Sessions.{Grows, GrowsUpTo}
 use Rattle.spf_view.proofs.FollowLemmas.{grows_none}
-use Rattle.spf_feed.proofs.HandLemmas.{none_yet, none_since, all_grown}
+use Rattle.spf_feed.proofs.HandLemmas.{none_since, all_grown}
 use Rattle.spf_jwt_feed.specs.declared.record.JwtMetricsRecord.{JwtMetricsRecord}
 use Rattle.spf_jwt_feed.specs.Steps.{PlainStep}
 use Rattle.spf_jwt_feed.specs.Following.{TurnState, StoppedShort, IsTaken}
@@ -51,9 +51,9 @@ records_short records old new same c =
 -- memory ran out before anything was handed on
 pub nothing_done : (step : Option PlainStep) (records : List JwtMetricsRecord) (state : TurnState)
     → StoppedShort step records state state
-unfolding none_yet
+unfolding none_since
 nothing_done step records state = record {
-  steps_are = none_yet state.steps (option_to_list step);
-  records_are = none_yet state.records records;
+  steps_are = none_since state.steps state.steps (option_to_list step) refl;
+  records_are = none_since state.records state.records records refl;
   steps_first = λ lt. absurd (omega arith);
 }

@@ -5,6 +5,7 @@ use Rattle.std.specs.Option.{option_map}
 use Rattle.spf_api.specs.declared.error.WorkloadApiError.{WorkloadApiError}
 use Rattle.spf_api.specs.declared.error.WorkloadApiError.TheVariants as api
 use Rattle.spf_api.specs.declared.response.BundlesResponse.{BundlesResponse}
+use Rattle.spf_api.specs.declared.response.Response.{Response}
 use Rattle.spf_api.specs.declared.response.Response.TheVariants as response
 use Rattle.spf_api.specs.declared.response.ResponseKind.TheVariants as kinds
 use Rattle.spf_api.specs.Payload.{Payload}
@@ -43,6 +44,11 @@ abbrev pub IsReceived : {E : Type 0} → Result BundleSet WorkloadApiError → R
 IsReceived (Ok set) r = r ≡ Ok (item.Bundles set)
 IsReceived (Err api.OutOfMemory) r = IsErr r
 IsReceived (Err e) r = r ≡ Ok item.Broken
+
+-- the response is one of key sets
+abbrev pub HasKeySets : Response → Type 0
+HasKeySets (response.JwtBundles r) = Unit {0}
+HasKeySets _ = ⊥
 
 -- the response that a payload lays out
 abbrev pub response_at : List ℕ → Option BundlesResponse

@@ -3,7 +3,8 @@
 ghost use Rattle.std.specs.Prelude.{◌≡◌, IfOk};
 ghost use Rattle.spf_feed.specs.Events.{failure_at, moment_at, event_at};
 ghost use Rattle.spf_feed.specs.Events as spec;
-ghost use Rattle.spf_jwt_feed.specs.Items.{item_at, IsReceived};
+ghost use Rattle.spf_api.specs.declared.response.Response.TheVariants as responses;
+ghost use Rattle.spf_jwt_feed.specs.Items.{item_at, IsReceived, HasKeySets};
 ghost use Rattle.spf_jwt_feed.specs.Items as items_spec;
 
 use crate::event::{JwtItem, JwtReceived};
@@ -72,15 +73,26 @@ fn item_of(alloc: Global, response: &BundlesResponse) -> Result<JwtItem, OutOfMe
     received(jwt_bundle_set_from(alloc, response))
 }
 
+/// The bundles of a response that carries key sets.
+fn key_sets(response: Response) -> BundlesResponse
+    requires { HasKeySets response }
+    ensures { response ≡ responses.JwtBundles result }
+{
+    match response {
+        Response::JwtBundles(bundles) => bundles,
+        _ => unreachable!(),
+    }
+}
+
 /// What an item brings. None where the payload lays out none.
 fn item_in(alloc: Global, bytes: &[u8]) -> Result<Option<JwtItem>, OutOfMemory>
     ensures { IfOk result (λ o. o ≡ item_at bytes.now) }
 {
-    match read_payload(alloc, ResponseKind::JwtBundles, bytes)? {
-        Some(Response::JwtBundles(response)) => Ok(Some(item_of(alloc, &response)?)),
-        Some(_) => unreachable!(),
-        None => Ok(None),
-    }
+    let Some(response) = read_payload(alloc, ResponseKind::JwtBundles, bytes)? else {
+        return Ok(None);
+    };
+    let item = item_of(alloc, &key_sets(response))?;
+    Ok(Some(item))
 }
 
 /// The event, where the payload is empty.
