@@ -1,5 +1,5 @@
 -- The item that was read is the one that the response brings.
-use Rattle.std.proofs.Common.{◌≡◌, Bool, true, false, cond, Result, Ok, Err, Option, Some, None}
+use Rattle.std.proofs.Common.{◌≡◌, true, false, cond, Result, Ok, Err, Option, Some, None}
 use Rattle.std.proofs.Common.{◌∙◌, refl, sym, ap, subst, ◌<◌, zero, suc, [], ◌∷◌, get_or, arith}
 use Rattle.std.specs.Prelude.{ℕ, List, IsErr, length, ◌==◌, IfOk}
 use Rattle.spf_io.specs.declared.memory.OutOfMemory.{OutOfMemory}

@@ -1,5 +1,5 @@
 -- What an event does, by the definitions.
-use Rattle.std.proofs.Common.{◌≡◌, Bool, true, false, cond, List, Option, None, refl, subst}
+use Rattle.std.proofs.Common.{◌≡◌, Bool, cond, List, Option, None, refl, subst}
 use Rattle.std.specs.Prelude.{ℤ}
 use Rattle.spf_api.specs.Refused.{Refused}
 use Rattle.spf_api.specs.Errors.{status_reading}

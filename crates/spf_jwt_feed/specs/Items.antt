@@ -1,6 +1,6 @@
 -- What an item of a JWT session brings, and the rules of a session.
 use Rattle.std.specs.Prelude.{◌≡◌, IsErr, ℤ, Bool, true, false, List, length, ◌==◌, ℕ, Option, None}
-use Rattle.std.specs.Prelude.{Some, is_ok, Result, Ok, Err, if◌then◌else◌}
+use Rattle.std.specs.Prelude.{Some, Result, Ok, Err, if◌then◌else◌}
 use Rattle.std.specs.Option.{option_map}
 use Rattle.spf_api.specs.declared.error.WorkloadApiError.{WorkloadApiError}
 use Rattle.spf_api.specs.declared.error.WorkloadApiError.TheVariants as api
