@@ -7,9 +7,10 @@ use Rattle.spf_io.specs.Option.{◌>>=◌}
 use Rattle.spf_feed.specs.declared.ready.Ready.{Ready}
 use Rattle.spf_feed.specs.declared.ready.Ready.TheVariants as ready
 use Rattle.spf_program.specs.Numbers.{number_up_to, number_in, moment_in}
-use Rattle.spiffe_watch.specs.Setting.{Setting, default_setting}
+use Rattle.spiffe_watch.specs.Setting.{Setting, default_setting, default_jwt_setting}
 use Rattle.spiffe_watch.specs.declared.arguments.Command.{Command}
 use Rattle.spiffe_watch.specs.declared.arguments.Command.TheVariants as commands
+use Rattle.spiffe_watch.specs.declared.arguments.JwtArguments.{JwtArguments}
 use Rattle.spiffe_watch.specs.declared.arguments.MakeArguments.{MakeArguments}
 
 -- a limit: a number, or `none`
@@ -93,6 +94,34 @@ x509_setting arguments =
       ready = ready;
     }))
 
+-- the values that an option may have which stands only with x509: none
+abbrev pub not_there : List ℕ → Option (Unit {0})
+not_there value = None
+
+-- the setting of a session of JWT bundles, whose options come each at max once
+unfoldable pub jwt_setting : List (List ℕ) → Option JwtArguments
+jwt_setting arguments =
+    if not (are_options arguments) then None
+    else (option_in not_there tt (codes "--max-svids") arguments
+    >>= λ _. option_in not_there tt (codes "--max-crl-bytes") arguments
+    >>= λ _. option_in not_there tt (codes "--hint") arguments
+    >>= λ _. option_in not_there tt (codes "--ready") arguments
+    >>= λ _.
+    option_in limit_in default_jwt_setting.limits.max_bundles (codes "--max-bundles") arguments
+    >>= λ max_bundles.
+    option_in limit_in default_jwt_setting.limits.max_bundle_jwks_bytes
+    (codes "--max-bundle-bytes") arguments
+    >>= λ max_bundle_bytes.
+    option_in (λ value. option_map Some (moment_in value)) default_jwt_setting.deadline
+    (codes "--deadline") arguments
+    >>= λ deadline.
+    option_in number_in default_jwt_setting.max_frames (codes "--max-frames") arguments
+    >>= λ max_frames. Some (record {
+      limits = record { max_bundles = max_bundles; max_bundle_jwks_bytes = max_bundle_bytes };
+      deadline = deadline;
+      max_frames = max_frames;
+    }))
+
 -- the size and the seed of a generated session
 unfoldable pub make_arguments_in : List (List ℕ) → Option MakeArguments
 make_arguments_in (operations ∷ seed ∷ []) =
@@ -105,8 +134,9 @@ unfoldable pub command_in : List (List ℕ) → Option Command
 command_in [] = None
 command_in (name ∷ arguments) =
     if bytes_eq name (codes "x509") then option_map commands.X509 (x509_setting arguments)
+    else (if bytes_eq name (codes "jwt") then option_map commands.Jwt (jwt_setting arguments)
     else (if bytes_eq name (codes "make")
     then option_map commands.Make (make_arguments_in arguments)
     else (if bytes_eq name (codes "bench")
     then option_map commands.Bench (make_arguments_in arguments)
-    else None))
+    else None)))

@@ -7,6 +7,8 @@ ghost use Rattle.spiffe_watch.specs.Arguments.{
   command_in,
   make_arguments_in,
   x509_setting,
+  jwt_setting,
+  not_there,
   is_option as is_option_name,
   are_options as are_pairs,
   values_of,
@@ -17,6 +19,7 @@ ghost use Rattle.spiffe_watch.specs.Arguments.{
 };
 
 use spf_feed::{Ready, ResourceLimits};
+use spf_jwt::JwtResourceLimits;
 use spf_program::{MAX_NUMBER, moment, number_up_to};
 use std::marker::Model;
 
@@ -33,6 +36,7 @@ const MAX_SEED: u64 = 65_535;
 #[derive(Drop)]
 pub(crate) enum Command<'a> {
     X509(X509Arguments<'a>),
+    Jwt(JwtArguments),
     Make(MakeArguments),
     Bench(MakeArguments),
 }
@@ -63,6 +67,14 @@ impl<'a> Model for X509Arguments<'a> {
     } };
 }
 
+/// The settings of a session of JWT bundles.
+#[derive(Clone, Copy)]
+pub(crate) struct JwtArguments {
+    pub(crate) limits: JwtResourceLimits,
+    pub(crate) deadline: Option<i64>,
+    pub(crate) max_frames: u64,
+}
+
 /// The arguments of `make` and `bench`: the size and the seed of a generated session.
 #[derive(Clone, Copy)]
 pub(crate) struct MakeArguments {
@@ -80,6 +92,7 @@ pub(crate) fn parse_command(arguments: &[String]) -> Option<Command<'_>>
     };
     match first.as_str() {
         "x509" => Some(Command::X509(x509_arguments(rest)?)),
+        "jwt" => Some(Command::Jwt(jwt_arguments(rest)?)),
         "make" => Some(Command::Make(make_arguments(rest)?)),
         "bench" => Some(Command::Bench(make_arguments(rest)?)),
         _ => None,
@@ -121,6 +134,44 @@ fn x509_arguments(arguments: &[String]) -> Option<X509Arguments<'_>>
         hint: hint_option(arguments, "--hint")?,
         ready: ready_option(arguments, "--ready", Ready::Usable)?,
     })
+}
+
+/// The setting of a session of JWT bundles, whose options come each at max once.
+#[tactic(auto, unfolding(crate::specs::Arguments::jwt_setting))]
+fn jwt_arguments(arguments: &[String]) -> Option<JwtArguments>
+    ensures { result ≡ jwt_setting (map string_bytes arguments.now) }
+{
+    if !are_options(arguments) {
+        return None;
+    }
+    no_option(arguments, "--max-svids")?;
+    no_option(arguments, "--max-crl-bytes")?;
+    no_option(arguments, "--hint")?;
+    no_option(arguments, "--ready")?;
+    let limits = JwtResourceLimits::default_limits();
+    Some(JwtArguments {
+        limits: JwtResourceLimits::new(
+            limit_option(arguments, "--max-bundles", limits.max_bundles)?,
+            limit_option(
+                arguments,
+                "--max-bundle-bytes",
+                limits.max_bundle_jwks_bytes,
+            )?,
+        ),
+        deadline: moment_option(arguments, "--deadline")?,
+        max_frames: number_option(arguments, "--max-frames", DEFAULT_MAX_FRAMES)?,
+    })
+}
+
+/// `None` where an option of `x509` alone is set.
+#[tactic(auto, unfolding(crate::specs::Arguments::option_in))]
+fn no_option(arguments: &[String], option: &str) -> Option<()>
+    ensures { result ≡ option_in not_there tt option.now (map string_bytes arguments.now) }
+{
+    match value_of(arguments, option)? {
+        None => Some(()),
+        Some(_) => None,
+    }
 }
 
 /// Whether this is the name of an option of `x509`.
