@@ -99,8 +99,9 @@ counted s bytes left' held held' count f =
           counted_by _ _ _ _ (length f.es) count ended.is,
         )
 
-pub shows : {E X Y : Type 0} (s : Session E X Y) (bytes : List ℕ) (left' held held' : Option (List ℕ))
-    (count : ℕ) → FollowedBy s (Some bytes) left' held held' (Ok count)
+pub shows : {E X Y : Type 0} (s : Session E X Y) (bytes : List ℕ)
+    (left' held held' : Option (List ℕ)) (count : ℕ)
+    → FollowedBy s (Some bytes) left' held held' (Ok count)
     → PrintsSession s bytes held held'
 shows s bytes left' held held' count f = (counted s bytes left' held held' count f).0
 
@@ -136,8 +137,9 @@ pub ended_well : (answer : Result ℕ FollowError) (end : Result (Unit {0}) Exit
 ended_well (Ok count) end is well = refl
 ended_well (Err e) end is well = absurd cc
 
-ran_well : {E X Y : Type 0} (s : Session E X Y) (bytes : List ℕ) (left' held held' : Option (List ℕ))
-    (answer : Result ℕ FollowError) → FollowedBy s (Some bytes) left' held held' answer
+ran_well : {E X Y : Type 0} (s : Session E X Y) (bytes : List ℕ)
+    (left' held held' : Option (List ℕ)) (answer : Result ℕ FollowError)
+    → FollowedBy s (Some bytes) left' held held' answer
     → IsOk answer → PrintsSession s bytes held held'
 ran_well s bytes left' held held' (Ok count) f ok = shows s bytes left' held held' count f
 ran_well s bytes left' held held' (Err e) f ok = absurd cc

@@ -27,8 +27,8 @@ pub summed : (arguments : MakeArguments) (left' : Option (List ℕ)) (held : Lis
     → IsSummary arguments (summary_line count revision withdrawn)
 summed arguments left' held count revision withdrawn f r w =
     let shown =
-    counted (x509_session default_setting) (made_session arguments) left' (Some []) (Some held) count
-    f in
+    counted (x509_session default_setting) (made_session arguments) left' (Some []) (Some held)
+    count f in
     let session = shown.0.session in
     let rules = rules_for default_setting in
     let few : length session.es < 2 ^ 64 - 1 = omega (arith, session.reading.reads.bound) in

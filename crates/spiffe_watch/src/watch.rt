@@ -139,8 +139,8 @@ fn follow<S: Source, K: Sink>(
     out: &mut K,
 ) -> Result<(), ExitReason>
     ensures arguments { IfErr result (λ e. is_bad_arguments e ≡ false) }
-    ensures session { FollowsSession (x509_session arguments.entry) (S.left source.old) (S.left source.new)
-        (K.held out.old) (K.held out.new) result }
+    ensures session { FollowsSession (x509_session arguments.entry) (S.left source.old)
+        (S.left source.new) (K.held out.old) (K.held out.new) result }
     ensures cause { HasCauses (S.failures source.old) (S.failures source.new) (K.failures out.old)
         (K.failures out.new) result }
 {
