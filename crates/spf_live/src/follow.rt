@@ -1,0 +1,57 @@
+//! A source that was built is followed, closed and joined.
+
+use crate::error::{LiveError, error_of};
+use crate::printing::print_lines;
+use rand_core::Rng;
+use spf_feed::{MetricsRecorder, SvidPicker};
+use spf_io::Sink;
+use spf_job::Joins;
+use spf_link::Connector;
+use spf_system::{Clock, Pause};
+use spf_x509_board::{Pass, Places};
+use spiffe::{SupervisorHandle, X509Job, X509Source};
+use std::alloc::Global;
+use std::sync::Wait;
+use std::time;
+
+/// Prints that many lines of what the source holds. However that ends, it closes the source and
+/// waits for its supervisor.
+pub(crate) fn follow<C, P, M, W, N, J, H, R, T, L, K>(
+    rt: &R,
+    alloc: Global,
+    source: X509Source,
+    pass: Pass,
+    handle: SupervisorHandle<X509Job<C, P, M, W, N, J>, H>,
+    clock: &mut T,
+    places: &mut L,
+    out: &mut K,
+    lines: u64,
+) -> Result<(), LiveError>
+where
+    C: Connector + Drop,
+    C::Link: Drop,
+    P: SvidPicker + Drop,
+    M: MetricsRecorder + Drop,
+    W: Pause + Drop,
+    N: Rng + Drop,
+    J: Wait + Drop,
+    H: Joins<X509Job<C, P, M, W, N, J>> + Drop,
+    R: Wait + time::Clock,
+    T: Clock,
+    L: Places,
+    K: Sink,
+{
+    let mut pass = pass;
+    let mut updates = match source.updated(&mut pass, places) {
+        Ok(updates) => updates,
+        Err(e) => {
+            let _record = handle.join_record(&mut pass);
+            return Err(error_of(e));
+        }
+    };
+    let printed = print_lines(rt, alloc, &mut updates, clock, out, lines);
+    let record = handle.join_record(&mut updates.into_pass());
+    printed?;
+    record?;
+    Ok(())
+}

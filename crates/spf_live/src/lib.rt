@@ -1,0 +1,19 @@
+//! Prints what a live source of X.509 identities holds, line by line, until there are enough lines.
+#![tactic(auto)]
+
+mod builder;
+mod error;
+mod follow;
+mod live;
+#[cfg(test)]
+mod live_tests;
+mod on_thread;
+mod on_threads;
+mod printing;
+mod report;
+
+pub use error::LiveError;
+pub use live::watch_live;
+pub use on_thread::{HostConnector, HostJob, OnThread, start_on_thread};
+pub use on_threads::watch_on_threads;
+pub use report::report;

@@ -1,0 +1,81 @@
+//! A live run over real threads.
+
+use crate::builder::builder_of;
+use crate::error::{LiveError, error_of};
+use crate::follow::follow;
+use crate::on_thread::{HostConnector, start_on_thread};
+use crate::report::report;
+use spf_io::Sink;
+use spf_job::StepWords;
+use spf_options::live_options;
+use spf_system::{Clock, StdClock, StdEnvironment, StdPause};
+use spf_wire::EnvConnector;
+use spf_x509_board::BoardPlaces;
+use std::alloc::Global;
+use std::sync::Wait;
+use std::thread::Threads;
+use std::time;
+
+/// Prints what a live source of the endpoint in the environment holds, as the words ask for, and
+/// returns the exit status. Where not all lines were printed, a line on `faults` says why.
+pub fn watch_on_threads<R, K, E>(
+    host: HostRuntime,
+    rt: R,
+    words: &[String],
+    out: &mut K,
+    faults: &mut E,
+) -> u8
+where
+    R: Threads + Wait + time::Clock + Copy + Drop + Send + 'static,
+    K: Sink,
+    E: Sink,
+{
+    let end = live_on_threads(host, rt, words, out);
+    report(faults, end)
+}
+
+fn live_on_threads<R, K>(
+    host: HostRuntime,
+    rt: R,
+    words: &[String],
+    out: &mut K,
+) -> Result<(), LiveError>
+where
+    R: Threads + Wait + time::Clock + Copy + Drop + Send + 'static,
+    K: Sink,
+{
+    let Some(options) = live_options(words) else {
+        return Err(LiveError::BadWords);
+    };
+    let alloc = host.alloc();
+    let connector = EnvConnector::new(host, alloc, StdEnvironment::new(host));
+    let builder = builder_of(alloc, connector, &options)?;
+    let mut clock = StdClock::new(host);
+    let random = StepWords::new(seed_of(clock.now()));
+    let mut places = BoardPlaces::new();
+    match builder.prepare(rt, alloc, &mut clock, StdPause::new(host), random, &mut places) {
+        Ok((source, pass, job, pending)) => match start_on_thread(rt, job) {
+            Ok(handle) => follow(
+                &rt,
+                alloc,
+                source,
+                pass,
+                pending.started(handle),
+                &mut clock,
+                &mut places,
+                out,
+                options.lines,
+            ),
+            Err(_) => Err(LiveError::NoSupervisor),
+        },
+        Err(e) => Err(error_of(e)),
+    }
+}
+
+/// The seed of the random words: the clock's moment, or 0.
+fn seed_of(moment: Option<i64>) -> u64 {
+    match moment {
+        Some(moment) if moment >= 0 => moment as u64,
+        _ => 0,
+    }
+}
