@@ -51,7 +51,8 @@ impl<C: Connector + Drop> X509SourceBuilder<NoPicker, C, NoRecorder> {
     /// Pauses of 200 ms to 10 s between attempts, the default limits, ready with a usable SVID, a
     /// shutdown that takes at most 30 s, and no limit of the initial synchronisation.
     pub fn new(connector: C) -> X509SourceBuilder<NoPicker, C, NoRecorder>
-        ensures { result.connector ≡ connector }
+        ensures connector { result.connector ≡ connector }
+        ensures timeout { result.settings.timeout ≡ None }
     {
         X509SourceBuilder {
             settings: Settings {
