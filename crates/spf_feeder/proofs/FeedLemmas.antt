@@ -25,7 +25,8 @@ use Rattle.spf_feeder.specs.Kept.{Advances, Core, rules_by}
 use Rattle.spf_feeder.proofs.TellLemmas.{ready_more, tells_more}
 
 -- an ask that told an event was made
-asked_once : {S L : Type 0} (connector : connectors.Ghosts S L) (link : links.Ghosts L) (ask : Phase)
+asked_once : {S L : Type 0} (connector : connectors.Ghosts S L) (link : links.Ghosts L)
+    (ask : Phase)
     (old new : Asked S L) (e : Event) → Asks {E = OutOfMemory} connector link ask old (Ok e) new
     → AsksOnce {E = OutOfMemory} connector link ask old (Ok e) new
 asked_once connector link ask old new e (inl once) = once
@@ -50,7 +51,8 @@ stays_idle connector link rules old stuck = record {
 
 untold : {S L P M K : Type 0} (connector : connectors.Ghosts S L) (link : links.Ghosts L)
     (rules : Rules) (old new : Fed S L P M K) (x : OutOfMemory)
-    → Asks connector link (ask_of context_in rules (reverse old.core.run)) old.asked (Err x) new.asked
+    → Asks connector link (ask_of context_in rules (reverse old.core.run)) old.asked (Err x)
+    new.asked
     → new.core.run ≡ old.core.run → new.core.stuck ≡ true → old.core.stuck ≡ false
     → TurnedAway connector link rules old new
 untold connector link rules old new x (inl once) run stuck going = record {
@@ -72,7 +74,8 @@ pub untold_of : {S L P M K : Type 0} (connector : connectors.Ghosts S L) (link :
     → Asks connector link ask before.asked (Err x) new.asked
     → new.core.run ≡ before.core.run → new.core.stuck ≡ true → before.core.stuck ≡ false
     → TurnedAway connector link (rules_by picks old.core.settings old.core.picker) old new
-untold_of {S} {L} {P} {M} {K} connector link picks before old new x ask is next asks run stuck going =
+untold_of {S} {L} {P} {M} {K} connector link picks before old new x ask is next asks run stuck going
+    =
     subst (λ (o : Fed S L P M K).
     TurnedAway connector link (rules_by picks o.core.settings o.core.picker) o new) is
     (untold connector link (rules_by picks before.core.settings before.core.picker) before new x
@@ -82,7 +85,8 @@ untold_of {S} {L} {P} {M} {K} connector link picks before old new x ask is next 
 -- ---- an ask that told an event
 
 turned : {S L P M K : Type 0} (connector : connectors.Ghosts S L) (link : links.Ghosts L)
-    (records : M → Option (List MetricsRecord)) (rules : Rules) (old new : Fed S L P M K) (e : Event)
+    (records : M → Option (List MetricsRecord)) (rules : Rules) (old new : Fed S L P M K)
+    (e : Event)
     (r : Result (Option AttemptEnd) Stop)
     → AsksOnce {E = OutOfMemory} connector link (ask_of context_in rules (reverse old.core.run))
     old.asked (Ok e) new.asked

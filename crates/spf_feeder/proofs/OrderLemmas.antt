@@ -34,7 +34,8 @@ use Rattle.spf_feeder.specs.Fed.{AsksInVain, Fed, IsIdle, TurnedAway, TurnedOnce
 use Rattle.spf_feeder.specs.Asking.{is_client}
 use Rattle.spf_feeder.specs.Orderly.{AddsAnswer, IsAboutToAsk, IsOneStep, IsOpening, IsTimed}
 use Rattle.spf_feeder.specs.Orderly.{IsSynced, ends_with_moment, is_of_client, is_timed}
-use Rattle.spf_feeder.specs.Orderly.{GoesOn, IsOrderly, MayStand, does_answer, has_moment, is_moment}
+use Rattle.spf_feeder.specs.Orderly.{GoesOn, IsOrderly, MayStand, does_answer, has_moment}
+use Rattle.spf_feeder.specs.Orderly.{is_moment}
 
 -- ---- what is told answers the ask
 
@@ -173,7 +174,8 @@ vain_goes {S} {L} {P} {M} {K} connector link rules old new h = by_run h.run_is
     by_run (inr (e, is, run)) =
         let once : AsksOnce {E = OutOfMemory} connector link
         (ask_of context_in rules (reverse old.core.run)) old.asked (Ok e) new.asked =
-        subst (λ a. AsksOnce connector link (ask_of context_in rules (reverse old.core.run)) old.asked
+        subst (λ a. AsksOnce connector link (ask_of context_in rules (reverse old.core.run))
+        old.asked
         a new.asked) is h.asked in
         let answers = once_answers OutOfMemory connector link
         (ask_of context_in rules (reverse old.core.run)) old.asked new.asked e once in
@@ -276,16 +278,19 @@ opening_first rules run m is = subst (IsOpening rules) (sym is)
 
 timed_later : (e : Event) (ends synced : Bool) → ends ≡ false → synced ≡ true
     → is_moment e ≡ false → is_timed ends synced e ≡ true
-timed_later events.ClientMade ends synced none is h = (λ i. is_timed (none i) (is i) events.ClientMade)
+timed_later events.ClientMade ends synced none is h =
+    (λ i. is_timed (none i) (is i) events.ClientMade)
 timed_later (events.ClientFailed x) ends synced none is h =
     (λ i. is_timed (none i) (is i) (events.ClientFailed x))
-timed_later events.Connected ends synced none is h = (λ i. is_timed (none i) (is i) events.Connected)
+timed_later events.Connected ends synced none is h =
+    (λ i. is_timed (none i) (is i) events.Connected)
 timed_later (events.ConnectStatus x) ends synced none is h =
     (λ i. is_timed (none i) (is i) (events.ConnectStatus x))
 timed_later (events.Item x) ends synced none is h = (λ i. is_timed (none i) (is i) (events.Item x))
 timed_later (events.ItemStatus x) ends synced none is h =
     (λ i. is_timed (none i) (is i) (events.ItemStatus x))
-timed_later events.StreamEnd ends synced none is h = (λ i. is_timed (none i) (is i) events.StreamEnd)
+timed_later events.StreamEnd ends synced none is h =
+    (λ i. is_timed (none i) (is i) events.StreamEnd)
 timed_later (events.Moment x) ends synced none is h = absurd cc
 timed_later events.Close ends synced none is h = (λ i. is_timed (none i) (is i) events.Close)
 
@@ -338,7 +343,8 @@ synced_later rules run (e ∷ later) h s =
 pub synced_on : (rules : Rules) (old new : List Event) → GoesOn old new
     → IsSynced rules (reverse old) → IsSynced rules (reverse new)
 synced_on rules old new h s =
-    subst (λ l. IsSynced rules (reverse l)) (sym h.run_is) (synced_later rules old h.later h.timeless s)
+    subst (λ l. IsSynced rules (reverse l)) (sym h.run_is)
+    (synced_later rules old h.later h.timeless s)
 
 -- ---- the first step
 
@@ -358,13 +364,15 @@ no_steps : {E M L D : Type 0} (s : Subject E M L D) (past : List E) → has_sync
     → steps_back s.limits (outcomes s past) ≡ []
 no_steps s [] h = refl
 no_steps s (e ∷ past) h =
-    let p = unsynced_passes (brings s (has_synced s past) (last_moment s past) e) (has_synced s past)
+    let p = unsynced_passes (brings s (has_synced s past) (last_moment s past) e)
+    (has_synced s past)
     (s.denial e) h in
     no_step s.limits (outcome s e past) (outcomes s past) p.0 (no_steps s past p.1)
 
 one_step : (rules : Rules) (past : List Event) (e : Event) (b : Option Material) (synced : Bool)
     → synced ≡ false → (is_some b || synced) ≡ true
-    → (m : Material) × (option_map_or Accepted b (denied_or_passed synced ((subject rules).denial e))
+    → (m : Material) × (option_map_or Accepted b
+    (denied_or_passed synced ((subject rules).denial e))
     ≡ Accepted m)
 one_step rules past e (Some m) synced none h = (m, refl)
 one_step rules past e None true none h = absurd cc
@@ -378,7 +386,8 @@ first_step rules run run' e is none synced =
     let s = subject rules in
     let past = reverse run in
     let more : has_synced s (e ∷ past) ≡ true =
-    ap (has_synced s) (sym (last_first run e)) ∙ ap (λ l. has_synced s (reverse l)) (sym is) ∙ synced in
+    ap (has_synced s) (sym (last_first run e)) ∙ ap (λ l. has_synced s (reverse l)) (sym is)
+    ∙ synced in
     let step = one_step rules past e (brings s (has_synced s past) (last_moment s past) e)
     (has_synced s past) none more in
     let empty : steps_of s run ≡ [] = ap reverse (no_steps s past none) in
@@ -386,5 +395,6 @@ first_step rules run run' e is none synced =
     ap (steps_of s) is ∙ steps_more s run e
     ∙ (λ i. empty i ++ option_to_list (step_in rules.limits (step.1 i))) in
     let legal = subst (IsLegal fits) is_one
-    (steps_legal s run' (λ none. let bad : Accept step.0 rules.limits ∷ [] ≡ [] = sym is_one ∙ none in cc)) in
+    (steps_legal s run' (λ none. let bad : Accept step.0 rules.limits ∷ [] ≡ [] = sym is_one
+    ∙ none in cc)) in
     (Accept step.0 rules.limits, is_one, legal.each.0)

@@ -32,7 +32,8 @@ map_last {A} f xs x = ap reverse (pushed xs) ∙ last_first (map f xs) (f x)
 
 -- ---- a pacer is synchronised where the run is
 
-grow_synced : (b synced : Bool) (end : AttemptEnd) (words : List ℕ) (before : List ℕ → List PaceStep)
+grow_synced : (b synced : Bool) (end : AttemptEnd) (words : List ℕ)
+    (before : List ℕ → List PaceStep)
     → ((w : List ℕ) → is_synchronised (before w) ≡ synced)
     → is_synchronised (cond b (Ended end (newest_word words) ∷ before (earlier_words words))
     (Ended end 0 ∷ before words)) ≡ synced
@@ -189,7 +190,8 @@ synced_next rules past e =
     let synced = has_synced (subject rules) past in
     ap (λ b. b || synced)
     (sym (accepted_brings synced
-    (brings (subject rules) synced (last_moment (subject rules) past) e) ((subject rules).denial e)))
+    (brings (subject rules) synced (last_moment (subject rules) past) e)
+    ((subject rules).denial e)))
 
 opened_by : (accepted synced : Bool) → synced ≡ false → (accepted || synced) ≡ true
     → (accepted && not synced) ≡ true

@@ -147,7 +147,8 @@ turn_as rules lent kept synced now e received turn p q r h =
     IsTurn (received_refusal rules.deadline b received) (received_outcome rules b now received)
     (received_records b rules.limits received) turn) q
     (subst (λ s.
-    IsTurn (received_refusal rules.deadline synced received) (received_outcome s synced now received)
+    IsTurn (received_refusal rules.deadline synced received)
+    (received_outcome s synced now received)
     (received_records synced rules.limits received) turn) p h))
 
 pub turn_done : (rules : Rules) (run : List Event) (e : Event) (turn : Turn)
@@ -290,7 +291,8 @@ pub record AdvancedBy (rules : Rules) (run : List Event) (e : Event)
   pub end_is : end ≡ attempt_end rules (reverse run) e
 
 pub advanced_by : (rules lent : Rules) (run : List Event) (e : Event) (received : Received)
-    (turn : Turn) (kept kept' : Option (Kept Material Denial)) (steps steps' : Option (List PlainStep))
+    (turn : Turn) (kept kept' : Option (Kept Material Denial))
+    (steps steps' : Option (List PlainStep))
     (records : Records) (now now' : Option ℤ) (phase phase' : Phase)
     (gave gave' synced accepted : Bool) (end end' : Option AttemptEnd) → Published steps rules run
     → Going rules run steps kept now phase gave → lent ≡ rules → synced ≡ is_some kept
@@ -304,11 +306,13 @@ pub advanced_by : (rules lent : Rules) (run : List Event) (e : Event) (received 
     → (IsTrue (is_some kept') → HasStep steps') → end ≡ end_with phase' gave received
     → end' ≡ cond accepted None end
     → AdvancedBy rules run e kept' steps' records now' phase' gave' end'
-advanced_by rules lent run e received turn kept kept' steps steps' records now now' phase phase' gave
+advanced_by rules lent run e received turn kept kept' steps steps' records now now' phase phase'
+    gave
     gave' synced accepted end end' p g same is_synced is_received h w moment ask accepts_is gives
     step ends unless =
     let turned = turn_as rules lent kept synced now e received turn same is_synced is_received h in
-    let done = turn_done rules run e turn kept kept' steps steps' records now phase gave g turned w in
+    let done =
+    turn_done rules run e turn kept kept' steps steps' records now phase gave g turned w in
     let asks : phase' ≡ received_ask phase (is_some kept) (map_item context_in e) =
     ask ∙ (λ i. received_ask phase (is_synced i) (is_received i)) in
     record {
@@ -318,7 +322,8 @@ advanced_by rules lent run e received turn kept kept' steps steps' records now n
           (gives ∙ ap (λ b. gave_with gave b e) accepts_is) step;
       none = done.none;
       records_are = done.records_are;
-      end_is = end_is rules run e turn kept kept' steps steps' records now phase phase' gave end end'
+      end_is = end_is rules run e turn kept kept' steps steps' records now phase phase' gave end
+          end'
           g done asks (ends ∙ ap (λ r. end_with phase' gave r) is_received)
           (unless ∙ ap (λ b. cond b None end) accepts_is);
     }

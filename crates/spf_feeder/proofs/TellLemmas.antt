@@ -161,7 +161,8 @@ told_asked : (ask : Phase) (coming : Coming) (e : Event) → told_at ask coming 
 unfolding all_asked
 told_asked phases.Client coming e h =
     sym (ap all_asked h) ∙ connect_asked (connected_by coming.members)
-told_asked phases.Connect coming e h = sym (ap all_asked h) ∙ start_asked (started_by coming.answers)
+told_asked phases.Connect coming e h =
+    sym (ap all_asked h) ∙ start_asked (started_by coming.answers)
 told_asked phases.Next coming e h =
     sym (ap all_asked h) ∙ next_asked (next_by (Some kind.Context) coming.answers)
 
@@ -250,7 +251,8 @@ ready_start link synced (Ok done) after e told k =
 ready_start link synced (Err fault.OutOfMemory) after e told k = absurd cc
 ready_start link synced (Err (fault.Status s)) after e told k =
     let same : events.ConnectStatus s ≡ e = cc in
-    subst (λ x. IsReady link.kind (asked_by context_in phases.Connect synced x) (Some after)) same tt
+    subst (λ x. IsReady link.kind (asked_by context_in phases.Connect synced x) (Some after)) same
+    tt
 ready_start link synced (Err (fault.Connect s)) after e told k =
     let same : option_map events.ConnectStatus (refused_as (fault.Connect s)) ≡ Some e = told in
     by_status (refused_as (fault.Connect s)) same

@@ -184,7 +184,8 @@ where
             (rules_by K.picks self.old.core.settings self.old.core.picker) self.new.core.run) }
         ensures goes_on { GoesOn self.old.core.run self.new.core.run }
         ensures turn { Turns C.Connector C.Link.Link M.records
-            (rules_by K.picks self.old.core.settings self.old.core.picker) self.old result self.new }
+            (rules_by K.picks self.old.core.settings self.old.core.picker) self.old result
+            self.new }
     {
         if self.session.is_stuck() {
             return Err(Stop::OutOfMemory);
@@ -214,7 +215,8 @@ where
             self.new.asked) }
         ensures goes_on { GoesOn self.old.core.run self.new.core.run }
         ensures turn { Turns C.Connector C.Link.Link M.records
-            (rules_by K.picks self.old.core.settings self.old.core.picker) self.old result self.new }
+            (rules_by K.picks self.old.core.settings self.old.core.picker) self.old result
+            self.new }
     {
         let asked = self.ask_once();
         let _ = &self.alloc;

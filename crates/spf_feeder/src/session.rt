@@ -148,7 +148,8 @@ impl<P: Publisher + Drop, M: MetricsRecorder + Drop, K: SvidPicker + Drop> Model
 
     ghost invariant = { λ s. ForSome s.picker K.can_pick
         × Published (P.steps s.publisher) (rules_by K.picks s.rules s.picker) s.events.items
-        × (s.stuck ≡ false → Going (rules_by K.picks s.rules s.picker) s.events.items (P.steps s.publisher) s.snapshot s.moment s.phase s.gave_accepted)
+        × (s.stuck ≡ false → Going (rules_by K.picks s.rules s.picker) s.events.items
+        (P.steps s.publisher) s.snapshot s.moment s.phase s.gave_accepted)
         × IsOrderly (rules_by K.picks s.rules s.picker) (reverse s.events.items) };
 }
 

@@ -13,7 +13,8 @@ use Rattle.spiffe.specs.Building.{SyncFails, refused_as}
 -- an endpoint that was refused
 pub refused_fails : {K : Type 0} (picks : K → List Svid → Option ℕ) (set : Settings K)
     (valid : Result (Unit {0}) EndpointError) (e : EndpointError)
-    → Gives {X = Unit {0}} is_memory (λ u. u) (Err e) valid → SyncFails picks set valid (refused_as e)
+    → Gives {X = Unit {0}} is_memory (λ u. u) (Err e) valid
+    → SyncFails picks set valid (refused_as e)
 refused_fails picks set valid e h = by_memory (is_memory e) h
   where
     by_memory : (b : Bool) → MatchBool b (Unit {0}) (valid ≡ Err e)

@@ -12,7 +12,8 @@ use Rattle.spiffe.specs.Boards.{numbers_of}
 -- an End is no step
 pub same_steps : (new old : Past PlainStep) → (new ≡ added old entry.End) ⊎ (new ≡ old)
     → steps_of new.list ≡ steps_of old.list
-same_steps new old (inl ended) = ap (λ (p : Past PlainStep). steps_of p.list) ended ∙ steps_end old.list
+same_steps new old (inl ended) =
+    ap (λ (p : Past PlainStep). steps_of p.list) ended ∙ steps_end old.list
 same_steps new old (inr same) = ap (λ (p : Past PlainStep). steps_of p.list) same
 
 -- the numbers of a board name it

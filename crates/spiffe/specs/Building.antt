@@ -1,5 +1,6 @@
 -- What a builder makes of a source, and why it fails.
-use Rattle.std.specs.Prelude.{◌≡◌, ◌⊎◌, ℕ, ℤ, List, [], Option, None, Some, Result, Ok, Err, reverse, if◌then◌else◌}
+use Rattle.std.specs.Prelude.{◌≡◌, ◌⊎◌, ℕ, ℤ, List, [], Option, None, Some, Result, Ok, Err}
+use Rattle.std.specs.Prelude.{reverse, if◌then◌else◌}
 use Rattle.std.specs.declared.time.Duration.{Duration}
 use Rattle.spf_api.specs.declared.endpoint_error.EndpointError.{EndpointError}
 use Rattle.spf_api.specs.declared.error.WorkloadApiError.TheVariants as api
@@ -73,7 +74,8 @@ BuildFails picks set valid before now started starts errors.NoSupervisor = Refus
 BuildFails picks set valid before now started starts e = PrepareFails picks set valid before now e
 
 -- What an initial synchronisation leaves to a supervisor: the rules are those of the builder, the
--- connector has its meaning, the run is synchronised, and its moments are those that the clock gave.
+-- connector has its meaning, the run is synchronised, and its moments are those that the clock
+-- gave.
 pub record IsAssigned {S K : Type 0} (members : S → Option (List Member))
     (picks : K → List Svid → Option ℕ) (set : Settings K) (connector : S)
     (clock clock' : Option (List (Option ℤ))) (job : Assigned S K) : Type 0 where

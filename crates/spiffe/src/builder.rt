@@ -2,6 +2,8 @@
 
 ghost use Rattle.std.specs.Prelude.{◌≡◌, ◌≤◌, Err, IfErr, IfOk, None, Ok, Some};
 ghost use Rattle.std.specs.Option.{ForSome};
+ghost use Rattle.spf_feed.specs.Limits.{default_limits};
+ghost use Rattle.spf_feed.specs.declared.ready.Ready.TheVariants as readiness;
 ghost use Rattle.spiffe.specs.Building.{BuildFails, IsAssigned, IsBuilt, PrepareFails};
 
 use crate::handle::{PendingHandle, SupervisorHandle};
@@ -53,6 +55,9 @@ impl<C: Connector + Drop> X509SourceBuilder<NoPicker, C, NoRecorder> {
     pub fn new(connector: C) -> X509SourceBuilder<NoPicker, C, NoRecorder>
         ensures connector { result.connector ≡ connector }
         ensures timeout { result.settings.timeout ≡ None }
+        ensures rules { (result.settings.picker ≡ None)
+            × (result.settings.limits ≡ default_limits)
+            × (result.settings.ready ≡ readiness.Usable) }
     {
         X509SourceBuilder {
             settings: Settings {

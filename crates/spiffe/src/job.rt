@@ -38,7 +38,8 @@ impl<K: SvidPicker + Drop, R: Wait + Drop> Model for X509Done<K, R> {
 
     ghost view = { λ d. left_of d.ended d.record };
 
-    ghost invariant = { λ d. IfSome d.record (λ r. (r.steps ≡ steps_of d.ended.list) × IsRecord K.picks r) };
+    ghost invariant = { λ d. IfSome d.record (λ r.
+        (r.steps ≡ steps_of d.ended.list) × IsRecord K.picks r) };
 }
 
 impl<K: SvidPicker + Drop, R: Wait + Drop> X509Done<K, R> {
@@ -95,11 +96,14 @@ where
 
     ghost Value = { Assigned C K };
 
-    ghost view = { λ j. assigned j.feeder.core.publisher.book j.watch j.feeder.core.run j.feeder.core.settings j.feeder.core.picker j.pace.bounds j.feeder.first };
+    ghost view = { λ j. assigned j.feeder.core.publisher.book j.watch j.feeder.core.run
+        j.feeder.core.settings j.feeder.core.picker j.pace.bounds j.feeder.first };
 
     ghost invariant = { λ j. (j.feeder.core.stuck ≡ false)
-        × IsSynced (rules_by K.picks j.feeder.core.settings j.feeder.core.picker) (reverse j.feeder.core.run)
-        × KeepsPace (rules_by K.picks j.feeder.core.settings j.feeder.core.picker) j.feeder.core.run j.pace };
+        × IsSynced (rules_by K.picks j.feeder.core.settings j.feeder.core.picker)
+        (reverse j.feeder.core.run)
+        × KeepsPace (rules_by K.picks j.feeder.core.settings j.feeder.core.picker)
+        j.feeder.core.run j.pace };
 }
 
 /// What is left where a caller closed the source.

@@ -2,8 +2,6 @@
 //! lock.
 #![tactic(auto)]
 
-#[cfg(test)]
-mod build_tests;
 mod builder;
 mod closing;
 mod handle;
@@ -13,8 +11,6 @@ mod publishing;
 mod record;
 mod source;
 mod task;
-#[cfg(test)]
-mod tests;
 mod updates;
 
 pub use builder::{Settings, X509SourceBuilder};

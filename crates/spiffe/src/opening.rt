@@ -1,6 +1,7 @@
 //! The parts of building a source.
 
-ghost use Rattle.std.specs.Prelude.{◌≡◌, [], false, Err, IfErr, IfOk, None, Ok, Some, map, reverse, ◌∷◌};
+ghost use Rattle.std.specs.Prelude.{◌≡◌, [], false, Err, IfErr, IfOk, None, Ok, Some};
+ghost use Rattle.std.specs.Prelude.{map, reverse, ◌∷◌};
 ghost use Rattle.std.specs.Option.{ForSome};
 ghost use Rattle.spf_view.specs.Steps.{steps_of};
 ghost use Rattle.spf_history.specs.Lists.{steps_of as board_steps};
@@ -264,7 +265,7 @@ where
     } = cells;
     let (feeder, front, first) = on_board(rt, alloc, feeder, publisher_bell)?;
     let pass = placed(first, places)?;
-    let source = X509Source::new(alloc, front, caller, stop, source_bell)?;
+    let source = X509Source::over(alloc, front, caller, stop, source_bell)?;
     let job = X509Job {
         feeder,
         pace,

@@ -39,9 +39,11 @@ impl<K: SvidPicker + Drop> Model for Supervised<K> {
 
     ghost Value = { Recorded K };
 
-    ghost view = { λ s. recorded_of s.events.items (map plain s.steps.items) s.rules s.picker s.pace s.closed };
+    ghost view = { λ s. recorded_of s.events.items (map plain s.steps.items) s.rules s.picker
+        s.pace s.closed };
 
-    ghost invariant = { λ s. IsRecord K.picks (recorded_of s.events.items (map plain s.steps.items) s.rules s.picker s.pace s.closed) };
+    ghost invariant = { λ s. IsRecord K.picks
+        (recorded_of s.events.items (map plain s.steps.items) s.rules s.picker s.pace s.closed) };
 }
 
 impl<K: SvidPicker + Drop> fmt::Debug for Supervised<K> {

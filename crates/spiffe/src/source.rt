@@ -53,9 +53,9 @@ impl fmt::Debug for X509Source {
 }
 
 impl X509Source {
-    /// A handle of the board of a front, and of the cell that its closer closes. The bell is rung
-    /// at each change.
-    pub(crate) fn new(
+    /// A source over a board that its caller publishes on, and the cell that the closer closes. The
+    /// bell is rung at each change. `X509SourceBuilder` makes all of this.
+    pub fn over(
         alloc: Global,
         front: Front<X509>,
         mut closer: Closer,

@@ -24,7 +24,8 @@ synchronise-requires-clause-keeps g c =
 pub returns-in-Ok-clause-synced : goal.returns-in-Ok-clause-synced
 returns-in-Ok-clause-synced g c =
     (λ i. has_synced
-    (subject (rules_by g.K.SvidPicker.picks (c.in-Ok.ensures.settings i) (c.in-Ok.ensures.picker i)))
+    (subject (rules_by g.K.SvidPicker.picks (c.in-Ok.ensures.settings i)
+    (c.in-Ok.ensures.picker i)))
     (reverse c.synchronise.new.feeder.core.run))
     ∙ c.in-Ok.ensures.synced
 

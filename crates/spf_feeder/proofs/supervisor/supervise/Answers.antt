@@ -14,7 +14,8 @@ turns-preserved g c =
     let after = c.in-Ok.ensures in
     let core = c.args.feeder.now.core in
     let same : rules_by g.K.SvidPicker.picks c.turns.feeder.core.settings c.turns.feeder.core.picker
-    ≡ rules_by g.K.SvidPicker.picks core.settings core.picker = λ i. rules_by g.K.SvidPicker.picks (loop.settings i) (loop.picker i) in
+    ≡ rules_by g.K.SvidPicker.picks core.settings core.picker =
+    λ i. rules_by g.K.SvidPicker.picks (loop.settings i) (loop.picker i) in
     let paced = after.paces
     (keeps_as _ _ c.turns.feeder.core.run c.turns.pace (sym same) loop.keeps) in
     record {

@@ -39,7 +39,8 @@ returns-then-is_synced-clause-synced g c =
     let after = c.in_ok-paced_ask.ensures in
     (λ i. has_synced (subject (rules_by g.K.SvidPicker.picks
     (sym (after.settings ∙ before.settings ∙ loop.settings) i)
-    (sym (after.picker ∙ before.picker ∙ loop.picker) i))) (reverse c.paced_ask.new.feeder.core.run))
+    (sym (after.picker ∙ before.picker ∙ loop.picker) i)))
+    (reverse c.paced_ask.new.feeder.core.run))
     ∙ sym c.is_synced.ensures ∙ c.if-is_synced.true
 
 pub returns-then-is_synced-clause-timed : goal.returns-then-is_synced-clause-timed
@@ -49,10 +50,12 @@ returns-then-is_synced-clause-timed g c =
     let after = c.in_ok-paced_ask.ensures in
     let core = c.args.feeder.now.core in
     let rule : Rules = rules_by g.K.SvidPicker.picks core.settings core.picker in
-    let at_loop : rules_by g.K.SvidPicker.picks c.asks.feeder.core.settings c.asks.feeder.core.picker
+    let at_loop : rules_by g.K.SvidPicker.picks c.asks.feeder.core.settings
+    c.asks.feeder.core.picker
     ≡ rule = λ i. rules_by g.K.SvidPicker.picks (loop.settings i) (loop.picker i) in
     let asked = c.moment_before.new.feeder.core in
-    let at_ask : rules_by g.K.SvidPicker.picks asked.settings asked.picker ≡ rule = λ i. rules_by g.K.SvidPicker.picks ((before.settings ∙ loop.settings) i)
+    let at_ask : rules_by g.K.SvidPicker.picks asked.settings asked.picker ≡ rule =
+    λ i. rules_by g.K.SvidPicker.picks ((before.settings ∙ loop.settings) i)
     ((before.picker ∙ loop.picker) i) in
     about_timed rule _ _
     (subst (λ r. IsAboutToAsk r c.moment_before.new.feeder.core.run) at_loop before.timed)
@@ -66,9 +69,11 @@ returns-then-is_synced-clause-once g c =
     let after = c.in_ok-paced_ask.ensures in
     let core = c.args.feeder.now.core in
     let rule : Rules = rules_by g.K.SvidPicker.picks core.settings core.picker in
-    let at_loop : rules_by g.K.SvidPicker.picks c.asks.feeder.core.settings c.asks.feeder.core.picker
+    let at_loop : rules_by g.K.SvidPicker.picks c.asks.feeder.core.settings
+    c.asks.feeder.core.picker
     ≡ rule = λ i. rules_by g.K.SvidPicker.picks (loop.settings i) (loop.picker i) in
-    let about = subst (λ r. IsAboutToAsk r c.moment_before.new.feeder.core.run) at_loop before.timed in
+    let about =
+    subst (λ r. IsAboutToAsk r c.moment_before.new.feeder.core.run) at_loop before.timed in
     first_step rule _ _ after.adds.event after.adds.run_is about.unsynced
     (returns-then-is_synced-clause-synced g c)
 
@@ -86,13 +91,16 @@ asks-preserved g c =
     let after = c.in_ok-paced_ask.ensures in
     let core = c.args.feeder.now.core in
     let rule : Rules = rules_by g.K.SvidPicker.picks core.settings core.picker in
-    let at_loop : rules_by g.K.SvidPicker.picks c.asks.feeder.core.settings c.asks.feeder.core.picker
+    let at_loop : rules_by g.K.SvidPicker.picks c.asks.feeder.core.settings
+    c.asks.feeder.core.picker
     ≡ rule = λ i. rules_by g.K.SvidPicker.picks (loop.settings i) (loop.picker i) in
     let asked = c.moment_before.new.feeder.core in
-    let at_ask : rules_by g.K.SvidPicker.picks asked.settings asked.picker ≡ rule = λ i. rules_by g.K.SvidPicker.picks ((before.settings ∙ loop.settings) i)
+    let at_ask : rules_by g.K.SvidPicker.picks asked.settings asked.picker ≡ rule =
+    λ i. rules_by g.K.SvidPicker.picks ((before.settings ∙ loop.settings) i)
     ((before.picker ∙ loop.picker) i) in
     let ended = c.paced_ask.new.feeder.core in
-    let at_end : rules_by g.K.SvidPicker.picks ended.settings ended.picker ≡ rule = λ i. rules_by g.K.SvidPicker.picks
+    let at_end : rules_by g.K.SvidPicker.picks ended.settings ended.picker ≡ rule =
+    λ i. rules_by g.K.SvidPicker.picks
     ((after.settings ∙ before.settings ∙ loop.settings) i)
     ((after.picker ∙ before.picker ∙ loop.picker) i) in
     let middle = c.moment_before.new.feeder.core.run in

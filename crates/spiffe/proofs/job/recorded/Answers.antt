@@ -10,7 +10,8 @@ new-record-requires g c =
     let parts = c.into_parts-publisher.ensures in
     let steps = map plain c.finish-ended.result.1.items in
     subst (IsRecord g.K.SvidPicker.picks)
-    (λ i. recorded_of (sym parts.events i) steps (sym parts.rules i) (sym parts.picker i) c.args.pace
+    (λ i. recorded_of (sym parts.events i) steps (sym parts.rules i) (sym parts.picker i)
+    c.args.pace
     c.args.closed)
     (record {
       orderly = parts.orderly;

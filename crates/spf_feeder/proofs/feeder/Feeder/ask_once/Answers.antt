@@ -24,7 +24,8 @@ pub returns-in-Ok-clause-turn : goal.returns-in-Ok-clause-turn
 returns-in-Ok-clause-turn g c =
     let going : c.self.inside.session.stuck ≡ false =
     sym c.is_stuck.ensures ∙ c.if-is_stuck.false in
-    turned_of g.C.Connector g.C.Link.Link g.M.MetricsRecorder.records g.K.SvidPicker.picks _ _ _ _ _ _
+    turned_of g.C.Connector g.C.Link.Link g.M.MetricsRecorder.records g.K.SvidPicker.picks _ _ _ _ _
+    _
     c.self.view_is c.phase-phase.ensures c.in-Ok.ensures c.advance.ensures.advances going
 
 pub returns-in-Ok-clause-goes_on : goal.returns-in-Ok-clause-goes_on
@@ -37,7 +38,8 @@ invariant_of-self g c =
     let rule : Rules = rules_by g.K.SvidPicker.picks before.settings before.picker in
     let same : rules_by g.K.SvidPicker.picks c.advance.new.self.settings c.advance.new.self.picker
     ≡ rule =
-    λ i. rules_by g.K.SvidPicker.picks (c.advance.ensures.settings i) (c.advance.ensures.picker i) in
+    λ i. rules_by g.K.SvidPicker.picks (c.advance.ensures.settings i) (c.advance.ensures.picker i)
+    in
     let ready = c.self.invariant.1 going in (
       c.advance.ensures.published,
       ready_of g.C.Connector g.C.Link.Link g.M.MetricsRecorder.records rule _ before _ _ _ _ _ _

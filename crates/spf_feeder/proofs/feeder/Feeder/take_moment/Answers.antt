@@ -11,11 +11,13 @@ invariant_of-self g c =
     let rule : Rules = rules_by g.K.SvidPicker.picks before.settings before.picker in
     let same : rules_by g.K.SvidPicker.picks c.advance.new.self.settings c.advance.new.self.picker
     ≡ rule =
-    λ i. rules_by g.K.SvidPicker.picks (c.advance.ensures.settings i) (c.advance.ensures.picker i) in (
+    λ i. rules_by g.K.SvidPicker.picks (c.advance.ensures.settings i) (c.advance.ensures.picker i)
+    in (
       c.advance.ensures.published,
       ready_still g.C.Link.Link.kind g.M.MetricsRecorder.records rule _ before _ _ _ _
           c.advance.ensures.advances same (c.self.invariant.1 going),
-      tells_still g.C.Connector.members g.C.Link.Link.answers g.M.MetricsRecorder.records rule _ before
+      tells_still g.C.Connector.members g.C.Link.Link.answers g.M.MetricsRecorder.records rule _
+          before
           _ _ _ _ _ c.advance.ensures.advances same (c.self.invariant.2 going),
     )
 

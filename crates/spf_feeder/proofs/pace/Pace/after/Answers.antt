@@ -6,8 +6,11 @@ pub returns-then-grows-clause-keeps : goal.returns-then-grows-clause-keeps
 returns-then-grows-clause-keeps g c = λ rule run e ended keeps.
     after_growth rule run e c.args.end c.next_u64-word.result c.after-delay.result c.args.self.now _
     refl (search rules) (search rules) (sym c.grows.ensures ∙ c.if-grows.true)
-    (λ bounds past stands.
-    (c.after-delay.ensures.pause bounds past stands, c.after-delay.ensures.stands bounds past stands))
+    (λ bounds past stands. (
+      c.after-delay.ensures.pause bounds past stands,
+      c.after-delay.ensures.stands bounds past
+          stands,
+    ))
     ended keeps
 
 pub returns-clause-keeps : goal.returns-clause-keeps

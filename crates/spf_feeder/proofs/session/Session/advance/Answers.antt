@@ -43,7 +43,8 @@ invariant_of-self-in_err-record_all g c =
     c.moment_after-after.ensures c.phase_after-next.ensures c.is_accepted-is_accepted.ensures
     c.gave_after-self-inside.ensures c.in_ok-records.ensures.synced c.in_ok-end.ensures refl in (
       c.self.invariant.0,
-      subst (λ run. Published (g.P.Publisher.steps c.publish_turn.new.publisher) rule run) (sym items)
+      subst (λ run. Published (g.P.Publisher.steps c.publish_turn.new.publisher) rule run)
+          (sym items)
           done.published,
       λ f. absurd cc,
       subst (λ run. IsOrderly rule (reverse run)) (sym items)
@@ -67,7 +68,8 @@ returns-clause-published g c =
     _ c.self.invariant.1 (c.self.invariant.2 (search rules)) lent c.is_some-synced.ensures
     c.in_ok-received.ensures c.turn_of-turn.ensures.turn c.in_ok-records.ensures.published
     c.moment_after-after.ensures c.phase_after-next.ensures c.is_accepted-is_accepted.ensures
-    c.gave_after-self-inside.ensures c.in_ok-records.ensures.synced c.in_ok-end.ensures c.unless.ensures in
+    c.gave_after-self-inside.ensures c.in_ok-records.ensures.synced c.in_ok-end.ensures
+    c.unless.ensures in
     subst (λ run. Published (g.P.Publisher.steps c.publish_turn.new.publisher) rule run) (sym items)
     done.published
 
@@ -83,9 +85,11 @@ invariant_of-self-2 g c =
     _ c.self.invariant.1 (c.self.invariant.2 (search rules)) lent c.is_some-synced.ensures
     c.in_ok-received.ensures c.turn_of-turn.ensures.turn c.in_ok-records.ensures.published
     c.moment_after-after.ensures c.phase_after-next.ensures c.is_accepted-is_accepted.ensures
-    c.gave_after-self-inside.ensures c.in_ok-records.ensures.synced c.in_ok-end.ensures c.unless.ensures in (
+    c.gave_after-self-inside.ensures c.in_ok-records.ensures.synced c.in_ok-end.ensures
+    c.unless.ensures in (
       c.self.invariant.0,
-      subst (λ run. Published (g.P.Publisher.steps c.publish_turn.new.publisher) rule run) (sym items)
+      subst (λ run. Published (g.P.Publisher.steps c.publish_turn.new.publisher) rule run)
+          (sym items)
           done.published,
       λ f. going_at rule _ _ _ _ _ _ _ items done.going,
       subst (λ run. IsOrderly rule (reverse run)) (sym items)
@@ -109,10 +113,13 @@ returns-clause-advances g c =
     _ c.self.invariant.1 (c.self.invariant.2 (search rules)) lent c.is_some-synced.ensures
     c.in_ok-received.ensures c.turn_of-turn.ensures.turn c.in_ok-records.ensures.published
     c.moment_after-after.ensures c.phase_after-next.ensures c.is_accepted-is_accepted.ensures
-    c.gave_after-self-inside.ensures c.in_ok-records.ensures.synced c.in_ok-end.ensures c.unless.ensures in
-    let same : rule ≡ rules_by g.K.SvidPicker.picks c.args.self.now.settings c.args.self.now.picker =
+    c.gave_after-self-inside.ensures c.in_ok-records.ensures.synced c.in_ok-end.ensures
+    c.unless.ensures in
+    let same : rule ≡ rules_by g.K.SvidPicker.picks c.args.self.now.settings c.args.self.now.picker
+    =
     ap (λ old. rules_by g.K.SvidPicker.picks old.settings old.picker) c.self.view_is in
-    advanced_of g.M.MetricsRecorder.records rule _ _ _ _ _ _ _ _ _ _ _ _ same c.self.view_is done items
+    advanced_of g.M.MetricsRecorder.records rule _ _ _ _ _ _ _ _ _ _ _ _ same c.self.view_is done
+    items
     refl c.in_ok-record_all.ensures
 
 pub returns-in_err-records-clause-advances : goal.returns-in_err-records-clause-advances
@@ -121,13 +128,15 @@ returns-in_err-records-clause-advances g c =
     let rule : Rules = rules_by g.K.SvidPicker.picks before.rules before.picker in
     let lent = ap (rules_with before.rules.limits before.rules.deadline before.rules.ready)
     (lent_picker g.K.SvidPicker.picks c.as_ref.result before.picker (search rules)) in
-    let same : rule ≡ rules_by g.K.SvidPicker.picks c.args.self.now.settings c.args.self.now.picker =
+    let same : rule ≡ rules_by g.K.SvidPicker.picks c.args.self.now.settings c.args.self.now.picker
+    =
     ap (λ old. rules_by g.K.SvidPicker.picks old.settings old.picker) c.self.view_is in
     let p = err_from_is_err_and c.from_residual-in_err-records.result
     c.from_residual-in_err-records.ensures.1 in
     rw (p.1, p.2)
     (refused_of g.M.MetricsRecorder.records rule _ _ _ _ _ same
-    (refused_by g.M.MetricsRecorder.records rule _ before.events.items c.args.event _ _ _ _ _ _ _ _ _
+    (refused_by g.M.MetricsRecorder.records rule _ before.events.items c.args.event _ _ _ _ _ _ _ _
+    _
     _ _ _ _ (c.self.invariant.2 (search rules)) lent c.is_some-synced.ensures
     c.in_ok-received.ensures c.turn_of-turn.ensures.turn c.in_err-records.ensures.published
     (ap (λ old. old.run) (sym c.self.view_is)) c.reserve.ensures.items refl))
