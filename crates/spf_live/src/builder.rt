@@ -1,6 +1,11 @@
 //! The builder of a live run.
 
-use spf_feed::{HintPicker, NoRecorder};
+ghost use Rattle.std.specs.Prelude.{◌≡◌, IfOk};
+ghost use Rattle.std.specs.Option.{option_map, option_copied};
+ghost use Rattle.spf_feed.specs.Pick.{first_with_hint};
+ghost use Rattle.spf_live.specs.Runs.{IsSetTo};
+
+use spf_feed::{HintPicker, NoRecorder, SvidPicker};
 use spf_io::{OutOfMemory, Text};
 use spf_link::Connector;
 use spf_options::LiveOptions;
@@ -9,7 +14,10 @@ use std::alloc::Global;
 use std::time::Duration;
 
 /// The picker of a hint, where there is one.
-fn picker_of(alloc: Global, hint: Option<&str>) -> Result<Option<HintPicker>, OutOfMemory> {
+fn picker_of(alloc: Global, hint: Option<&str>) -> Result<Option<HintPicker>, OutOfMemory>
+    ensures { IfOk result (λ p. option_map (⟦<HintPicker as SvidPicker>⟧.picks) p
+        ≡ option_map first_with_hint (option_copied hint)) }
+{
     match hint {
         Some(hint) => Ok(Some(HintPicker::new(Text::copy_of(alloc, hint)?))),
         None => Ok(None),
@@ -25,6 +33,9 @@ pub(crate) fn builder_of<C>(
 where
     C: Connector + Drop,
     C::Link: Drop,
+    ensures connector { IfOk result (λ b. b.connector ≡ connector) }
+    ensures settings { IfOk result (λ b.
+        IsSetTo (⟦<HintPicker as SvidPicker>⟧.picks) options.now b.settings) }
 {
     let picker = picker_of(alloc, options.hint)?;
     let builder = X509SourceBuilder::new(connector)

@@ -1,5 +1,10 @@
 //! A source that was built is followed, closed and joined.
 
+ghost use Rattle.std.specs.Prelude.{◌≡◌, ◌≤◌, IfErr};
+ghost use Rattle.spf_board.specs.Passes.{Rose as Refused};
+ghost use Rattle.spf_io.specs.Outside.{Rose};
+ghost use Rattle.spf_live.specs.Runs.{FollowFails, Follows};
+
 use crate::error::{LiveError, error_of};
 use crate::printing::print_lines;
 use rand_core::Rng;
@@ -40,6 +45,15 @@ where
     T: Clock,
     L: Places,
     K: Sink,
+    requires pass { pass.book ≡ source.board }
+    requires job { handle.job.board ≡ source.board }
+    requires lines { 1 ≤ lines }
+    ensures follows { Follows C.members P.picks handle.job pass.seen lines
+        (T.moments clock.old) (T.moments clock.new) (K.held out.old) (K.held out.new) result }
+    ensures places { L.refusals places.old ≤ L.refusals places.new }
+    ensures cause { IfErr result (FollowFails
+        (Refused (L.refusals places.old) (L.refusals places.new))
+        (Rose (K.failures out.old) (K.failures out.new))) }
 {
     let mut pass = pass;
     let mut updates = match source.updated(&mut pass, places) {

@@ -1,11 +1,18 @@
 //! A live run over a spawner of any kind.
 
+ghost use Rattle.std.specs.Prelude.{◌≡◌, ◌↔◌, None, Err, map, string_bytes};
+ghost use Rattle.spf_board.specs.Passes.{Rose as Refused};
+ghost use Rattle.spf_io.specs.Outside.{Rose};
+ghost use Rattle.spf_options.specs.Live.{live_setting};
+ghost use Rattle.spf_live.specs.Runs.{Does, Ended};
+ghost use Rattle.spf_live.specs.declared.error.LiveError.TheVariants as errors;
+
 use crate::builder::builder_of;
 use crate::error::{LiveError, error_of};
 use crate::follow::follow;
 use crate::report::report;
 use rand_core::Rng;
-use spf_feed::{HintPicker, NoRecorder};
+use spf_feed::{HintPicker, NoRecorder, SvidPicker};
 use spf_io::Sink;
 use spf_job::Spawner;
 use spf_link::Connector;
@@ -44,6 +51,18 @@ where
     K: Sink,
     E: Sink,
     R: Wait + time::Clock + Copy + Drop,
+    // Status 1 comes exactly where the words are not those of a live run.
+    ensures words { (result ≡ 1) ↔ (live_setting (map string_bytes words.now) ≡ None) }
+    // The lines show what one source holds, each a later state than the line before it. Where all of
+    // them were printed, the record of its supervisor has their steps, and what the connector told.
+    // Where they were not, the status and the line on `faults` say why.
+    ensures ended { Ended (C.members connector) (⟦<HintPicker as SvidPicker>⟧.picks)
+        (C.validates connector) (Rose (S.refusals spawner.old) (S.refusals spawner.new))
+        (Refused (L.refusals places.old) (L.refusals places.new))
+        (Rose (K.failures out.old) (K.failures out.new))
+        (live_setting (map string_bytes words.now)) (T.moments clock.old) (T.moments clock.new)
+        (K.held out.old) (K.held out.new) (E.held faults.old) (E.held faults.new)
+        (E.failures faults.old) (E.failures faults.new) result }
 {
     let end = live(rt, alloc, words, connector, clock, pause, random, spawner, places, out);
     report(faults, end)
@@ -72,6 +91,14 @@ where
     L: Places,
     K: Sink,
     R: Wait + time::Clock + Copy + Drop,
+    ensures words { (result ≡ Err errors.BadWords)
+        ↔ (live_setting (map string_bytes words.now) ≡ None) }
+    ensures does { Does (C.members connector) (⟦<HintPicker as SvidPicker>⟧.picks)
+        (C.validates connector) (Rose (S.refusals spawner.old) (S.refusals spawner.new))
+        (Refused (L.refusals places.old) (L.refusals places.new))
+        (Rose (K.failures out.old) (K.failures out.new))
+        (live_setting (map string_bytes words.now)) (T.moments clock.old) (T.moments clock.new)
+        (K.held out.old) (K.held out.new) result }
 {
     let Some(options) = live_options(words) else {
         return Err(LiveError::BadWords);

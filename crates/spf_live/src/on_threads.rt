@@ -1,10 +1,17 @@
 //! A live run over real threads.
 
+ghost use Rattle.std.specs.Prelude.{◌≡◌, ◌↔◌, None, Ok, Err, map, string_bytes};
+ghost use Rattle.spf_io.specs.Outside.{Rose};
+ghost use Rattle.spf_options.specs.Live.{live_setting};
+ghost use Rattle.spf_live.specs.Runs.{Does, Ended};
+ghost use Rattle.spf_live.specs.declared.error.LiveError.TheVariants as errors;
+
 use crate::builder::builder_of;
 use crate::error::{LiveError, error_of};
 use crate::follow::follow;
 use crate::on_thread::{HostConnector, start_on_thread};
 use crate::report::report;
+use spf_feed::{HintPicker, SvidPicker};
 use spf_io::Sink;
 use spf_job::StepWords;
 use spf_options::live_options;
@@ -29,6 +36,15 @@ where
     R: Threads + Wait + time::Clock + Copy + Drop + Send + 'static,
     K: Sink,
     E: Sink,
+    // Status 1 comes exactly where the words are not those of a live run.
+    ensures words { (result ≡ 1) ↔ (live_setting (map string_bytes words.now) ≡ None) }
+    // As `watch_live` over the endpoint, the clock and the threads of the process: no clause says
+    // when a thread is not to be had.
+    ensures ended { Ended None (⟦<HintPicker as SvidPicker>⟧.picks) (Ok tt) (Unit {0}) (Unit {0})
+        (Rose (K.failures out.old) (K.failures out.new))
+        (live_setting (map string_bytes words.now)) None None
+        (K.held out.old) (K.held out.new) (E.held faults.old) (E.held faults.new)
+        (E.failures faults.old) (E.failures faults.new) result }
 {
     let end = live_on_threads(host, rt, words, out);
     report(faults, end)
@@ -43,6 +59,12 @@ fn live_on_threads<R, K>(
 where
     R: Threads + Wait + time::Clock + Copy + Drop + Send + 'static,
     K: Sink,
+    ensures words { (result ≡ Err errors.BadWords)
+        ↔ (live_setting (map string_bytes words.now) ≡ None) }
+    ensures does { Does None (⟦<HintPicker as SvidPicker>⟧.picks) (Ok tt) (Unit {0}) (Unit {0})
+        (Rose (K.failures out.old) (K.failures out.new))
+        (live_setting (map string_bytes words.now)) None None (K.held out.old) (K.held out.new)
+        result }
 {
     let Some(options) = live_options(words) else {
         return Err(LiveError::BadWords);

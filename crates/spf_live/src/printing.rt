@@ -1,8 +1,10 @@
 //! The lines of a live run.
 
-ghost use Rattle.std.specs.Prelude.{◌≡◌, ◌≤◌, OnOk};
-
-
+ghost use Rattle.std.specs.Prelude.{◌≡◌, ◌≤◌, ◌⊎◌, None, Some, IfErr};
+ghost use Rattle.spf_io.specs.Outside.{Rose};
+ghost use Rattle.spiffe.specs.Reads.{IsRevision, SeesNoLess};
+ghost use Rattle.spf_live.specs.Printing.{Prints, PrintsLine};
+ghost use Rattle.spf_live.specs.Runs.{FollowFails};
 
 use crate::error::{LiveError, error_of};
 use spf_feed::state_line;
@@ -20,6 +22,12 @@ fn print_state<T: Clock, K: Sink>(
     clock: &mut T,
     out: &mut K,
 ) -> Result<(), LiveError>
+    ensures line { PrintsLine updates.new.pass.seen updates.new.marked None (T.moments clock.old)
+        (T.moments clock.new) (K.held out.old) (K.held out.new) result }
+    ensures pass { SeesNoLess updates.old.pass updates.new.pass }
+    ensures writes { K.failures out.old ≤ K.failures out.new }
+    ensures cause { IfErr result (FollowFails ⊥ (Rose (K.failures out.old)
+        (K.failures out.new))) }
 {
     let state = updates.state()?;
     let line = state_line(alloc, &state, clock.now())?;
@@ -29,7 +37,8 @@ fn print_state<T: Clock, K: Sink>(
     }
 }
 
-/// Waits for a change, and prints the state that is then published.
+/// Waits for a change, and prints the state that is then published. Its revision is above the
+/// marked one, which is that of what the updates have read.
 fn print_change<R: Wait + time::Clock, T: Clock, K: Sink>(
     rt: &R,
     alloc: Global,
@@ -37,10 +46,18 @@ fn print_change<R: Wait + time::Clock, T: Clock, K: Sink>(
     clock: &mut T,
     out: &mut K,
 ) -> Result<(), LiveError>
+    requires { IsRevision updates.old.pass updates.old.marked }
+    ensures line { PrintsLine updates.new.pass.seen updates.new.marked (Some updates.old.marked)
+        (T.moments clock.old) (T.moments clock.new) (K.held out.old) (K.held out.new) result }
+    ensures pass { SeesNoLess updates.old.pass updates.new.pass }
+    ensures writes { K.failures out.old ≤ K.failures out.new }
+    ensures cause { IfErr result (FollowFails ⊥ (Rose (K.failures out.old)
+        (K.failures out.new))) }
 {
     match updates.changed(rt) {
         Ok(_) => print_state(alloc, updates, clock, out),
-        Err(e) => Err(error_of(e)),
+        // Nobody has closed the source: its supervisor ended out of memory.
+        Err(_) => Err(LiveError::OutOfMemory),
     }
 }
 
@@ -53,6 +70,12 @@ pub(crate) fn print_lines<R: Wait + time::Clock, T: Clock, K: Sink>(
     out: &mut K,
     lines: u64,
 ) -> Result<(), LiveError>
+    requires { 1 ≤ lines }
+    ensures prints { Prints updates.old.pass.seen updates.new.pass.seen lines
+        (T.moments clock.old) (T.moments clock.new) (K.held out.old) (K.held out.new) result }
+    ensures pass { SeesNoLess updates.old.pass updates.new.pass }
+    ensures cause { IfErr result (FollowFails ⊥ (Rose (K.failures out.old)
+        (K.failures out.new))) }
 {
     print_state(alloc, updates, clock, out)?;
     'changes: for _ in 1..lines {

@@ -1,6 +1,7 @@
 //! The options of a live run.
 
-ghost use Rattle.std.specs.Prelude.{◌≡◌, map, string_bytes};
+ghost use Rattle.std.specs.Prelude.{◌≡◌, ◌≤◌, map, string_bytes};
+ghost use Rattle.std.specs.Option.{ForSome};
 ghost use Rattle.spf_options.specs.Live.{is_live_option, limits_in, live_setting};
 ghost use Rattle.spf_options.specs.Pairs.{are_pairs};
 
@@ -86,7 +87,8 @@ fn limits_of(words: &[String]) -> Option<ResourceLimits>
 /// What the words of a live run set; `None` where they are no such words.
 #[tactic(auto, unfolding(crate::specs::Live::live_setting))]
 pub fn live_options(words: &[String]) -> Option<LiveOptions<'_>>
-    ensures { result ≡ live_setting (map string_bytes words.now) }
+    ensures setting { result ≡ live_setting (map string_bytes words.now) }
+    ensures lines { ForSome result (λ o. 1 ≤ o.lines) }
 {
     if !are_options(words) {
         return None;

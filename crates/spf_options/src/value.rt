@@ -1,7 +1,7 @@
 //! The values of options.
 
-ghost use Rattle.std.specs.Prelude.{◌≡◌, None, map, string_bytes};
-ghost use Rattle.std.specs.Option.{option_map, option_copied};
+ghost use Rattle.std.specs.Prelude.{◌≡◌, ◌≤◌, None, map, string_bytes};
+ghost use Rattle.std.specs.Option.{option_map, option_copied, ForSome};
 ghost use Rattle.spf_options.specs.Pairs.{option_in};
 ghost use Rattle.spf_options.specs.Values.{count_in, limit_in, ready_in, seconds_in, text_in};
 
@@ -34,7 +34,8 @@ fn ready(text: &str) -> Option<Ready>
 
 /// A number from 1 on.
 fn count(text: &str) -> Option<u64>
-    ensures { result ≡ count_in text.now }
+    ensures value { result ≡ count_in text.now }
+    ensures least { ForSome result (λ n. 1 ≤ n) }
 {
     match number_up_to(MAX_NUMBER, text)? {
         0 => None,
@@ -90,7 +91,9 @@ pub fn seconds_option(words: &[String], option: &str) -> Option<Option<u64>>
 /// The number from 1 on that an option sets, by default `absent`.
 #[tactic(auto, unfolding(crate::specs::Pairs::option_in))]
 pub fn count_option(words: &[String], option: &str, absent: u64) -> Option<u64>
-    ensures { result ≡ option_in count_in absent option.now (map string_bytes words.now) }
+    requires { 1 ≤ absent }
+    ensures value { result ≡ option_in count_in absent option.now (map string_bytes words.now) }
+    ensures least { ForSome result (λ n. 1 ≤ n) }
 {
     match value_of(words, option)? {
         None => Some(absent),

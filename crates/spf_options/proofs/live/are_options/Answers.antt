@@ -1,7 +1,7 @@
 use Rattle.std.proofs.Common.{◌∙◌}
 use Rattle.std.specs.Prelude.{string_bytes}
 use Rattle.spf_options.specs.Live.{is_live_option}
-use Rattle.spf_options.proofs.Pairs.{pairs_end}
+use Rattle.spf_options.proofs.PairLemmas.{pairs_end}
 use Rattle.spf_options.proofs.live.are_options.Goals as goal
 
 pub returns : goal.returns

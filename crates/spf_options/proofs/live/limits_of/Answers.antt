@@ -1,6 +1,6 @@
 use Rattle.std.proofs.Common.{map}
 use Rattle.std.specs.Prelude.{string_bytes}
-use Rattle.spf_options.proofs.Live.{limits_read}
+use Rattle.spf_options.proofs.Settings.{limits_read}
 use Rattle.spf_options.proofs.live.limits_of.Goals as goal
 
 pub returns : goal.returns

@@ -1,6 +1,6 @@
 use Rattle.std.specs.Option.{option_copied}
 use Rattle.std.specs.Prelude.{string_bytes}
-use Rattle.spf_options.proofs.Pairs.{found_all, values_none}
+use Rattle.spf_options.proofs.PairLemmas.{found_all, values_none}
 use Rattle.spf_options.proofs.pairs.value_of.Goals as goal
 
 pub returns : goal.returns

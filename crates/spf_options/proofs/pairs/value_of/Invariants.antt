@@ -2,7 +2,7 @@ use Rattle.std.proofs.Common.{◌≡◌, ◌++◌, length, map}
 use Rattle.std.specs.Prelude.{string_bytes}
 use Rattle.std.specs.Option.{option_copied}
 use Rattle.spf_options.specs.Pairs.{values_of}
-use Rattle.spf_options.proofs.Pairs.{found_list}
+use Rattle.spf_options.proofs.PairLemmas.{found_list}
 use Rattle.spf_options.proofs.pairs.value_of.Given as goal
 
 abbrev pub invariant-loop-rest : goal.invariant-loop-rest
