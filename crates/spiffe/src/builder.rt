@@ -303,7 +303,6 @@ where
             self.connector (T.moments clock.old) (T.moments clock.new) r.2.job) }
         ensures grace { IfOk result (λ r. r.2.grace ≡ self.settings.grace) }
         ensures endpoint { IfOk result (λ _. C.validates self.connector ≡ Ok tt) }
-        ensures places { IfOk result (λ _. L.refusals places.old ≤ L.refusals places.new) }
         ensures failed { IfErr result (BuildFails P.picks self.settings
             (C.validates self.connector) (L.refusals places.old) (L.refusals places.new)
             (S.refusals spawner.old) (S.refusals spawner.new)) }
