@@ -29,9 +29,9 @@ use Rattle.spf_live.specs.declared.error.LiveError.TheVariants as errors
 -- Lines are printed. Where all went well there is a record of the job, whose steps are those of what
 -- is seen last, and so begin with those of the list of each line.
 pub record Follows {S K : Type 0} (members : S → Option (List Member))
-    (picks : K → List Svid → Option ℕ) (job : Assigned S K) (first : Seen) (count : ℕ)
-    (clock clock' : Moments) (held held' : Option (List ℕ))
-    (r : Result (Unit {0}) LiveError) : Type 0 where
+    (picks : K → List Svid → Option ℕ) (job : Assigned S K) (count : ℕ) (clock clock' : Moments)
+    (held held' : Option (List ℕ)) (r : Result (Unit {0}) LiveError) : Type 0 where
+  pub first : Seen
   pub last : Seen
   pub prints : Prints first last count clock clock' held held' r
   pub recorded : IfOk r (λ _. (found : Recorded K) × IsRecord picks found

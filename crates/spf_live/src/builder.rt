@@ -16,7 +16,7 @@ use std::time::Duration;
 /// The picker of a hint, where there is one.
 fn picker_of(alloc: Global, hint: Option<&str>) -> Result<Option<HintPicker>, OutOfMemory>
     ensures { IfOk result (λ p. option_map (⟦<HintPicker as SvidPicker>⟧.picks) p
-        ≡ option_map first_with_hint (option_copied hint)) }
+        ≡ option_map first_with_hint (option_copied hint.entry)) }
 {
     match hint {
         Some(hint) => Ok(Some(HintPicker::new(Text::copy_of(alloc, hint)?))),

@@ -1,7 +1,7 @@
 //! The end of a live run: its exit status, and its line on standard error.
 
 ghost use Rattle.std.specs.Prelude.{◌≡◌};
-ghost use Rattle.spf_live.specs.Ends.{Reports, end_line, end_status};
+ghost use Rattle.spf_live.specs.Ends.{Reports, end_status};
 
 use crate::error::{LiveError, line_of, status_of};
 use spf_io::Sink;

@@ -48,7 +48,7 @@ where
     requires pass { pass.book ≡ source.board }
     requires job { handle.job.board ≡ source.board }
     requires lines { 1 ≤ lines }
-    ensures follows { Follows C.members P.picks handle.job pass.seen lines
+    ensures follows { Follows C.members P.picks handle.job lines
         (T.moments clock.old) (T.moments clock.new) (K.held out.old) (K.held out.new) result }
     ensures places { L.refusals places.old ≤ L.refusals places.new }
     ensures cause { IfErr result (FollowFails
@@ -64,8 +64,14 @@ where
         }
     };
     let printed = print_lines(rt, alloc, &mut updates, clock, out, lines);
-    let record = handle.join_record(&mut updates.into_pass());
-    printed?;
-    record?;
-    Ok(())
+    let mut pass = updates.into_pass();
+    let record = handle.join_record(&mut pass);
+    match printed {
+        Ok(()) => {}
+        Err(e) => return Err(e),
+    }
+    match record {
+        Ok(_) => Ok(()),
+        Err(_) => Err(LiveError::OutOfMemory),
+    }
 }

@@ -2,18 +2,20 @@
 #![tactic(auto)]
 
 mod builder;
+mod ending;
 mod error;
 mod follow;
+mod host;
 mod live;
 #[cfg(test)]
 mod live_tests;
 mod on_thread;
 mod on_threads;
 mod printing;
-mod report;
 
+pub use ending::report;
 pub use error::LiveError;
+pub use host::{HostConnector, HostLink, HostPause};
 pub use live::watch_live;
-pub use on_thread::{HostConnector, HostJob, OnThread, start_on_thread};
+pub use on_thread::{HostJob, OnThread, start_on_thread};
 pub use on_threads::watch_on_threads;
-pub use report::report;

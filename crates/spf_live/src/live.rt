@@ -8,9 +8,9 @@ ghost use Rattle.spf_live.specs.Runs.{Does, Ended};
 ghost use Rattle.spf_live.specs.declared.error.LiveError.TheVariants as errors;
 
 use crate::builder::builder_of;
+use crate::ending::report;
 use crate::error::{LiveError, error_of};
 use crate::follow::follow;
-use crate::report::report;
 use rand_core::Rng;
 use spf_feed::{HintPicker, NoRecorder, SvidPicker};
 use spf_io::Sink;
@@ -64,7 +64,9 @@ where
         (K.held out.old) (K.held out.new) (E.held faults.old) (E.held faults.new)
         (E.failures faults.old) (E.failures faults.new) result }
 {
-    let end = live(rt, alloc, words, connector, clock, pause, random, spawner, places, out);
+    let end = live(
+        rt, alloc, words, connector, clock, pause, random, spawner, places, out,
+    );
     report(faults, end)
 }
 
@@ -104,18 +106,21 @@ where
         return Err(LiveError::BadWords);
     };
     let builder = builder_of(alloc, connector, &options)?;
-    match builder.build(rt, alloc, clock, pause, random, spawner, places) {
-        Ok((source, pass, handle)) => follow(
-            &rt,
-            alloc,
-            source,
-            pass,
-            handle,
-            clock,
-            places,
-            out,
-            options.lines,
-        ),
+    match builder.prepare(rt, alloc, clock, pause, random, places) {
+        Ok((source, pass, job, pending)) => match spawner.start(job) {
+            Ok(handle) => follow(
+                &rt,
+                alloc,
+                source,
+                pass,
+                pending.started(handle),
+                clock,
+                places,
+                out,
+                options.lines,
+            ),
+            Err(_) => Err(LiveError::NoSupervisor),
+        },
         Err(e) => Err(error_of(e)),
     }
 }

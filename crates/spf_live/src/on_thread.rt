@@ -1,23 +1,19 @@
 //! The job of a live run on a thread of its own.
 
 ghost use Rattle.std.specs.Prelude.{◌≡◌, IfOk};
+ghost use Rattle.spiffe.specs.Records.{task_of};
 
+use crate::host::{HostConnector, HostPause};
 use spf_feed::{HintPicker, NoRecorder};
 use spf_io::Failed;
 use spf_job::{Job, Joins, StepWords};
-use spf_system::{StdEnvironment, StdPause};
-use spf_wire::EnvConnector;
 use spiffe::{Task, X509Done, X509Job};
 use std::snapshot::Snapshot;
 use std::sync::Wait;
 use std::thread::{self, PromisedHandle, Threads};
 
-/// A connector over the sockets of the process, to the endpoint that its environment names.
-pub type HostConnector = EnvConnector<HostRuntime, StdEnvironment<HostRuntime>>;
-
-/// The job of a live run over the sockets, the pauses and the environment of the process.
-pub type HostJob<R> =
-    X509Job<HostConnector, HintPicker, NoRecorder, StdPause<HostRuntime>, StepWords, R>;
+/// The job of a live run over the sockets and the pauses of the process.
+pub type HostJob<R> = X509Job<HostConnector, HintPicker, NoRecorder, HostPause, StepWords, R>;
 
 /// A job on its thread.
 #[derive(Drop)]
@@ -47,7 +43,11 @@ pub fn start_on_thread<R: Threads + Wait + Copy + Drop + Send + 'static>(
     let task = job.task();
     let kept = Snapshot::of(&job);
     match thread::spawn_with(&rt, task, move || job.run()) {
-        Ok(handle) => Ok(OnThread { handle, job: kept, rt }),
+        Ok(handle) => Ok(OnThread {
+            handle,
+            job: kept,
+            rt,
+        }),
         Err(_) => Err(Failed),
     }
 }

@@ -7,16 +7,16 @@ ghost use Rattle.spf_live.specs.Runs.{Does, Ended};
 ghost use Rattle.spf_live.specs.declared.error.LiveError.TheVariants as errors;
 
 use crate::builder::builder_of;
+use crate::ending::report;
 use crate::error::{LiveError, error_of};
 use crate::follow::follow;
-use crate::on_thread::{HostConnector, start_on_thread};
-use crate::report::report;
+use crate::host::{HostConnector, HostPause};
+use crate::on_thread::start_on_thread;
 use spf_feed::{HintPicker, SvidPicker};
 use spf_io::Sink;
 use spf_job::StepWords;
 use spf_options::live_options;
-use spf_system::{Clock, StdClock, StdEnvironment, StdPause};
-use spf_wire::EnvConnector;
+use spf_system::{Clock, StdClock};
 use spf_x509_board::BoardPlaces;
 use std::alloc::Global;
 use std::sync::Wait;
@@ -70,12 +70,18 @@ where
         return Err(LiveError::BadWords);
     };
     let alloc = host.alloc();
-    let connector = EnvConnector::new(host, alloc, StdEnvironment::new(host));
-    let builder = builder_of(alloc, connector, &options)?;
+    let builder = builder_of(alloc, HostConnector::new(host, alloc), &options)?;
     let mut clock = StdClock::new(host);
     let random = StepWords::new(seed_of(clock.now()));
     let mut places = BoardPlaces::new();
-    match builder.prepare(rt, alloc, &mut clock, StdPause::new(host), random, &mut places) {
+    match builder.prepare(
+        rt,
+        alloc,
+        &mut clock,
+        HostPause::new(host),
+        random,
+        &mut places,
+    ) {
         Ok((source, pass, job, pending)) => match start_on_thread(rt, job) {
             Ok(handle) => follow(
                 &rt,

@@ -6,7 +6,7 @@ ghost use Rattle.spiffe.specs.Reads.{IsRevision, SeesNoLess};
 ghost use Rattle.spf_live.specs.Printing.{Prints, PrintsLine};
 ghost use Rattle.spf_live.specs.Runs.{FollowFails};
 
-use crate::error::{LiveError, error_of};
+use crate::error::LiveError;
 use spf_feed::state_line;
 use spf_io::Sink;
 use spf_system::Clock;
@@ -29,8 +29,15 @@ fn print_state<T: Clock, K: Sink>(
     ensures cause { IfErr result (FollowFails ⊥ (Rose (K.failures out.old)
         (K.failures out.new))) }
 {
-    let state = updates.state()?;
-    let line = state_line(alloc, &state, clock.now())?;
+    let state = match updates.state() {
+        Ok(state) => state,
+        Err(_) => return Err(LiveError::OutOfMemory),
+    };
+    let now = clock.now();
+    let line = match state_line(alloc, &state, now) {
+        Ok(line) => line,
+        Err(_) => return Err(LiveError::OutOfMemory),
+    };
     match out.put(line.as_str().as_bytes()) {
         Ok(()) => Ok(()),
         Err(_) => Err(LiveError::WriteFailed),
@@ -77,9 +84,15 @@ pub(crate) fn print_lines<R: Wait + time::Clock, T: Clock, K: Sink>(
     ensures cause { IfErr result (FollowFails ⊥ (Rose (K.failures out.old)
         (K.failures out.new))) }
 {
-    print_state(alloc, updates, clock, out)?;
+    match print_state(alloc, updates, clock, out) {
+        Ok(()) => {}
+        Err(e) => return Err(e),
+    }
     'changes: for _ in 1..lines {
-        print_change(rt, alloc, updates, clock, out)?;
+        match print_change(rt, alloc, updates, clock, out) {
+            Ok(()) => {}
+            Err(e) => return Err(e),
+        }
     }
     Ok(())
 }

@@ -1,0 +1,6 @@
+pub mod Failing
+pub mod Followed
+pub mod Marks
+pub mod Printed
+pub mod Recorded
+pub mod Revisions
