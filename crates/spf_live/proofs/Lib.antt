@@ -1,3 +1,4 @@
+pub mod EndLemmas
 pub mod Failing
 pub mod Followed
 pub mod Marks

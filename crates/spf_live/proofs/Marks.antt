@@ -1,5 +1,5 @@
 -- The marked revision, and the lines whose revision is above it.
-use Rattle.std.proofs.Common.{◌≡◌, sym, subst, ℕ, ◌<◌, ◌≤◌, List, Option, Some, None, Result, Ok, Err}
+use Rattle.std.proofs.Common.{◌≡◌, ◌∙◌, refl, sym, subst, ℕ, ◌<◌, ◌≤◌, List, Option, Some, None, Result, Ok, Err}
 use Rattle.std.proofs.Common.{arith, inl, inr}
 use Rattle.std.specs.Prelude.{◌≢◌}
 use Rattle.std.proofs.lemmas.Bool.{cases_lt}
@@ -11,14 +11,15 @@ use Rattle.spiffe.specs.Reads.{IsRevision, SeesNoLess}
 use Rattle.spf_live.specs.Printing.{IsNext, Line, Moments, PrintsLine, Seen}
 use Rattle.spf_live.specs.declared.error.LiveError.{LiveError}
 use Rattle.spf_live.specs.declared.error.LiveError.TheVariants as errors
+use Rattle.spf_live.proofs.Printed.{prefix_self, prefix_trans}
 use Rattle.spf_live.proofs.Revisions.{not_fallen}
 
 -- after a line the marked revision is that of what is read
 pub marked_read : (pass : PassView) (marked : ℕ) (earlier : Option ℕ) (clock clock' : Moments)
-    (held held' : Option (List ℕ))
-    → PrintsLine pass.seen marked earlier clock clock' held held' (Ok tt)
+    (held held' : Option (List ℕ)) (done : Unit {0})
+    → PrintsLine pass.seen marked earlier clock clock' held held' (Ok done)
     → IsRevision pass marked
-marked_read pass marked earlier clock clock' held held' is = (
+marked_read pass marked earlier clock clock' held held' done is = (
   is.0.state,
   subst (λ (l : Seen). IsStateOf l is.0.state.closed is.0.state) is.1.list_is is.1.state_is,
   sym is.1.marked_is,
@@ -82,3 +83,18 @@ prints_above old mid seen before read marked clock clock' held held' (Err errors
 prints_above old mid seen before read marked clock clock' held held' (Err errors.TimedOut) was grows is differs more p = absurd p
 prints_above old mid seen before read marked clock clock' held held' (Err errors.NoSupervisor) was grows is differs more p = absurd p
 prints_above old mid seen before read marked clock clock' held held' (Err errors.NoPlace) was grows is differs more p = absurd p
+
+pub sees_on : (old mid new : PassView) → SeesNoLess old mid → SeesNoLess mid new
+    → SeesNoLess old new
+sees_on old mid new a b = record {
+  book = b.book ∙ a.book;
+  seen = prefix_trans old.seen mid.seen new.seen a.seen b.seen;
+  entered = prefix_trans old.entered mid.entered new.entered a.entered b.entered;
+}
+
+pub sees_same : (pass : PassView) → SeesNoLess pass pass
+sees_same pass = record {
+  book = refl;
+  seen = prefix_self pass.seen;
+  entered = prefix_self pass.entered;
+}

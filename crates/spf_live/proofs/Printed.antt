@@ -6,30 +6,24 @@ use Rattle.std.proofs.KnownBytes.{Appends-trans, Appends-nil}
 use Rattle.std.proofs.Math.Seq.{take-append-add, take-length}
 use Rattle.std.proofs.lemmas.List.{append-nil}
 use mathlib.Core.List.{IsPrefix}
-use Rattle.spf_live.specs.Printing.{AreAt, AreLines, IsAbove, IsNext, Line, Moments, Prints}
+use Rattle.std.specs.Prelude.{ℤ}
+use Rattle.spf_system.specs.Clock.{IsTime}
+use Rattle.spf_feed.specs.Shown.{view_line}
+use Rattle.spf_feed.specs.Steps.{StateView}
+use Rattle.spf_x509_board.specs.States.{IsStateOf}
+use Rattle.spf_live.specs.Printing.{AreAt, AreLines, IsAbove, IsNext, Line, Moments, Printed, Prints}
 use Rattle.spf_live.specs.Printing.{PrintsLine, Seen, line_text, newest_list, newest_revision, text_of}
 use Rattle.spf_live.specs.declared.error.LiveError.{LiveError}
 use Rattle.spf_live.specs.declared.error.LiveError.TheVariants as errors
 
-prefix_trans : {A : Type 0} (a b c : List A) → IsPrefix a b → IsPrefix b c → IsPrefix a c
+pub prefix_trans : {A : Type 0} (a b c : List A) → IsPrefix a b → IsPrefix b c → IsPrefix a c
 prefix_trans a b c p q = (
   p.0 ++ q.0,
   sym (append_assoc a p.0 q.0) ∙ ap (λ l. l ++ q.0) p.1 ∙ q.1,
 )
 
-prefix_self : {A : Type 0} (a : List A) → IsPrefix a a
+pub prefix_self : {A : Type 0} (a : List A) → IsPrefix a a
 prefix_self a = ([], append-nil a)
-
--- lines that are printed so far
-pub record Printed (first seen : Seen) (earlier : Option ℕ) (count : ℕ) (clock clock' : Moments)
-    (held held' : Option (List ℕ)) : Type 0 where
-  pub lines : List Line
-  pub are : AreLines first lines
-  pub newest : IsPrefix (newest_list first lines) seen
-  pub revision : earlier ≡ newest_revision lines
-  pub at : AreAt clock lines clock'
-  pub text : Appends held held' (text_of lines)
-  pub number : length lines ≡ count
 
 pub printed_none : (first : Seen) (clock : Moments) (held : Option (List ℕ))
     → Printed first first None 0 clock clock held held
@@ -57,11 +51,11 @@ follows_on first seen seen' earlier marked clock clock' lines line are newest re
 )
 
 pub printed_more : (first seen seen' : Seen) (earlier : Option ℕ) (marked count : ℕ)
-    (clock clock' clock'' : Moments) (held held' held'' : Option (List ℕ))
+    (clock clock' clock'' : Moments) (held held' held'' : Option (List ℕ)) (done : Unit {0})
     → Printed first seen earlier count clock clock' held held' → IsPrefix seen seen'
-    → PrintsLine seen' marked earlier clock' clock'' held' held'' (Ok tt)
+    → PrintsLine seen' marked earlier clock' clock'' held' held'' (Ok done)
     → Printed first seen' (Some marked) (count + 1) clock clock'' held held''
-printed_more first seen seen' earlier marked count clock clock' clock'' held held' held'' so grows is =
+printed_more first seen seen' earlier marked count clock clock' clock'' held held' held'' done so grows is =
     record {
       lines = is.0 ∷ so.lines;
       are = follows_on first seen seen' earlier marked clock' clock'' so.lines is.0 so.are so.newest
@@ -78,17 +72,18 @@ all_put : (held held' : Option (List ℕ)) (text : List ℕ) → Appends held he
     → Appends held held' (take (length text) text)
 all_put held held' text put = subst (Appends held held') (sym (take-length text)) put
 
-pub printed_all : (first seen : Seen) (earlier : Option ℕ) (count : ℕ) (clock clock' : Moments)
-    (held held' : Option (List ℕ)) → Printed first seen earlier count clock clock' held held'
+pub printed_all : (first seen : Seen) (earlier : Option ℕ) (number count : ℕ)
+    (clock clock' : Moments) (held held' : Option (List ℕ)) → number ≡ count
+    → Printed first seen earlier number clock clock' held held'
     → Prints first seen count clock clock' held held' (Ok tt)
-printed_all first seen earlier count clock clock' held held' so = record {
+printed_all first seen earlier number count clock clock' held held' all so = record {
   lines = so.lines;
   are = so.are;
   seen = so.newest;
   told = clock';
   at = so.at;
   told_all = refl;
-  number = so.number;
+  number = so.number ∙ all;
   put = length (text_of so.lines);
   text = all_put held held' (text_of so.lines) so.text;
   whole = λ _. take-length (text_of so.lines);
@@ -153,3 +148,43 @@ printed_failed first seen seen' earlier marked count number clock clock' clock''
 printed_failed first seen seen' earlier marked count number clock clock' clock'' held held' held'' errors.TimedOut so grows is = absurd is
 printed_failed first seen seen' earlier marked count number clock clock' clock'' held held' held'' errors.NoSupervisor so grows is = absurd is
 printed_failed first seen seen' earlier marked count number clock clock' clock'' held held' held'' errors.NoPlace so grows is = absurd is
+
+-- ---- one line
+
+-- a line of a state that was read of what is seen, at the clock's next moment
+next_line : (seen : Seen) (marked : ℕ) (clock clock' : Moments) (state : StateView)
+    (moment : Option ℤ) → IsStateOf seen state.closed state → marked ≡ state.revision
+    → IsTime clock clock' moment
+    → IsNext seen marked None clock clock'
+    (record { list = seen; state = state; moment = moment })
+next_line seen marked clock clock' state moment is same time = record {
+  list_is = refl;
+  state_is = is;
+  marked_is = sym same;
+  above = tt;
+  at = time;
+}
+
+pub prints_state : (seen : Seen) (marked : ℕ) (clock clock' : Moments)
+    (held held' : Option (List ℕ)) (state : StateView) (moment : Option ℤ) (text : List ℕ)
+    → IsStateOf seen state.closed state → marked ≡ state.revision → IsTime clock clock' moment
+    → text ≡ view_line state.view state.revision moment → Appends held held' text
+    → PrintsLine seen marked None clock clock' held held' (Ok tt)
+prints_state seen marked clock clock' held held' state moment text is same time line put = (
+  record { list = seen; state = state; moment = moment },
+  next_line seen marked clock clock' state moment is same time,
+  subst (Appends held held') line put,
+)
+
+pub prints_part : (seen : Seen) (marked : ℕ) (clock clock' : Moments)
+    (held held' : Option (List ℕ)) (state : StateView) (moment : Option ℤ) (text : List ℕ)
+    → IsStateOf seen state.closed state → marked ≡ state.revision → IsTime clock clock' moment
+    → text ≡ view_line state.view state.revision moment
+    → (count : ℕ) × Appends held held' (take count text)
+    → PrintsLine seen marked None clock clock' held held' (Err errors.WriteFailed)
+prints_part seen marked clock clock' held held' state moment text is same time line put = (
+  record { list = seen; state = state; moment = moment },
+  next_line seen marked clock clock' state moment is same time,
+  put.0,
+  subst (λ (t : List ℕ). Appends held held' (take put.0 t)) line put.1,
+)

@@ -101,3 +101,23 @@ pub record Prints (first last : Seen) (count : ℕ) (clock clock' : Moments)
   pub put : ℕ
   pub text : Appends held held' (take put (text_of lines))
   pub whole : (r ≡ Err errors.WriteFailed → ⊥) → take put (text_of lines) ≡ text_of lines
+
+-- Lines that are printed so far: what is seen begins with the list of each, and an earlier revision
+-- is that of the newest.
+pub record Printed (first seen : Seen) (earlier : Option ℕ) (count : ℕ) (clock clock' : Moments)
+    (held held' : Option (List ℕ)) : Type 0 where
+  pub lines : List Line
+  pub are : AreLines first lines
+  pub newest : IsPrefix (newest_list first lines) seen
+  pub revision : earlier ≡ newest_revision lines
+  pub at : AreAt clock lines clock'
+  pub text : Appends held held' (text_of lines)
+  pub number : length lines ≡ count
+
+-- behind a first line, whatever that is, others are printed, as many as there are to be
+abbrev pub PrintsOn : Seen → ℕ → Seen → ℕ → Moments → Moments → Option (List ℕ)
+    → Option (List ℕ) → Result (Unit {0}) LiveError → Type 0
+PrintsOn seen marked last count clock clock' held held' r =
+    (first : Seen) (start : Moments) (empty : Option (List ℕ))
+    → Printed first seen (Some marked) 1 start clock empty held
+    → Prints first last count start clock' empty held' r

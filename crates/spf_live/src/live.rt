@@ -1,11 +1,10 @@
 //! A live run over a spawner of any kind.
 
-ghost use Rattle.std.specs.Prelude.{◌≡◌, ◌↔◌, None, Err, map, string_bytes};
+ghost use Rattle.std.specs.Prelude.{◌≡◌, ◌↔◌, None, map, string_bytes};
 ghost use Rattle.spf_board.specs.Passes.{Rose as Refused};
 ghost use Rattle.spf_io.specs.Outside.{Rose};
 ghost use Rattle.spf_options.specs.Live.{live_setting};
 ghost use Rattle.spf_live.specs.Runs.{Does, Ended};
-ghost use Rattle.spf_live.specs.declared.error.LiveError.TheVariants as errors;
 
 use crate::builder::builder_of;
 use crate::ending::report;
@@ -93,8 +92,6 @@ where
     L: Places,
     K: Sink,
     R: Wait + time::Clock + Copy + Drop,
-    ensures words { (result ≡ Err errors.BadWords)
-        ↔ (live_setting (map string_bytes words.now) ≡ None) }
     ensures does { Does (C.members connector) (⟦<HintPicker as SvidPicker>⟧.picks)
         (C.validates connector) (Rose (S.refusals spawner.old) (S.refusals spawner.new))
         (Refused (L.refusals places.old) (L.refusals places.new))
@@ -105,7 +102,10 @@ where
     let Some(options) = live_options(words) else {
         return Err(LiveError::BadWords);
     };
-    let builder = builder_of(alloc, connector, &options)?;
+    let builder = match builder_of(alloc, connector, &options) {
+        Ok(builder) => builder,
+        Err(_) => return Err(LiveError::OutOfMemory),
+    };
     match builder.prepare(rt, alloc, clock, pause, random, places) {
         Ok((source, pass, job, pending)) => match spawner.start(job) {
             Ok(handle) => follow(

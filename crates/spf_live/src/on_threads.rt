@@ -1,23 +1,23 @@
 //! A live run over real threads.
 
-ghost use Rattle.std.specs.Prelude.{◌≡◌, ◌↔◌, None, Ok, Err, map, string_bytes};
+ghost use Rattle.std.specs.Prelude.{◌≡◌, ◌↔◌, ◌≤◌, IfErr, None, Ok, map, string_bytes};
 ghost use Rattle.spf_io.specs.Outside.{Rose};
 ghost use Rattle.spf_options.specs.Live.{live_setting};
-ghost use Rattle.spf_live.specs.Runs.{Does, Ended};
-ghost use Rattle.spf_live.specs.declared.error.LiveError.TheVariants as errors;
+ghost use Rattle.spf_live.specs.Runs.{Does, Ended, FollowFails, Follows};
 
 use crate::builder::builder_of;
 use crate::ending::report;
 use crate::error::{LiveError, error_of};
-use crate::follow::follow;
 use crate::host::{HostConnector, HostPause};
-use crate::on_thread::start_on_thread;
+use crate::on_thread::{HostJob, OnThread, start_on_thread};
+use crate::printing::print_lines;
 use spf_feed::{HintPicker, SvidPicker};
 use spf_io::Sink;
 use spf_job::StepWords;
 use spf_options::live_options;
 use spf_system::{Clock, StdClock};
-use spf_x509_board::BoardPlaces;
+use spf_x509_board::{BoardPlaces, Pass};
+use spiffe::{SupervisorHandle, X509Source};
 use std::alloc::Global;
 use std::sync::Wait;
 use std::thread::Threads;
@@ -50,6 +50,51 @@ where
     report(faults, end)
 }
 
+/// Prints that many lines of what the source holds. However that ends, it closes the source and
+/// waits for its supervisor.
+fn follow_on_thread<R, K>(
+    rt: R,
+    alloc: Global,
+    source: X509Source,
+    pass: Pass,
+    handle: SupervisorHandle<HostJob<R>, OnThread<R>>,
+    clock: &mut StdClock<HostRuntime>,
+    places: &mut BoardPlaces,
+    out: &mut K,
+    lines: u64,
+) -> Result<(), LiveError>
+where
+    R: Threads + Wait + time::Clock + Copy + Drop + Send + 'static,
+    K: Sink,
+    requires pass { pass.book ≡ source.board }
+    requires job { handle.job.board ≡ source.board }
+    requires lines { 1 ≤ lines }
+    ensures follows { Follows (λ _. None) (⟦<HintPicker as SvidPicker>⟧.picks) handle.job lines
+        None None (K.held out.old) (K.held out.new) result }
+    ensures cause { IfErr result (FollowFails (Unit {0})
+        (Rose (K.failures out.old) (K.failures out.new))) }
+{
+    let mut pass = pass;
+    let mut updates = match source.updated(&mut pass, places) {
+        Ok(updates) => updates,
+        Err(e) => {
+            let _record = handle.join_record(&mut pass);
+            return Err(error_of(e));
+        }
+    };
+    let printed = print_lines(&rt, alloc, &mut updates, clock, out, lines);
+    let mut pass = updates.into_pass();
+    let record = handle.join_record(&mut pass);
+    match printed {
+        Ok(()) => {}
+        Err(e) => return Err(e),
+    }
+    match record {
+        Ok(_) => Ok(()),
+        Err(_) => Err(LiveError::OutOfMemory),
+    }
+}
+
 fn live_on_threads<R, K>(
     host: HostRuntime,
     rt: R,
@@ -59,8 +104,6 @@ fn live_on_threads<R, K>(
 where
     R: Threads + Wait + time::Clock + Copy + Drop + Send + 'static,
     K: Sink,
-    ensures words { (result ≡ Err errors.BadWords)
-        ↔ (live_setting (map string_bytes words.now) ≡ None) }
     ensures does { Does None (⟦<HintPicker as SvidPicker>⟧.picks) (Ok tt) (Unit {0}) (Unit {0})
         (Rose (K.failures out.old) (K.failures out.new))
         (live_setting (map string_bytes words.now)) None None (K.held out.old) (K.held out.new)
@@ -70,7 +113,10 @@ where
         return Err(LiveError::BadWords);
     };
     let alloc = host.alloc();
-    let builder = builder_of(alloc, HostConnector::new(host, alloc), &options)?;
+    let builder = match builder_of(alloc, HostConnector::new(host, alloc), &options) {
+        Ok(builder) => builder,
+        Err(_) => return Err(LiveError::OutOfMemory),
+    };
     let mut clock = StdClock::new(host);
     let random = StepWords::new(seed_of(clock.now()));
     let mut places = BoardPlaces::new();
@@ -83,8 +129,8 @@ where
         &mut places,
     ) {
         Ok((source, pass, job, pending)) => match start_on_thread(rt, job) {
-            Ok(handle) => follow(
-                &rt,
+            Ok(handle) => follow_on_thread(
+                rt,
                 alloc,
                 source,
                 pass,

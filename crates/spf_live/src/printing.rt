@@ -3,7 +3,7 @@
 ghost use Rattle.std.specs.Prelude.{◌≡◌, ◌≤◌, ◌⊎◌, None, Some, IfErr};
 ghost use Rattle.spf_io.specs.Outside.{Rose};
 ghost use Rattle.spiffe.specs.Reads.{IsRevision, SeesNoLess};
-ghost use Rattle.spf_live.specs.Printing.{Prints, PrintsLine};
+ghost use Rattle.spf_live.specs.Printing.{Prints, PrintsLine, PrintsOn};
 ghost use Rattle.spf_live.specs.Runs.{FollowFails};
 
 use crate::error::LiveError;
@@ -61,11 +61,38 @@ fn print_change<R: Wait + time::Clock, T: Clock, K: Sink>(
     ensures cause { IfErr result (FollowFails ⊥ (Rose (K.failures out.old)
         (K.failures out.new))) }
 {
-    match updates.changed(rt) {
-        Ok(_) => print_state(alloc, updates, clock, out),
-        // Nobody has closed the source: its supervisor ended out of memory.
-        Err(_) => Err(LiveError::OutOfMemory),
+    // Nobody has closed the source: without a change its supervisor ended out of memory.
+    let Ok(_revision) = updates.changed(rt) else {
+        return Err(LiveError::OutOfMemory);
+    };
+    print_state(alloc, updates, clock, out)
+}
+
+/// Prints a line after each change, until there are that many with the one before them.
+fn print_changes<R: Wait + time::Clock, T: Clock, K: Sink>(
+    rt: &R,
+    alloc: Global,
+    updates: &mut X509SourceUpdates,
+    clock: &mut T,
+    out: &mut K,
+    lines: u64,
+) -> Result<(), LiveError>
+    requires marked { IsRevision updates.old.pass updates.old.marked }
+    requires lines { 1 ≤ lines }
+    ensures prints { PrintsOn updates.old.pass.seen updates.old.marked updates.new.pass.seen lines
+        (T.moments clock.old) (T.moments clock.new) (K.held out.old) (K.held out.new) result }
+    ensures pass { SeesNoLess updates.old.pass updates.new.pass }
+    ensures writes { K.failures out.old ≤ K.failures out.new }
+    ensures cause { IfErr result (FollowFails ⊥ (Rose (K.failures out.old)
+        (K.failures out.new))) }
+{
+    'changes: for _ in 1..lines {
+        match print_change(rt, alloc, updates, clock, out) {
+            Ok(()) => {}
+            Err(e) => return Err(e),
+        }
     }
+    Ok(())
 }
 
 /// Prints that many lines: the state that is published now, and then one after each change.
@@ -85,14 +112,7 @@ pub(crate) fn print_lines<R: Wait + time::Clock, T: Clock, K: Sink>(
         (K.failures out.new))) }
 {
     match print_state(alloc, updates, clock, out) {
-        Ok(()) => {}
-        Err(e) => return Err(e),
+        Ok(()) => print_changes(rt, alloc, updates, clock, out, lines),
+        Err(e) => Err(e),
     }
-    'changes: for _ in 1..lines {
-        match print_change(rt, alloc, updates, clock, out) {
-            Ok(()) => {}
-            Err(e) => return Err(e),
-        }
-    }
-    Ok(())
 }
