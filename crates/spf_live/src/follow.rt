@@ -59,13 +59,13 @@ where
     let mut updates = match source.updated(&mut pass, places) {
         Ok(updates) => updates,
         Err(e) => {
-            let _record = handle.join_record(&mut pass);
+            let _record = handle.close_and_join().into_record(&mut pass);
             return Err(error_of(e));
         }
     };
     let printed = print_lines(rt, alloc, &mut updates, clock, out, lines);
     let mut pass = updates.into_pass();
-    let record = handle.join_record(&mut pass);
+    let record = handle.close_and_join().into_record(&mut pass);
     match printed {
         Ok(()) => {}
         Err(e) => return Err(e),

@@ -15,7 +15,7 @@ use spf_io::OutOfMemory;
 use spf_job::{Job, Joins};
 use spf_link::Connector;
 use spf_system::{Clock, Pause};
-use spf_x509_board::{Pass, settle};
+use spf_x509_board::Pass;
 use std::marker::{Model, PhantomData};
 use std::sync::Wait;
 use std::time::Duration;
@@ -76,6 +76,19 @@ impl<J: Job, H: Joins<J> + Drop> Model for SupervisorHandle<J, H> {
 }
 
 impl<J: Job, H: Joins<J> + Drop> SupervisorHandle<J, H> {
+    /// Closes the source, waits for the supervisor, and gives what its job leaves.
+    pub fn close_and_join(self) -> J::Done
+        ensures { J.may_give self.job result }
+    {
+        let SupervisorHandle {
+            handle,
+            mut closing,
+            ..
+        } = self;
+        closing.close();
+        handle.join()
+    }
+
     /// Closes the source and waits for the supervisor. It asks the clock right before and right
     /// after the wait, which may take the grace.
     pub fn shutdown_with_timeout<T: Clock>(
@@ -160,14 +173,6 @@ where
         ensures book { pass.new.book ≡ pass.old.book }
         ensures seen { IsPrefix pass.old.seen pass.new.seen }
     {
-        let SupervisorHandle {
-            handle,
-            mut closing,
-            ..
-        } = self;
-        closing.close();
-        let (ended, record) = handle.join().into_parts();
-        settle(ended, pass)?;
-        record.ok_or(OutOfMemory)
+        self.close_and_join().into_record(pass)
     }
 }

@@ -1,12 +1,13 @@
 //! What the thread of a supervisor does.
 
-ghost use Rattle.std.specs.Prelude.{◌≡◌, false, IfSome, None, Some, reverse};
+ghost use Rattle.std.specs.Prelude.{◌≡◌, false, true, IfOk, IfSome, None, Some, reverse};
+ghost use mathlib.Core.List.{IsPrefix};
 ghost use Rattle.spf_close.specs.declared.maker.Maker.TheVariants as makers;
 ghost use Rattle.spf_feeder.specs.Coming.{AllTold};
 ghost use Rattle.spf_feeder.specs.Kept.{rules_by};
 ghost use Rattle.spf_feeder.specs.Orderly.{IsSynced};
 ghost use Rattle.spf_feeder.specs.Pacing.{KeepsPace};
-ghost use Rattle.spf_history.specs.Lists.{steps_of};
+ghost use Rattle.spf_history.specs.Lists.{is_ended, steps_of};
 ghost use Rattle.spiffe.specs.Records.{IsLeftBy, IsRecord, assigned, task_of, untold};
 
 use crate::publishing::BoardPublisher;
@@ -15,10 +16,11 @@ use rand_core::Rng;
 use spf_close::{Bell, Closed, Closer, Watch};
 use spf_feed::{MetricsRecorder, SvidPicker};
 use spf_feeder::{Feeder, Pace, SessionParts, supervise};
+use spf_io::OutOfMemory;
 use spf_job::Job;
 use spf_link::Connector;
 use spf_system::Pause;
-use spf_x509_board::Ended;
+use spf_x509_board::{Ended, Pass, settle};
 use std::marker::Model;
 use std::sync::Wait;
 
@@ -43,15 +45,20 @@ impl<K: SvidPicker + Drop, R: Wait + Drop> Model for X509Done<K, R> {
 }
 
 impl<K: SvidPicker + Drop, R: Wait + Drop> X509Done<K, R> {
-    /// The ended writer, and the record.
-    pub(crate) fn into_parts(self) -> (Ended<R>, Option<Supervised<K>>)
-        ensures past { result.0 ≡ self.past }
-        ensures recorded { result.1 ≡ self.recorded }
-        ensures kept { IfSome self.recorded (λ r. (r.steps ≡ steps_of self.past.list)
-            × IsRecord K.picks r) }
+    /// The record, where the pass of the same source is told of all that was published: its steps
+    /// are what the pass has then seen, and it never sees more.
+    pub fn into_record(self, pass: &mut Pass) -> Result<Supervised<K>, OutOfMemory>
+        requires { pass.old.book ≡ self.past.book }
+        ensures record { IfOk result (λ r. self.recorded ≡ Some r) }
+        ensures kept { IfOk result (IsRecord K.picks) }
+        ensures settled { IfOk result (λ r. (r.steps ≡ steps_of pass.new.seen)
+            × (is_ended pass.new.seen ≡ true)) }
+        ensures book { pass.new.book ≡ pass.old.book }
+        ensures seen { IsPrefix pass.old.seen pass.new.seen }
     {
         let X509Done { ended, record } = self;
-        (ended, record)
+        settle(ended, pass)?;
+        record.ok_or(OutOfMemory)
     }
 }
 
