@@ -10,14 +10,13 @@ use Rattle.std.proofs.lemmas.List.Elements.{recursion_from_All}
 use Rattle.std.proofs.Math.Seq.{take-append_seam, drop-append_seam}
 use Rattle.std.specs.List.{flat_map, AllByRecursion}
 use Rattle.std.specs.Str.{IsUtf8}
-use Rattle.spf_api.specs.Reading.{◌>>=◌, counted}
-use Rattle.spf_disk.specs.declared.generation.AuthorityList.{AuthorityList}
+use Rattle.spf_api.specs.Reading.{counted}
 use Rattle.spf_disk.specs.declared.generation.Generation.{Generation}
 use Rattle.spf_disk.specs.declared.generation.Entry.{Entry}
 use Rattle.spf_disk.specs.declared.generation.Entry.TheVariants.{Withdrawn, Accepted}
 use Rattle.spf_disk.specs.Format.{number_text, field_text, list_text, authorities_text, entry_text}
 use Rattle.spf_disk.specs.Format.{number_at, field_at, text_at, list_at, authorities_at, entry_at}
-use Rattle.spf_disk.specs.Format.{generation_at, entry_of_kind, ended, HasLength64, IsListOf}
+use Rattle.spf_disk.specs.Format.{generation_at, HasLength64, IsListOf}
 use Rattle.spf_disk.specs.Format.{IsAuthorities, IsGeneration, IsEntry}
 
 number_again : (n : ℕ) (rest : List ℕ) → n < 2 ^ 64

@@ -2,7 +2,7 @@
 use Rattle.std.proofs.Common.{◌≡◌, ℕ, ◌∙◌}
 use Rattle.spf_disk.specs.declared.disk.HelperFile.{HelperFile}
 use Rattle.spf_disk.specs.declared.disk.HelperFile.TheVariants.{Gates, First, Second}
-use Rattle.spf_disk.specs.Crash.{Only, Torn}
+use Rattle.spf_disk.specs.Crash.{Torn}
 use Rattle.spf_disk.specs.Image.{Image, SameOthers}
 
 pub same_others : (file : HelperFile) (m c : Image) → c ≡ m → SameOthers file m c

@@ -1,6 +1,6 @@
 -- Runs of calls that only look.
-use Rattle.std.proofs.Common.{◌≡◌, ℕ, refl, ◌∙◌, inl, inr, ⊎_elim, arith}
-use Rattle.spf_disk.specs.Crash.{Looks, NoMore, Elapses, LeavesOnly}
+use Rattle.std.proofs.Common.{◌≡◌, ℕ, refl, ◌∙◌}
+use Rattle.spf_disk.specs.Crash.{Looks, NoMore, Elapses}
 use Rattle.spf_disk.specs.Image.{Image}
 use Rattle.spf_disk.proofs.Moments.{started, goes_on, joined, weaker}
 

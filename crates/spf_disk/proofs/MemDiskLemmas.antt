@@ -5,13 +5,13 @@ use Rattle.std.proofs.Common.{◌∷◌, ◌++◌, length, take, drop, Some, ref
 use Rattle.std.proofs.Common.{max}
 use Rattle.std.proofs.Common.{length-append, replicate, length-drop}
 use Rattle.std.proofs.lemmas.List.{length-take-le, length-replicate}
-use Rattle.std.proofs.lemmas.Option.{slice_get-get_or, slice_get_within}
+use Rattle.std.proofs.lemmas.Option.{slice_get_within}
 use Rattle.std.specs.List.{slice_get}
 use Rattle.spf_disk.specs.declared.disk.HelperFile.{HelperFile}
 use Rattle.spf_disk.specs.declared.disk.HelperFile.TheVariants.{Gates, First, Second}
 use Rattle.spf_disk.specs.declared.mem_disk.MemFiles.{MemFiles}
-use Rattle.spf_disk.specs.Crash.{Torn, TornByWrite, TornByCut, NoMore, IsSynced, Elapses}
-use Rattle.spf_disk.specs.Image.{Image, OnFile, SameOthers, Written, Kept, bytes_of}
+use Rattle.spf_disk.specs.Crash.{Torn, TornByWrite, TornByCut, Elapses}
+use Rattle.spf_disk.specs.Image.{Image, Written, Kept, bytes_of}
 use Rattle.spf_disk.specs.Memory.{FileState, IsOutcome, IsUnsettled, longest}
 use Rattle.spf_disk.specs.MemoryDisk.{state_of, with_state, image_of, IsLeft, WasLeft, LeftSince}
 use Rattle.spf_disk.proofs.Moments.{image_same}

@@ -1,5 +1,5 @@
 -- How a run of disk calls goes on.
-use Rattle.std.proofs.Common.{inl, inr, ⊎_elim, ◌≡◌, ℕ, arith, refl}
+use Rattle.std.proofs.Common.{inl, inr, ⊎_elim, ◌≡◌, ℕ, arith}
 use Rattle.spf_disk.specs.Crash.{Elapses, LeavesOnly}
 use Rattle.spf_disk.specs.Image.{Image}
 

@@ -1,5 +1,5 @@
 -- What a write of one octet of the gates leaves.
-use Rattle.std.proofs.Common.{◌≡◌, ℕ, ◌+◌, ◌<◌, ◌≤◌, ◌⊎◌, inl, inr, ⊎_elim, List, length, Some}
+use Rattle.std.proofs.Common.{◌≡◌, ℕ, ◌+◌, ◌<◌, ◌≤◌, ◌⊎◌, inl, inr, ⊎_elim, length}
 use Rattle.std.proofs.Common.{sym, ◌∙◌, ap, subst, arith, get_or}
 use Rattle.std.proofs.lemmas.Bool.{cases_lt}
 use Rattle.std.proofs.lemmas.Option.{slice_get_past, slice_get-get_or}
@@ -8,7 +8,7 @@ use Rattle.spf_disk.specs.declared.disk.HelperFile.TheVariants as file
 use Rattle.spf_disk.specs.declared.slot.Slot.{Slot}
 use Rattle.spf_disk.specs.declared.slot.Slot.TheVariants as slot
 use Rattle.spf_disk.specs.Crash.{Only, Torn, TornByWrite}
-use Rattle.spf_disk.specs.Image.{Image, SameOthers}
+use Rattle.spf_disk.specs.Image.{Image}
 use Rattle.spf_disk.specs.Replacing.{ButGate, HasRoom}
 use Rattle.spf_disk.specs.Slots.{gate_number, gate_of, other_slot}
 

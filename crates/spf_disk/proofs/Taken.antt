@@ -12,7 +12,6 @@ use Rattle.std.specs.Str.{is_utf8}
 use Rattle.spf_api.specs.Reading.{◌>>=◌, counted}
 use Rattle.spf_api.proofs.Spelled.{IsBytes, rest_bytes, chosen, bind_some, pair_parts}
 use Rattle.spf_api.proofs.Lists.{Front, both, bind_then}
-use Rattle.spf_disk.specs.declared.generation.AuthorityList.{AuthorityList}
 use Rattle.spf_disk.specs.declared.generation.Generation.{Generation}
 use Rattle.spf_disk.specs.declared.generation.Entry.{Entry}
 use Rattle.spf_disk.specs.declared.generation.Entry.TheVariants.{Withdrawn, Accepted}

@@ -8,3 +8,4 @@ pub mod MemoryDisk
 pub mod Opening
 pub mod Replacing
 pub mod Standing
+pub mod Stopping

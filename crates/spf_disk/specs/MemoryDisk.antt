@@ -1,5 +1,5 @@
 -- A disk in memory: its files now, and as they were before each change.
-use Rattle.std.specs.Prelude.{◌≡◌, ℕ, ◌⊎◌, List, [], ◌∷◌, ◌++◌, length, map, drop, refl}
+use Rattle.std.specs.Prelude.{ℕ, ◌⊎◌, List, [], ◌∷◌, length, map, drop, refl}
 use Rattle.std.proofs.Common.{arith}
 use mathlib.Core.Logic.{inl, inr}
 use Rattle.std.specs.declared.snapshot.Snapshot.{Snapshot}

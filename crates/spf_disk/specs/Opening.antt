@@ -3,8 +3,7 @@ use Rattle.std.specs.Prelude.{◌≡◌, ℕ, Bool, Option, Result, Ok, Err}
 use Rattle.std.specs.Option.{option_map_or}
 use Rattle.spf_disk.specs.declared.generation.Entry.{Entry}
 use Rattle.spf_disk.specs.declared.open_error.OpenError.{OpenError}
-use Rattle.spf_disk.specs.declared.open_error.OpenError.TheVariants.{DiskFault, Damaged}
-use Rattle.spf_disk.specs.declared.open_error.OpenError.TheVariants.{OutOfMemory}
+use Rattle.spf_disk.specs.declared.open_error.OpenError.TheVariants.{Damaged}
 use Rattle.spf_disk.specs.declared.opening.Opened.{Opened}
 use Rattle.spf_disk.specs.declared.slot.Slot.{Slot}
 use Rattle.spf_disk.specs.declared.slot.Slot.TheVariants as slot

@@ -1,9 +1,8 @@
 -- The three parts in which an entry is replaced.
-use Rattle.std.specs.Prelude.{◌≡◌, ℕ, ◌≤◌, ◌<◌, ◌⊎◌, false, List, length, Option, Some, None, Ok}
+use Rattle.std.specs.Prelude.{◌≡◌, ℕ, ◌≤◌, ◌<◌, ◌⊎◌, false, List, length, Option, Some, Ok}
 use Rattle.std.specs.Option.{option_map_or}
 use Rattle.spf_disk.specs.declared.generation.Entry.{Entry}
 use Rattle.spf_disk.specs.declared.slot.Slot.{Slot}
-use Rattle.spf_disk.specs.Format.{entry_at}
 use Rattle.spf_disk.specs.Image.{Image}
 use Rattle.spf_disk.specs.Slots.{other_slot, gate_number, gate_of, held_by}
 use Rattle.spf_disk.specs.Standing.{Standing, Closed, Broken, Holds, standing, number_of, latest}

@@ -1,7 +1,7 @@
 -- What reading the three files tells.
-use Rattle.std.specs.Prelude.{◌≡◌, ◌≢◌, ℕ, ◌≤◌, Bool, true, false, Option, Some, None, Result, Ok}
+use Rattle.std.specs.Prelude.{◌≡◌, ◌≢◌, ℕ, ◌≤◌, Bool, true, false, Option, Result, Ok}
 use Rattle.std.specs.Prelude.{Err}
-use Rattle.std.specs.Prelude.{IsErrOf, MatchResult}
+use Rattle.std.specs.Prelude.{IsErrOf}
 use Rattle.std.specs.Option.{option_map_or}
 use Rattle.spf_io.specs.Outside.{Rose}
 use Rattle.spf_disk.specs.declared.generation.Entry.{Entry}
@@ -14,7 +14,7 @@ use Rattle.spf_disk.specs.declared.slot.Slot.TheVariants as slot
 use Rattle.spf_disk.specs.Image.{Image}
 use Rattle.spf_disk.specs.Replacing.{IsPassed, HasRoom}
 use Rattle.spf_disk.specs.Slots.{other_slot}
-use Rattle.spf_disk.specs.Standing.{Standing, Closed, Broken, Holds, standing, latest, latest_of}
+use Rattle.spf_disk.specs.Standing.{Standing, Closed, Broken, Holds, standing, latest}
 
 -- the errors that the files do not fix
 abbrev pub is_free : OpenError → Bool

@@ -1,5 +1,5 @@
 -- The two files that hold entries, and the octet of each in the gates.
-use Rattle.std.specs.Prelude.{◌≡◌, ℕ, List, slice_get, Option}
+use Rattle.std.specs.Prelude.{ℕ, List, slice_get, Option}
 use Rattle.spf_disk.specs.declared.disk.HelperFile.{HelperFile}
 use Rattle.spf_disk.specs.declared.disk.HelperFile.TheVariants as file
 use Rattle.spf_disk.specs.declared.slot.Slot.{Slot}

@@ -1,10 +1,11 @@
 //! Three files: what a read gives, and what a crash may leave.
 
-ghost use Rattle.std.specs.Prelude.{◌≡◌, ◌≤◌, ◌<◌, ◌+◌, ℕ, IfOk, OnOk, length, take, drop};
+ghost use Rattle.std.specs.Prelude.{◌≡◌, ◌≤◌, ◌+◌, ℕ, Option, None, IfOk, OnOk, length, drop};
 ghost use Rattle.spf_io.specs.Outside.{HasCause};
 ghost use Rattle.spf_disk.specs.Image.{Image, OnFile, Written, Kept};
 ghost use Rattle.spf_disk.specs.Image.{IsRead, bytes_of};
 ghost use Rattle.spf_disk.specs.Crash.{Elapses, NoMore, IsSynced, TornByWrite, TornByCut};
+ghost use Rattle.spf_disk.specs.Stopping.{Stops};
 
 use thiserror::Error;
 
@@ -33,6 +34,8 @@ pub trait Disk {
     ghost left_since: { Self → ℕ → Image → Type 0 };
     // How often the disk has failed.
     ghost failures: { Self → ℕ };
+    // How many calls the disk still passes, where it is one that fails each later one.
+    ghost calls_left: { Self → Option ℕ } = { λ disk. None };
 
     fn length(&mut self, file: HelperFile) -> Result<u64, DiskFailed>
         ensures length { IfOk result (λ n. n ≡ length (bytes_of (seen self.old) file)) }
@@ -40,7 +43,8 @@ pub trait Disk {
         ensures crash { NoMore (may_leave self.old) (may_leave self.new) }
         ensures time { Elapses (moment self.old) (moment self.new) (left_since self.old)
             (left_since self.new) (may_leave self.new) }
-        ensures cause { HasCause (failures self.old) (failures self.new) result };
+        ensures cause { HasCause (failures self.old) (failures self.new) result }
+        ensures stops { Stops (calls_left self.old) (calls_left self.new) result };
 
     /// Reads the first of the octets from `at` on, at least
     /// one where one is there and the buffer is not empty.
@@ -51,7 +55,8 @@ pub trait Disk {
         ensures crash { NoMore (may_leave self.old) (may_leave self.new) }
         ensures time { Elapses (moment self.old) (moment self.new) (left_since self.old)
             (left_since self.new) (may_leave self.new) }
-        ensures cause { HasCause (failures self.old) (failures self.new) result };
+        ensures cause { HasCause (failures self.old) (failures self.new) result }
+        ensures stops { Stops (calls_left self.old) (calls_left self.new) result };
 
     /// Writes over what is there, and past the end.
     fn write_at(&mut self, file: HelperFile, at: u64, bytes: &[u8]) -> Result<(), DiskFailed>
@@ -62,7 +67,8 @@ pub trait Disk {
             (may_leave self.new) }
         ensures time { Elapses (moment self.old) (moment self.new) (left_since self.old)
             (left_since self.new) (may_leave self.new) }
-        ensures cause { HasCause (failures self.old) (failures self.new) result };
+        ensures cause { HasCause (failures self.old) (failures self.new) result }
+        ensures stops { Stops (calls_left self.old) (calls_left self.new) result };
 
     /// Keeps the first `count` octets.
     fn cut(&mut self, file: HelperFile, count: u64) -> Result<(), DiskFailed>
@@ -72,7 +78,8 @@ pub trait Disk {
         ensures crash { TornByCut file count (may_leave self.old) (may_leave self.new) }
         ensures time { Elapses (moment self.old) (moment self.new) (left_since self.old)
             (left_since self.new) (may_leave self.new) }
-        ensures cause { HasCause (failures self.old) (failures self.new) result };
+        ensures cause { HasCause (failures self.old) (failures self.new) result }
+        ensures stops { Stops (calls_left self.old) (calls_left self.new) result };
 
     /// After it a crash leaves of the file what a read gives.
     fn sync(&mut self, file: HelperFile) -> Result<(), DiskFailed>
@@ -81,7 +88,8 @@ pub trait Disk {
         ensures crash { NoMore (may_leave self.old) (may_leave self.new) }
         ensures time { Elapses (moment self.old) (moment self.new) (left_since self.old)
             (left_since self.new) (may_leave self.new) }
-        ensures cause { HasCause (failures self.old) (failures self.new) result };
+        ensures cause { HasCause (failures self.old) (failures self.new) result }
+        ensures stops { Stops (calls_left self.old) (calls_left self.new) result };
 
     /// What a read gives is always one of the outcomes.
     ghost seen_is_left: { (disk : Self) → may_leave disk (seen disk) };

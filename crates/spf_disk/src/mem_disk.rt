@@ -1,13 +1,13 @@
 //! A disk in memory, which can be crashed.
 
-ghost use Rattle.std.specs.Prelude.{◌≡◌, ◌++◌, ◌∷◌, ◌+◌, ◌≤◌, ℕ, [], IfOk, IsOk, OnOk, OnErr};
-ghost use Rattle.std.specs.Prelude.{length, drop};
+ghost use Rattle.std.specs.Prelude.{◌≡◌, ◌++◌, ◌∷◌, ◌+◌, ◌≤◌, [], true, Some, None};
+ghost use Rattle.std.specs.Prelude.{length, drop, IfOk, IsOk, OnOk, OnErr};
 ghost use Rattle.spf_io.specs.Outside.{HasCause};
 ghost use Rattle.spf_disk.specs.Crash.{Only, Elapses, NoMore, IsSynced, TornByWrite, TornByCut};
-ghost use Rattle.spf_disk.specs.Image.{Image, IsRead, OnFile, Written, Kept, bytes_of};
-ghost use Rattle.spf_disk.specs.Memory.{FileState, IsUnsettled, IsFilled, longest};
+ghost use Rattle.spf_disk.specs.Image.{IsRead, OnFile, Written, Kept, bytes_of};
 ghost use Rattle.spf_disk.specs.MemoryDisk.{state_of, with_state, image_of, IsLeft, LeftSince};
 ghost use Rattle.spf_disk.specs.MemoryDisk.{IsCrashed, moments};
+ghost use Rattle.spf_disk.specs.Stopping.{Stops, passes, one_less};
 
 use crate::disk::{Disk, DiskFailed, HelperFile};
 use crate::mem_file::MemFile;
@@ -94,7 +94,10 @@ pub struct MemDisk {
 }
 
 /// Takes one call of those that are left.
-fn take_call(calls_left: &mut Option<u64>) -> bool {
+fn take_call(calls_left: &mut Option<u64>) -> bool
+    ensures passed { result ≡ passes calls_left.old }
+    ensures counted { calls_left.new ≡ one_less calls_left.old }
+{
     match *calls_left {
         None => true,
         Some(0) => false,
@@ -131,6 +134,7 @@ impl MemDisk {
         ensures durable { Only (⟦<MemDisk as Disk>⟧.seen result)
             (⟦<MemDisk as Disk>⟧.may_leave result) }
         ensures failures { ⟦<MemDisk as Disk>⟧.failures result ≡ 0 }
+        ensures passes { ⟦<MemDisk as Disk>⟧.calls_left result ≡ None }
     {
         MemDisk {
             alloc,
@@ -156,6 +160,7 @@ impl MemDisk {
         ensures durable { IfOk result (λ d. Only (⟦<MemDisk as Disk>⟧.seen d)
             (⟦<MemDisk as Disk>⟧.may_leave d)) }
         ensures failures { IfOk result (λ d. ⟦<MemDisk as Disk>⟧.failures d ≡ 0) }
+        ensures passes { IfOk result (λ d. ⟦<MemDisk as Disk>⟧.calls_left d ≡ None) }
     {
         Ok(MemDisk {
             alloc,
@@ -166,13 +171,14 @@ impl MemDisk {
         })
     }
 
-    /// The same, of which the first `after` calls go through and each later one fails.
+    /// A disk with three empty files, which passes so many calls and then fails each.
     pub fn stopping(alloc: Global, after: u64) -> MemDisk
         ensures empty { ⟦<MemDisk as Disk>⟧.seen result
             ≡ record { gates = []; first = []; second = [] } }
         ensures durable { Only (⟦<MemDisk as Disk>⟧.seen result)
             (⟦<MemDisk as Disk>⟧.may_leave result) }
         ensures failures { ⟦<MemDisk as Disk>⟧.failures result ≡ 0 }
+        ensures stops { ⟦<MemDisk as Disk>⟧.calls_left result ≡ Some after }
     {
         MemDisk {
             alloc,
@@ -280,6 +286,8 @@ impl MemDisk {
             (⟦<MemDisk as Disk>⟧.may_leave d)) }
         ensures filled { IfOk result
             (λ d. IsCrashed fill self.now.files (⟦<MemDisk as Disk>⟧.seen d)) }
+        ensures failures { IfOk result (λ d. ⟦<MemDisk as Disk>⟧.failures d ≡ 0) }
+        ensures passes { IfOk result (λ d. ⟦<MemDisk as Disk>⟧.calls_left d ≡ None) }
     {
         Ok(MemDisk {
             alloc: self.alloc,
@@ -293,6 +301,8 @@ impl MemDisk {
     /// Takes one call of those that are left. One that is past them fails.
     fn begin(&mut self) -> Result<(), DiskFailed>
         ensures same { (self.new.files ≡ self.old.files) × (self.new.past ≡ self.old.past) }
+        ensures passed { passes self.old.calls_left ≡ true → IsOk result }
+        ensures stops { Stops self.old.calls_left self.new.calls_left result }
         ensures cause { HasCause self.old.failed self.new.failed result }
     {
         if take_call(&mut self.calls_left) {
@@ -305,6 +315,7 @@ impl MemDisk {
     /// A call for which there is no memory fails.
     fn end(&mut self, done: Result<(), OutOfMemory>) -> Result<(), DiskFailed>
         ensures same { (self.new.files ≡ self.old.files) × (self.new.past ≡ self.old.past) }
+        ensures left { self.new.calls_left ≡ self.old.calls_left }
         ensures ok { OnOk result (IsOk done) }
         ensures cause { HasCause self.old.failed self.new.failed result }
     {
@@ -332,6 +343,8 @@ impl Disk for MemDisk {
     ghost left_since = { λ m t c. LeftSince (moments m.past.items) m.files t c };
 
     ghost failures = { λ m. m.failed };
+
+    ghost calls_left = { λ m. m.calls_left };
 
     ghost seen_is_left = { λ m. seen_left m.files };
 

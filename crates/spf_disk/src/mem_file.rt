@@ -1,6 +1,6 @@
 //! A file in memory that may crash.
 
-ghost use Rattle.std.specs.Prelude.{◌≡◌, ◌≤◌, ◌+◌, ◌<◌, ◌⊎◌, ℕ, true, Some, IfOk, length};
+ghost use Rattle.std.specs.Prelude.{◌≡◌, ◌≤◌, ◌+◌, ◌<◌, ◌⊎◌, true, Some, IfOk, length};
 ghost use Rattle.std.specs.Prelude.{slice_get};
 ghost use Rattle.std.specs.Prelude.{replicate, ◌≢◌, ◌↔◌, IsTrue, []};
 ghost use Rattle.spf_disk.specs.Image.{Written, Kept};

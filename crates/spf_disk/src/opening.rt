@@ -1,6 +1,6 @@
 //! Opening the files, so that entries can be replaced.
 
-ghost use Rattle.std.specs.Prelude.{◌≡◌, IfOk, OnOk};
+ghost use Rattle.std.specs.Prelude.{◌≡◌, OnOk};
 ghost use Rattle.std.specs.Option.{option_map_or};
 ghost use Rattle.spf_io.specs.Outside.{HasCause};
 ghost use Rattle.spf_disk.specs.Crash.{Looks, Only};

@@ -9,7 +9,7 @@ ghost use Rattle.spf_disk.specs.Image.{SameOthers, bytes_of};
 ghost use Rattle.spf_disk.specs.Replacing.{ButGate, GateIs, IsPassed, IsNewer, HasRoom, IsShut};
 ghost use Rattle.spf_disk.specs.Replacing.{IsClosed};
 ghost use Rattle.spf_disk.specs.Replacing.{IsStored, IsReplaced, IsBeforeOrAfter};
-ghost use Rattle.spf_disk.specs.Slots.{other_slot, file_of_slot, gate_of, held_by};
+ghost use Rattle.spf_disk.specs.Slots.{other_slot, gate_of, held_by};
 ghost use Rattle.spf_disk.specs.Standing.{standing, latest, is_open};
 
 use crate::disk::{Disk, DiskFailed, HelperFile};

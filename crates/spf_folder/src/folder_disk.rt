@@ -1,6 +1,7 @@
 //! A disk over the files of a folder.
 
 ghost use Rattle.std.specs.Prelude.{◌≡◌, ◌≤◌, ◌+◌, IfOk, OnOk, length, drop};
+ghost use Rattle.std.specs.Option.{option_map};
 ghost use Rattle.spf_io.specs.Outside.{HasCause};
 ghost use Rattle.spf_disk.specs.Crash.{Only, Elapses, NoMore, IsSynced, TornByWrite, TornByCut};
 ghost use Rattle.spf_disk.specs.Image.{OnFile, Written, Kept, IsRead, bytes_of};
@@ -50,7 +51,9 @@ impl FolderDisk {
     }
 
     /// Why the first call that failed did.
-    pub fn fault(&self) -> Option<&FolderFault> {
+    pub fn fault(&self) -> Option<&FolderFault>
+        ensures { option_map (λ f. f.now) result ≡ self.now.fault }
+    {
         self.fault.as_ref()
     }
 

@@ -25,18 +25,33 @@ pub enum FolderFault {
 }
 
 impl From<io::Error> for FolderFault {
+    ghost use Rattle.std.specs.Prelude.{◌≡◌};
+    ghost use Rattle.spf_folder.specs.declared.folder_fault.FolderFault.TheVariants as faults;
+
+    ghost from_gives = { λ error fault. fault ≡ faults.Io error };
+
     fn from(error: io::Error) -> FolderFault {
         FolderFault::Io(error)
     }
 }
 
 impl From<OutOfMemory> for FolderFault {
+    ghost use Rattle.std.specs.Prelude.{◌≡◌};
+    ghost use Rattle.spf_folder.specs.declared.folder_fault.FolderFault.TheVariants as faults;
+
+    ghost from_gives = { λ _ fault. fault ≡ faults.OutOfMemory };
+
     fn from(_error: OutOfMemory) -> FolderFault {
         FolderFault::OutOfMemory
     }
 }
 
 impl From<AllocError> for FolderFault {
+    ghost use Rattle.std.specs.Prelude.{◌≡◌};
+    ghost use Rattle.spf_folder.specs.declared.folder_fault.FolderFault.TheVariants as faults;
+
+    ghost from_gives = { λ _ fault. fault ≡ faults.OutOfMemory };
+
     fn from(_error: AllocError) -> FolderFault {
         FolderFault::OutOfMemory
     }
@@ -44,6 +59,11 @@ impl From<AllocError> for FolderFault {
 
 /// What is kept in memory of the files failed.
 impl From<DiskFailed> for FolderFault {
+    ghost use Rattle.std.specs.Prelude.{◌≡◌};
+    ghost use Rattle.spf_folder.specs.declared.folder_fault.FolderFault.TheVariants as faults;
+
+    ghost from_gives = { λ _ fault. fault ≡ faults.OutOfMemory };
+
     fn from(_error: DiskFailed) -> FolderFault {
         FolderFault::OutOfMemory
     }

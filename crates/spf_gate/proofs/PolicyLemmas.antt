@@ -1,5 +1,6 @@
 -- Reading a policy line by line.
-use Rattle.std.proofs.Common.{◌≡◌, ◌∙◌, refl, sym, ap, ℕ, ◌+◌, Bool, true, false, List, [], ◌∷◌, ◌++◌}
+use Rattle.std.proofs.Common.{◌≡◌, ◌∙◌, refl, sym, ap, ℕ, ◌+◌, Bool, true, false, List, [], ◌∷◌}
+use Rattle.std.proofs.Common.{◌++◌}
 use Rattle.std.proofs.Common.{Option, Some, None, IfSome, Result, Ok, Err, append_assoc, arith}
 use Rattle.std.proofs.Common.{◌-◌, ◌<◌, ◌≤◌, nat_lt}
 use Rattle.std.specs.Prelude.{if◌then◌else◌}
@@ -26,7 +27,8 @@ no_rules : (r : Result Policy GateError) → r ≡ after_rules [] r
 no_rules (Ok p) = refl
 no_rules (Err e) = refl
 
-pub so_far_none : (max number : ℕ) (old : Option (List ℕ)) → SoFar max (number + 1) old old number []
+pub so_far_none : (max number : ℕ) (old : Option (List ℕ))
+    → SoFar max (number + 1) old old number []
 so_far_none max number None = tt
 so_far_none max number (Some a) = no_rules (policy_of max (number + 1) (lines_of a))
 
@@ -150,15 +152,20 @@ first_breaks max first number a c rules e so breaks =
 
 -- the next line breaks a rule of lines
 pub bad_line : (max before after : ℕ) (old mid new : Option (List ℕ)) (number : ℕ)
-    (rules : List Rule) (line : List ℕ) (e : GateError) → SoFar max (before + 1) old mid number rules
+    (rules : List Rule) (line : List ℕ) (e : GateError)
+    → SoFar max (before + 1) old mid number rules
     → TakesLine max (number + 1) mid new line (Err e)
     → ReadsPolicy max before after old new (Err e)
 bad_line max before after None mid new number rules line e so takes = tt
 bad_line max before after (Some a) None new number rules line e so takes = absurd so
-bad_line max before after (Some a) (Some b) None number rules line errors.ReadFault so takes = absurd takes
-bad_line max before after (Some a) (Some b) (Some c) number rules line errors.ReadFault so takes = tt
-bad_line max before after (Some a) (Some b) None number rules line errors.OutOfMemory so takes = absurd takes
-bad_line max before after (Some a) (Some b) (Some c) number rules line errors.OutOfMemory so takes = tt
+bad_line max before after (Some a) (Some b) None number rules line errors.ReadFault so takes =
+    absurd takes
+bad_line max before after (Some a) (Some b) (Some c) number rules line errors.ReadFault so takes =
+    tt
+bad_line max before after (Some a) (Some b) None number rules line errors.OutOfMemory so takes =
+    absurd takes
+bad_line max before after (Some a) (Some b) (Some c) number rules line errors.OutOfMemory so takes =
+    tt
 bad_line max before after (Some a) (Some b) None number rules line errors.WriteFault so takes =
     absurd takes.0
 bad_line max before after (Some a) (Some b) (Some c) number rules line errors.WriteFault so takes =
@@ -167,7 +174,8 @@ bad_line max before after (Some a) (Some b) (Some c) number rules line errors.Wr
     takes.1
 bad_line max before after (Some a) (Some b) None number rules line (errors.BadRule at) so takes =
     absurd takes.0
-bad_line max before after (Some a) (Some b) (Some c) number rules line (errors.BadRule at) so takes =
+bad_line max before after (Some a) (Some b) (Some c) number rules line (errors.BadRule at) so takes
+    =
     first_breaks max (before + 1) (number + 1) a c rules _
     (so ∙ ap (λ (l : List (List ℕ)). after_rules rules (policy_of max (number + 1) l)) takes.0)
     takes.1
@@ -177,21 +185,25 @@ bad_line max before after (Some a) (Some b) (Some c) number rules line errors.No
     first_breaks max (before + 1) (number + 1) a c rules _
     (so ∙ ap (λ (l : List (List ℕ)). after_rules rules (policy_of max (number + 1) l)) takes.0)
     takes.1
-bad_line max before after (Some a) (Some b) None number rules line (errors.LineTooLong at) so takes =
+bad_line max before after (Some a) (Some b) None number rules line (errors.LineTooLong at) so takes
+    =
     absurd takes.0
-bad_line max before after (Some a) (Some b) (Some c) number rules line (errors.LineTooLong at) so takes =
+bad_line max before after (Some a) (Some b) (Some c) number rules line (errors.LineTooLong at) so
+    takes =
     first_breaks max (before + 1) (number + 1) a c rules _
     (so ∙ ap (λ (l : List (List ℕ)). after_rules rules (policy_of max (number + 1) l)) takes.0)
     takes.1
 bad_line max before after (Some a) (Some b) None number rules line (errors.NotText at) so takes =
     absurd takes.0
-bad_line max before after (Some a) (Some b) (Some c) number rules line (errors.NotText at) so takes =
+bad_line max before after (Some a) (Some b) (Some c) number rules line (errors.NotText at) so takes
+    =
     first_breaks max (before + 1) (number + 1) a c rules _
     (so ∙ ap (λ (l : List (List ℕ)). after_rules rules (policy_of max (number + 1) l)) takes.0)
     takes.1
 bad_line max before after (Some a) (Some b) None number rules line errors.TooManyLines so takes =
     absurd takes.0
-bad_line max before after (Some a) (Some b) (Some c) number rules line errors.TooManyLines so takes =
+bad_line max before after (Some a) (Some b) (Some c) number rules line errors.TooManyLines so takes
+    =
     first_breaks max (before + 1) (number + 1) a c rules _
     (so ∙ ap (λ (l : List (List ℕ)). after_rules rules (policy_of max (number + 1) l)) takes.0)
     takes.1

@@ -1,12 +1,15 @@
 -- Answering asks one by one.
-use Rattle.std.proofs.Common.{◌≡◌, ◌∙◌, refl, sym, ap, ℕ, suc, ◌+◌, Bool, true, false, List, [], ◌∷◌, ◌++◌}
-use Rattle.std.proofs.Common.{length, Option, Some, None, IfSome, Result, Ok, Err, append_assoc, subst}
+use Rattle.std.proofs.Common.{◌≡◌, ◌∙◌, refl, sym, ap, ℕ, suc, ◌+◌, Bool, true, false, List, []}
+use Rattle.std.proofs.Common.{◌∷◌, ◌++◌}
+use Rattle.std.proofs.Common.{length, Option, Some, None, IfSome, Result, Ok, Err, append_assoc}
+use Rattle.std.proofs.Common.{subst}
 use Rattle.std.proofs.Common.{inl, inr, ◌⊎◌, arith}
 use Rattle.std.specs.Prelude.{if◌then◌else◌, is_ok, IsErrOf}
 use Rattle.std.specs.Io.KnownBytes.{Appends, prepend_known}
 use Rattle.std.proofs.KnownBytes.{Appends-trans, Appends-nil}
 use Rattle.std.proofs.lemmas.List.{append-nil}
 use mathlib.Core.List.{IsPrefix}
+use Rattle.spf_history.proofs.Prefixes.{begins_self, begins_trans}
 use Rattle.spf_io.specs.Rule.{◌>>=◌}
 use Rattle.spf_feed.specs.Steps.{StateView}
 use Rattle.spf_x509_board.specs.Passes.{PassView}
@@ -22,15 +25,6 @@ use Rattle.spf_gate.specs.Reading.{Breaks, TakesLine, number_after}
 use Rattle.spf_gate.specs.Serving.{AnswersAsk, AreAnswers, AreAsks, AreRead, Seen, Serves}
 use Rattle.spf_gate.specs.Serving.{ServesAsks, is_cut}
 
-prefix_trans : {A : Type 0} (a b c : List A) → IsPrefix a b → IsPrefix b c → IsPrefix a c
-prefix_trans a b c p q = (
-  p.0 ++ q.0,
-  sym (append_assoc a p.0 q.0) ∙ ap (λ l. l ++ q.0) p.1 ∙ q.1,
-)
-
-prefix_self : {A : Type 0} (a : List A) → IsPrefix a a
-prefix_self a = ([], append-nil a)
-
 -- one more ask is answered
 pub answers_more : (rules : List Rule) (seen mid read : Seen) (asks : List (List ℕ)) (ask : List ℕ)
     (text : List ℕ) (state : StateView) → AreAnswers rules seen asks text mid → IsPrefix mid read
@@ -39,12 +33,12 @@ pub answers_more : (rules : List Rule) (seen mid read : Seen) (asks : List (List
 answers_more rules seen mid read [] ask text state so grows is = (
   read,
   state,
-  prefix_trans seen mid read so.1 grows,
+  begins_trans seen mid read so.1 grows,
   is,
   [],
   ap (λ (l : List ℕ). l ++ answer_line rules state ask) so.0
       ∙ sym (append-nil (answer_line rules state ask)),
-  (refl, prefix_self read),
+  (refl, begins_self read),
 )
 answers_more rules seen mid read (x ∷ asks) ask text state so grows is = (
   so.0,
@@ -92,7 +86,8 @@ Remains (Some old) None asks = ⊥
 Remains (Some old) (Some new) asks = lines_of old ≡ asks ++ lines_of new
 
 -- what is answered so far
-pub record Asking (max first : ℕ) (old new : Option (List ℕ)) (rules : List Rule) (seen seen' : Seen)
+pub record Asking (max first : ℕ) (old new : Option (List ℕ)) (rules : List Rule)
+    (seen seen' : Seen)
     (held held' : Option (List ℕ)) (number : ℕ) : Type 0 where
   pub asks : List (List ℕ)
   pub text : List ℕ
@@ -112,7 +107,7 @@ asking_none max number old rules seen held = record {
   asks = [];
   text = [];
   written = Appends-nil held;
-  answers = (refl, prefix_self seen);
+  answers = (refl, begins_self seen);
   number_is = omega arith;
   kept = refl;
   remains = remains_all old;
@@ -185,9 +180,11 @@ pub asked_all : (max first : ℕ) (old mid new : Option (List ℕ)) (rules : Lis
     → TakesLine max (number + 1) mid new ask (Ok is_line) → is_line ≡ false
     → count + first ≡ number + 1
     → ServesAsks max first old new rules seen seen' held held' (Ok count)
-asked_all max first old mid new rules seen seen' held held' number count ask true so takes is count_is =
+asked_all max first old mid new rules seen seen' held held' number count ask true so takes is
+    count_is =
     absurd (cc)
-asked_all max first old mid new rules seen seen' held held' number count ask false so takes is count_is =
+asked_all max first old mid new rules seen seen' held held' number count ask false so takes is
+    count_is =
     record {
       asks = so.asks;
       text = so.text;
@@ -217,29 +214,43 @@ broken_asks : (max first number : ℕ) (old mid new : Option (List ℕ)) (asks :
     → TakesLine max (number + 1) mid new ask (Err e) → AreAsks max first old new asks (Err e)
 broken_asks max first number None mid new asks ask e uncut so kept at takes = tt
 broken_asks max first number (Some a) None new asks ask e uncut so kept at takes = absurd so
-broken_asks max first number (Some a) (Some b) None asks ask errors.ReadFault uncut so kept at takes = absurd takes
-broken_asks max first number (Some a) (Some b) (Some c) asks ask errors.ReadFault uncut so kept at takes =
+broken_asks max first number (Some a) (Some b) None asks ask errors.ReadFault uncut so kept at takes
+    = absurd takes
+broken_asks max first number (Some a) (Some b) (Some c) asks ask errors.ReadFault uncut so kept at
+    takes =
     (so ∙ ap (λ (l : List (List ℕ)). asks ++ l) takes, kept)
-broken_asks max first number (Some a) (Some b) new asks ask errors.OutOfMemory uncut so kept at takes = absurd (cc)
-broken_asks max first number (Some a) (Some b) new asks ask errors.WriteFault uncut so kept at takes = absurd (cc)
-broken_asks max first number (Some a) (Some b) None asks ask (errors.BadRule line) uncut so kept at takes = absurd takes.0
-broken_asks max first number (Some a) (Some b) (Some c) asks ask (errors.BadRule line) uncut so kept at takes =
+broken_asks max first number (Some a) (Some b) new asks ask errors.OutOfMemory uncut so kept at
+    takes = absurd (cc)
+broken_asks max first number (Some a) (Some b) new asks ask errors.WriteFault uncut so kept at takes
+    = absurd (cc)
+broken_asks max first number (Some a) (Some b) None asks ask (errors.BadRule line) uncut so kept at
+    takes = absurd takes.0
+broken_asks max first number (Some a) (Some b) (Some c) asks ask (errors.BadRule line) uncut so kept
+    at takes =
     first_breaks max first number a c asks _
     (so ∙ ap (λ (l : List (List ℕ)). asks ++ l) takes.0) kept at takes.1
-broken_asks max first number (Some a) (Some b) None asks ask errors.NoPolicyEnd uncut so kept at takes = absurd takes.0
-broken_asks max first number (Some a) (Some b) (Some c) asks ask errors.NoPolicyEnd uncut so kept at takes =
+broken_asks max first number (Some a) (Some b) None asks ask errors.NoPolicyEnd uncut so kept at
+    takes = absurd takes.0
+broken_asks max first number (Some a) (Some b) (Some c) asks ask errors.NoPolicyEnd uncut so kept at
+    takes =
     first_breaks max first number a c asks _
     (so ∙ ap (λ (l : List (List ℕ)). asks ++ l) takes.0) kept at takes.1
-broken_asks max first number (Some a) (Some b) None asks ask (errors.LineTooLong line) uncut so kept at takes = absurd takes.0
-broken_asks max first number (Some a) (Some b) (Some c) asks ask (errors.LineTooLong line) uncut so kept at takes =
+broken_asks max first number (Some a) (Some b) None asks ask (errors.LineTooLong line) uncut so kept
+    at takes = absurd takes.0
+broken_asks max first number (Some a) (Some b) (Some c) asks ask (errors.LineTooLong line) uncut so
+    kept at takes =
     first_breaks max first number a c asks _
     (so ∙ ap (λ (l : List (List ℕ)). asks ++ l) takes.0) kept at takes.1
-broken_asks max first number (Some a) (Some b) None asks ask (errors.NotText line) uncut so kept at takes = absurd takes.0
-broken_asks max first number (Some a) (Some b) (Some c) asks ask (errors.NotText line) uncut so kept at takes =
+broken_asks max first number (Some a) (Some b) None asks ask (errors.NotText line) uncut so kept at
+    takes = absurd takes.0
+broken_asks max first number (Some a) (Some b) (Some c) asks ask (errors.NotText line) uncut so kept
+    at takes =
     first_breaks max first number a c asks _
     (so ∙ ap (λ (l : List (List ℕ)). asks ++ l) takes.0) kept at takes.1
-broken_asks max first number (Some a) (Some b) None asks ask errors.TooManyLines uncut so kept at takes = absurd takes.0
-broken_asks max first number (Some a) (Some b) (Some c) asks ask errors.TooManyLines uncut so kept at takes =
+broken_asks max first number (Some a) (Some b) None asks ask errors.TooManyLines uncut so kept at
+    takes = absurd takes.0
+broken_asks max first number (Some a) (Some b) (Some c) asks ask errors.TooManyLines uncut so kept
+    at takes =
     first_breaks max first number a c asks _
     (so ∙ ap (λ (l : List (List ℕ)). asks ++ l) takes.0) kept at takes.1
 
@@ -293,7 +304,7 @@ refused_policy max max' number after o left new seen held e o_is number_is max_i
       asks = [];
       text = [];
       written = Appends-nil held;
-      answers = (refl, prefix_self seen);
+      answers = (refl, begins_self seen);
       read = policy_error max after left new e third uncut;
     }
 
@@ -313,25 +324,31 @@ asks_read max after (Some a) (Some m) (Some c) rules asks (Err errors.OutOfMemor
     absurd (cc)
 asks_read max after (Some a) (Some m) (Some c) rules asks (Err errors.WriteFault) policy so uncut =
     absurd (cc)
-asks_read max after (Some a) (Some m) (Some c) rules asks (Err (errors.BadRule line)) policy so uncut =
+asks_read max after (Some a) (Some m) (Some c) rules asks (Err (errors.BadRule line)) policy so
+    uncut =
     inr (_, policy, refl, so.0, so.1)
 asks_read max after (Some a) (Some m) (Some c) rules asks (Err errors.NoPolicyEnd) policy so uncut =
     inr (_, policy, refl, so.0, so.1)
-asks_read max after (Some a) (Some m) (Some c) rules asks (Err (errors.LineTooLong line)) policy so uncut =
+asks_read max after (Some a) (Some m) (Some c) rules asks (Err (errors.LineTooLong line)) policy so
+    uncut =
     inr (_, policy, refl, so.0, so.1)
-asks_read max after (Some a) (Some m) (Some c) rules asks (Err (errors.NotText line)) policy so uncut =
+asks_read max after (Some a) (Some m) (Some c) rules asks (Err (errors.NotText line)) policy so
+    uncut =
     inr (_, policy, refl, so.0, so.1)
-asks_read max after (Some a) (Some m) (Some c) rules asks (Err errors.TooManyLines) policy so uncut =
+asks_read max after (Some a) (Some m) (Some c) rules asks (Err errors.TooManyLines) policy so uncut
+    =
     inr (_, policy, refl, so.0, so.1)
 
 -- the policy is read, and asks are answered by it
 pub served : (max max' max'' number after : ℕ) (o : List ℕ) (left mid new : Option (List ℕ))
     (rules rules' : List Rule) (seen seen' : Seen) (held held' : Option (List ℕ))
-    (r : Result ℕ GateError) → o ≡ [] → number ≡ 0 → max' ≡ max → max'' ≡ max' → rules' ≡ rules → is_cut r ≡ false
+    (r : Result ℕ GateError) → o ≡ [] → number ≡ 0 → max' ≡ max → max'' ≡ max' → rules' ≡ rules
+    → is_cut r ≡ false
     → ReadsPolicy max' number after (prepend_known o left) mid (Ok rules)
     → ServesAsks max'' (after + 1) mid new rules' seen seen' held held' r
     → Serves max left seen seen' held held' r
-served max max' max'' number after o left mid new rules rules' seen seen' held held' r o_is number_is
+served max max' max'' number after o left mid new rules rules' seen seen' held held' r o_is
+    number_is
     max_is again same uncut reads so =
     let first = subst (λ (x : List ℕ).
     ReadsPolicy max' number after (prepend_known x left) mid (Ok rules)) o_is reads in
@@ -360,12 +377,12 @@ retake max max' number old new line r same takes =
 pub sees_more : (a b c : PassView) → SeesNoLess a b → SeesNoLess b c → SeesNoLess a c
 sees_more a b c first second = record {
   book = second.book ∙ first.book;
-  seen = prefix_trans a.seen b.seen c.seen first.seen second.seen;
-  entered = prefix_trans a.entered b.entered c.entered first.entered second.entered;
+  seen = begins_trans a.seen b.seen c.seen first.seen second.seen;
+  entered = begins_trans a.entered b.entered c.entered first.entered second.entered;
 }
 
 pub sees_same : (a : PassView) → SeesNoLess a a
-sees_same a = record { book = refl; seen = prefix_self a.seen; entered = prefix_self a.entered }
+sees_same a = record { book = refl; seen = begins_self a.seen; entered = begins_self a.entered }
 
 -- an error is the same in results of any kind
 pub retyped : {A B : Type 0} (e f : GateError) → IsErrOf {T = A} (Err e) f

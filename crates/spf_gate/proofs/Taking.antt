@@ -1,6 +1,8 @@
 -- What is read of an input and what is left of it, as lines.
-use Rattle.std.proofs.Common.{◌≡◌, ◌≢◌, ◌∙◌, refl, sym, ap, subst, ℕ, ◌+◌, ◌<◌, ◌≤◌, List, [], ◌∷◌, ◌++◌}
-use Rattle.std.proofs.Common.{length, take, drop, Option, Some, None, IfSome, Result, Ok, Err, arith}
+use Rattle.std.proofs.Common.{◌≡◌, ◌≢◌, ◌∙◌, refl, sym, ap, subst, ℕ, ◌+◌, ◌<◌, ◌≤◌, List, [], ◌∷◌}
+use Rattle.std.proofs.Common.{◌++◌}
+use Rattle.std.proofs.Common.{length, take, drop, Option, Some, None, IfSome, Result, Ok, Err}
+use Rattle.std.proofs.Common.{arith}
 use Rattle.std.proofs.Common.{append_assoc, not, true, false}
 use Rattle.std.proofs.lemmas.List.Sums.{prefix_len-le-length}
 use Rattle.std.proofs.lemmas.List.{append-nil, take_all, drop_all, length-take-le}
@@ -140,7 +142,8 @@ pub breaks_long : (max number : ℕ) (q y : List ℕ) → HasNoFeed q → 4096 <
 breaks_long max number q y none long lt = record {
   line = before_first is_feed (q ++ y);
   others = lines_of (after_first is_feed (q ++ y));
-  lines_are = first_line (q ++ y) (some_more q y (λ is. absurd (omega (arith, long, ap length is))));
+  lines_are =
+      first_line (q ++ y) (some_more q y (λ is. absurd (omega (arith, long, ap length is))));
   rule = allowed max number (before_first is_feed (q ++ y)) lt
       ∙ too_long (number + 1) (before_first is_feed (q ++ y))
       (omega (arith, long, long_front q y none));
@@ -156,12 +159,18 @@ pub take_refused : (max number : ℕ) (old new : Option (List ℕ)) (text : List
     → TakesLine max number old new text (Err e)
 take_refused max number old new text rule errors.ReadFault same broken breaks = same
 take_refused max number old new text rule errors.OutOfMemory same broken breaks = same
-take_refused max number old new text rule errors.WriteFault same broken breaks = (same, breaks broken)
-take_refused max number old new text rule (errors.BadRule line) same broken breaks = (same, breaks broken)
-take_refused max number old new text rule errors.NoPolicyEnd same broken breaks = (same, breaks broken)
-take_refused max number old new text rule (errors.LineTooLong line) same broken breaks = (same, breaks broken)
-take_refused max number old new text rule (errors.NotText line) same broken breaks = (same, breaks broken)
-take_refused max number old new text rule errors.TooManyLines same broken breaks = (same, breaks broken)
+take_refused max number old new text rule errors.WriteFault same broken breaks =
+    (same, breaks broken)
+take_refused max number old new text rule (errors.BadRule line) same broken breaks =
+    (same, breaks broken)
+take_refused max number old new text rule errors.NoPolicyEnd same broken breaks =
+    (same, breaks broken)
+take_refused max number old new text rule (errors.LineTooLong line) same broken breaks =
+    (same, breaks broken)
+take_refused max number old new text rule (errors.NotText line) same broken breaks =
+    (same, breaks broken)
+take_refused max number old new text rule errors.TooManyLines same broken breaks =
+    (same, breaks broken)
 
 -- a line was taken that ends with a line feed
 pub took_fed : (a b : Option (List ℕ)) (o q r text : List ℕ) (n max number : ℕ) (end : LineEnd)

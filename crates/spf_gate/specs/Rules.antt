@@ -8,6 +8,7 @@ use Rattle.std.specs.Str.{bytes_eq}
 use Rattle.spf_io.specs.Option.{◌>>=◌}
 use Rattle.spf_id.specs.Id.{Id, id_text}
 use Rattle.spf_id.specs.Rule.{id_rule, name_rule}
+use Rattle.spf_feed.specs.Items.{value_of}
 use Rattle.spf_gate.specs.declared.rule.Pattern.{Pattern}
 use Rattle.spf_gate.specs.declared.rule.Pattern.TheVariants as patterns
 use Rattle.spf_gate.specs.declared.rule.Rule.{Rule}
@@ -15,11 +16,6 @@ use Rattle.spf_gate.specs.declared.rule.RuleError.{RuleError}
 use Rattle.spf_gate.specs.declared.rule.RuleError.TheVariants as errors
 
 -- ---- how rules are written
-
--- the value, where no rule is broken
-abbrev pub ok_of : {A E : Type 0} → Result A E → Option A
-ok_of (Ok x) = Some x
-ok_of (Err e) = None
 
 -- whether an error says that memory ran out
 abbrev pub is_memory : RuleError → Bool
@@ -30,18 +26,18 @@ abbrev pub begins : List ℕ → List ℕ → Bool
 begins front text = starts_with nat_eq text front
 
 abbrev pub id_pattern : List ℕ → Option Pattern
-id_pattern text = option_map patterns.Id (ok_of (id_rule text))
+id_pattern text = option_map patterns.Id (value_of (id_rule text))
 
 -- a trust domain by its name alone, and not by an ID of it
 unfoldable pub domain_pattern : List ℕ → Option Pattern
 domain_pattern text =
-    ok_of (name_rule text)
+    value_of (name_rule text)
     >>= λ name. if bytes_eq name text then Some (patterns.Domain name) else None
 
 -- an ID that has a path
 unfoldable pub prefix_pattern : List ℕ → Option Pattern
 prefix_pattern text =
-    ok_of (id_rule text) >>= λ id. if length id.path == 0 then None else Some (patterns.Prefix id)
+    value_of (id_rule text) >>= λ id. if length id.path == 0 then None else Some (patterns.Prefix id)
 
 -- a word, a space, and what it is about
 unfoldable pub pattern_of : List ℕ → Option Pattern

@@ -101,7 +101,7 @@ fn push_answer_text(
 
 /// The line that answers an ask, in place of what the buffer held.
 #[tactic(auto, unfolding(crate::specs::Answers::answer_line))]
-pub(crate) fn write_answer(
+pub fn write_answer(
     alloc: Global,
     line: &mut Vec<u8>,
     rules: &[Rule],

@@ -7,12 +7,9 @@ mod line_reader;
 mod policy;
 mod rule;
 mod serve;
-#[cfg(test)]
-mod serve_tests;
-#[cfg(test)]
-mod tests;
 mod verdict;
 
+pub use answer::write_answer;
 pub use gate_error::GateError;
 pub use rule::{Pattern, Rule, RuleError, parse_rule};
 pub use serve::gate_serve;

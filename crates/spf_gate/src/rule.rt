@@ -5,7 +5,8 @@ ghost use Rattle.std.specs.List.{starts_with};
 ghost use Rattle.spf_io.specs.Rule.{Gives};
 ghost use Rattle.spf_id.specs.Rule.{id_rule};
 ghost use Rattle.spf_gate.specs.Rules as spec;
-ghost use Rattle.spf_gate.specs.Rules.{is_memory, is_skipped, ok_of};
+ghost use Rattle.spf_feed.specs.Items.{value_of};
+ghost use Rattle.spf_gate.specs.Rules.{is_memory, is_skipped};
 
 use spf_id::{SpiffeId, SpiffeIdError, TrustDomain};
 use spf_io::OutOfMemory;
@@ -61,7 +62,7 @@ fn skipped(line: &str) -> bool
 
 /// The ID that a text is, if it is one.
 fn id_in(alloc: Global, text: &str) -> Result<Option<SpiffeId>, OutOfMemory>
-    ensures { IfOk result (λ o. o ≡ ok_of (id_rule text.now)) }
+    ensures { IfOk result (λ o. o ≡ value_of (id_rule text.now)) }
 {
     match SpiffeId::new(alloc, text) {
         Ok(id) => Ok(Some(id)),

@@ -1,12 +1,12 @@
 -- A session that is followed to its end has a step, since something in it is accepted.
 use Rattle.std.proofs.Common.{◌≡◌, ◌≢◌, ℕ, Bool, true, false, ◌||◌, cond, List, [], ◌∷◌, ◌++◌}
-use Rattle.std.proofs.Common.{length, take, Option, None, Some, Result, Ok, refl, sym, ◌∙◌, ap}
+use Rattle.std.proofs.Common.{length, take, Option, None, Some, Ok, refl, sym, ◌∙◌, ap}
 use Rattle.std.proofs.Common.{arith, inl, inr, ◌⊎◌}
 use Rattle.std.proofs.lemmas.List.{take_all}
 use Rattle.std.specs.Prelude.{is_some, IsTrue}
 use Rattle.std.specs.Option.{option_map_or, option_to_list}
-use Rattle.spf_view.specs.Sessions.{End, Whole, end_by, is_free, IsEndOf, refusal_of, onto, all_of}
-use Rattle.spf_view.specs.Steps.{Step, step_in}
+use Rattle.spf_view.specs.Sessions.{Whole, end_by, is_free, IsEndOf, refusal_of, onto, all_of}
+use Rattle.spf_view.specs.Steps.{step_in}
 use Rattle.spf_view.specs.Views.{Outcome, Accepted, brings, denied_or_passed, has_synced}
 use Rattle.spf_view.specs.Views.{last_moment}
 use Rattle.spf_feed.specs.declared.limits.ResourceLimits.{ResourceLimits}

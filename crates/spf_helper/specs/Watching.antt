@@ -1,30 +1,19 @@
 -- The exit status of a run, and its line on the error output.
-use Rattle.std.specs.Prelude.{◌≡◌, ℕ, ◌≤◌, List, [], ◌∷◌, ◌++◌, codes, decimal, Option}
+use Rattle.std.specs.Prelude.{◌≡◌, ℕ, ◌≤◌, List, [], codes, Option, None}
 use Rattle.std.specs.Prelude.{Result, Ok, Err}
-use Rattle.spf_io.specs.declared.memory.Failed.{Failed}
-use Rattle.spf_io.specs.Outside.{HasCause, PutAppends, Rose}
+use Rattle.spf_io.specs.Outside.{Rose}
 use Rattle.spf_disk.specs.declared.open_error.OpenError.TheVariants.{DiskFault, Damaged}
 use Rattle.spf_disk.specs.declared.open_error.OpenError.TheVariants as opening
 use Rattle.spf_disk.specs.Image.{Image}
-use Rattle.spf_feed.specs.declared.follow_error.FollowError.{FollowError}
 use Rattle.spf_feed.specs.declared.follow_error.FollowError.TheVariants as answers
 use Rattle.spf_feed.specs.Limits.{default_limits}
 use Rattle.spf_feed.specs.Steps.{PlainStep}
+use Rattle.spf_program.specs.Reports.{IsReported, failure_line, follow_message, follow_number}
+use Rattle.spf_program.specs.Reports.{follow_status}
+use Rattle.spf_program.specs.Streams.{side}
 use Rattle.spf_helper.specs.declared.helper_error.HelperError.{HelperError}
 use Rattle.spf_helper.specs.declared.helper_error.HelperError.TheVariants as errors
 use Rattle.spf_helper.specs.Runs.{Ended, LeavesFound, Ran}
-
-abbrev pub follow_status : FollowError → ℕ
-follow_status answers.OutOfMemory = 2
-follow_status answers.ReadFault = 3
-follow_status answers.WriteFault = 4
-follow_status answers.SessionTooLong = 5
-follow_status (answers.BadFrame frame) = 6
-follow_status (answers.Source e) = 7
-follow_status (answers.UnsupportedRpc e) = 8
-follow_status answers.InitialSyncTimeout = 9
-follow_status answers.Closed = 10
-follow_status answers.NeverSynced = 11
 
 abbrev pub status : HelperError → ℕ
 status (errors.Open opening.OutOfMemory) = 2
@@ -34,34 +23,22 @@ status (errors.Follow e) = follow_status e
 status errors.DiskFault = 21
 status errors.Full = 23
 
-abbrev pub follow_text : FollowError → List ℕ
-follow_text answers.OutOfMemory = codes "out of memory\n"
-follow_text answers.ReadFault = codes "read failed\n"
-follow_text answers.WriteFault = codes "write failed\n"
-follow_text answers.SessionTooLong = codes "session too long\n"
-follow_text (answers.BadFrame frame) = codes "bad frame "
-follow_text (answers.Source e) = codes "request rejected\n"
-follow_text (answers.UnsupportedRpc e) = codes "required RPC is unsupported\n"
-follow_text answers.InitialSyncTimeout = codes "initial synchronization timed out\n"
-follow_text answers.Closed = codes "source is closed\n"
-follow_text answers.NeverSynced = codes "no update was accepted\n"
+-- what is wrong, up to the number of a bad frame
+abbrev pub message : HelperError → List ℕ
+message (errors.Open opening.OutOfMemory) = codes "out of memory\n"
+message (errors.Open DiskFault) = codes "disk failed\n"
+message (errors.Open Damaged) = codes "damaged\n"
+message (errors.Follow e) = follow_message e
+message errors.DiskFault = codes "disk failed\n"
+message errors.Full = codes "full\n"
 
-abbrev pub text : HelperError → List ℕ
-text (errors.Open opening.OutOfMemory) = codes "out of memory\n"
-text (errors.Open DiskFault) = codes "disk failed\n"
-text (errors.Open Damaged) = codes "damaged\n"
-text (errors.Follow e) = follow_text e
-text errors.DiskFault = codes "disk failed\n"
-text errors.Full = codes "full\n"
-
--- the number of a bad frame, and what ends its line
-abbrev pub number_text : HelperError → List ℕ
-number_text (errors.Follow (answers.BadFrame frame)) = decimal frame ++ 10 ∷ []
-number_text _ = []
+abbrev pub number : HelperError → Option ℕ
+number (errors.Follow e) = follow_number e
+number _ = None
 
 -- the line of an error
 abbrev pub error_line : HelperError → List ℕ
-error_line e = codes "spf_helper: " ++ (text e ++ number_text e)
+error_line e = failure_line (codes "spf_helper: ") (message e) (number e)
 
 abbrev pub status_of_end : Result ℕ HelperError → ℕ
 status_of_end (Ok count) = 0
@@ -70,13 +47,6 @@ status_of_end (Err e) = status e
 abbrev pub line_of_end : Result ℕ HelperError → List ℕ
 line_of_end (Ok count) = []
 line_of_end (Err e) = error_line e
-
--- A line is put, or where the error output failed a beginning of it.
-pub record IsReported (held held' : Option (List ℕ)) (failures failures' : ℕ)
-    (line : List ℕ) : Type 0 where
-  pub put : Result (Unit {0}) Failed
-  pub appends : PutAppends held held' put line
-  pub cause : HasCause failures failures' put
 
 -- what a run reads from and puts to, before and after it, and how often each failed
 pub record Streams : Type 0 where
@@ -111,4 +81,4 @@ pub record Watches {D : Type 0} (seen : D → Image) (may_leave : D → Image �
   pub any_moment : LeavesFound seen may_leave moment left_since old new steps
   pub causes : HasCauses s.reads s.reads' s.writes s.writes' end
   pub status : n ≡ status_of_end end
-  pub line : IsReported s.said s.said' s.failures s.failures' (line_of_end end)
+  pub line : IsReported (side s.said s.failures) (side s.said' s.failures') (line_of_end end)

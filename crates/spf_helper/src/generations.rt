@@ -1,6 +1,6 @@
 //! The entries that steps are kept as.
 
-ghost use Rattle.std.specs.Prelude.{◌≡◌, IfOk, map, take};
+ghost use Rattle.std.specs.Prelude.{◌≡◌, IfOk, map};
 ghost use Rattle.std.specs.List.{flat_map};
 ghost use Rattle.std.specs.Option.{option_map};
 ghost use Rattle.std.specs.Arc.{arc_value};

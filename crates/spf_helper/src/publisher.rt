@@ -8,8 +8,6 @@ ghost use Rattle.spf_io.specs.Outside.{Rose};
 ghost use Rattle.spf_feed.specs.Records.{RecordAppends};
 ghost use Rattle.spf_feed.specs.Steps.{plain};
 ghost use Rattle.spf_disk.specs.Crash.{LeavesOnly, Looks, Only};
-ghost use Rattle.spf_disk.specs.Standing.{found};
-ghost use Rattle.spf_helper.specs.Generations.{generation_after};
 ghost use Rattle.spf_helper.specs.Helping.{IsBeforeOrAfter, OpensAs, IsStanding};
 ghost use Rattle.spf_disk.specs.Opening.{IsOpened};
 

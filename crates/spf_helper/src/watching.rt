@@ -7,7 +7,9 @@ ghost use Rattle.spf_disk.specs.Standing.{latest};
 ghost use Rattle.spf_feed.specs.Limits.{default_limits};
 ghost use Rattle.spf_helper.specs.Completing.{Completes};
 ghost use Rattle.spf_helper.specs.Runs.{helper_rules};
-ghost use Rattle.spf_helper.specs.Watching.{IsReported, Watches};
+ghost use Rattle.spf_helper.specs.Watching.{Watches};
+ghost use Rattle.spf_program.specs.Reports.{IsReported};
+ghost use Rattle.spf_program.specs.Streams.{side};
 
 use crate::following::helper_follow;
 use crate::report::report;
@@ -30,9 +32,9 @@ pub fn helper_watch<S: Source, D: Disk, K: Sink, E: Sink>(
     errors: &mut E,
 ) -> u8
     ensures arguments { (result ≡ 1) ↔ (length arguments.now ≢ 1) }
-    ensures refused { length arguments.now ≢ 1 → IsReported (E.held errors.old)
-        (E.held errors.new) (E.failures errors.old) (E.failures errors.new)
-        (codes "spf_helper: bad words\n") }
+    ensures refused { length arguments.now ≢ 1
+        → IsReported (side (E.held errors.old) (E.failures errors.old))
+        (side (E.held errors.new) (E.failures errors.new)) (codes "spf_helper: bad words\n") }
     ensures watches { length arguments.now ≡ 1
         → Watches D.seen D.may_leave D.moment D.left_since D.failures disk.old disk.new (record {
           left = S.left source.old;

@@ -1,9 +1,11 @@
-//! Tests of keys, key sets, tokens and the responses that carry them, in tables.
+//! Tests of keys, key sets, tokens, the responses that carry them, and sessions, in tables.
 #![tactic(auto)]
 
 #[cfg(test)]
 mod key_set;
 #[cfg(test)]
 mod responses;
+#[cfg(test)]
+mod session;
 #[cfg(test)]
 mod token;

@@ -13,7 +13,5 @@ pub mod BodyErrorLemmas
 pub mod LaidMessages
 pub mod BodySessions
 pub mod FollowedLemmas
-pub mod Numbers
-pub mod Pieces
 pub mod WatchLemmas
 pub mod VarintLemmas

@@ -22,34 +22,34 @@ use Rattle.spf_proto.specs.BodyErrors.{RefusedFor}
 use Rattle.spf_proto.specs.Following.{answer_of, BodyFollowed, FollowsBody, HasCauses, Held}
 use Rattle.spf_proto.specs.Following.{is_free, OnlyThese}
 use Rattle.spf_proto.specs.Translated.{session_of}
-use Rattle.spf_proto.specs.Watching.{error_line, Completes, Follows, Headline, IsReported}
+use Rattle.spf_program.specs.Reports.{IsReported, failure_line}
+use Rattle.spf_proto.specs.Watching.{message, number, Completes, Follows, Headline}
 use Rattle.spf_proto.specs.Watching.{IsWholeBody, line_of_end, max_messages, PrintsBody}
-use Rattle.spf_proto.specs.Watching.{program_rules, Runs, shown, Side, status, status_of_end}
-use Rattle.spf_proto.specs.Watching.{Streams}
+use Rattle.spf_program.specs.Streams.{Side, Streams}
+use Rattle.spf_proto.specs.Watching.{program_rules, Runs, shown, status, status_of_end}
 use Rattle.spf_proto.proofs.FollowedLemmas.{answer_synced, some_rest}
 
 -- ---- reports
 
-pub said_nothing : (held held' : Option (List ℕ)) (failures failures' : ℕ)
-    (end : Result ℕ ProtoError) (n : ℕ) → end ≡ Ok n → held' ≡ held → failures' ≡ failures
-    → IsReported held held' failures failures' (line_of_end end)
-said_nothing held held' failures failures' end n is same calm = record {
-  put = Ok tt;
-  appends = subst (λ (r : Result ℕ ProtoError). Appends held held' (line_of_end r)) (sym is)
-      (subst (λ (o : Option (List ℕ)). Appends held o []) (sym same) (Appends-nil held));
-  cause = record { later = omega (arith, calm); failed = λ err. cc };
-}
+pub said_nothing : (before after : Side) (end : Result ℕ ProtoError) (n : ℕ) → end ≡ Ok n
+    → after ≡ before → IsReported before after (line_of_end end)
+said_nothing before after end n is same =
+    subst (λ (r : Result ℕ ProtoError). IsReported before after (line_of_end r)) (sym is)
+    (subst (λ (s : Side). IsReported before s []) (sym same) (record {
+      put = Ok tt;
+      appends = Appends-nil before.bytes;
+      cause = record { later = omega arith; failed = λ err. cc };
+    }))
 
-pub said_line : (held held' : Option (List ℕ)) (failures failures' : ℕ)
-    (end : Result ℕ ProtoError) (e : ProtoError) (put : Result (Unit {0}) Failed) → end ≡ Err e
-    → PutAppends held held' put (error_line e) → HasCause failures failures' put
-    → IsReported held held' failures failures' (line_of_end end)
-said_line held held' failures failures' end e put is appends cause = record {
-  put = put;
-  appends = subst (λ (r : Result ℕ ProtoError). PutAppends held held' put (line_of_end r)) (sym is)
-      appends;
-  cause = cause;
-}
+pub said_line : (before after : Side) (end : Result ℕ ProtoError) (e : ProtoError) (m : List ℕ)
+    (n : Option ℕ) → end ≡ Err e → m ≡ message e → n ≡ number e
+    → IsReported before after (failure_line (codes "spf_proto: ") m n)
+    → IsReported before after (line_of_end end)
+said_line before after end e m n is message_is number_is reported =
+    subst (λ (r : Result ℕ ProtoError). IsReported before after (line_of_end r)) (sym is)
+    (subst (λ (l : List ℕ). IsReported before after l)
+    (ap (λ (l : List ℕ). failure_line (codes "spf_proto: ") l n) message_is
+    ∙ ap (failure_line (codes "spf_proto: ") (message e)) number_is) reported)
 
 -- ---- what is followed
 

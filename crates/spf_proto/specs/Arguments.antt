@@ -1,32 +1,6 @@
 -- The argument of the program: a moment.
-use Rattle.std.specs.Prelude.{ℕ, ◌-◌, ◌^◌, ℤ, pos, Bool, false, not, ◌&&◌, ◌==◌, nat_lt}
-use Rattle.std.specs.Prelude.{List, [], ◌∷◌}
-use Rattle.std.specs.Prelude.{length, Option, None, Some, if◌then◌else◌}
-use Rattle.std.specs.Char.{is_ascii_digit}
-use Rattle.std.specs.List.{list_all}
-use Rattle.std.specs.Option.{option_map}
-use Rattle.std.specs.Str.Parse.{digits_value}
-
--- a zero before a further digit
-abbrev pub leads_with_zero : List ℕ → Bool
-leads_with_zero (c ∷ d ∷ others) = c == 48
-leads_with_zero _ = false
-
--- decimal digits, at least one, without a leading zero
-unfoldable pub is_numeral : List ℕ → Bool
-is_numeral text =
-    (not (length text == 0)) && (list_all is_ascii_digit text && not (leads_with_zero text))
-
--- the number that a text spells, where it is at most `max`
-unfoldable pub number_up_to : ℕ → List ℕ → Option ℕ
-number_up_to max text =
-    if not (is_numeral text) then None
-    else (if nat_lt max (digits_value 10 text) then None
-    else Some (digits_value 10 text))
-
--- a moment, in Unix seconds, at most 2^63 - 1
-abbrev pub moment_in : List ℕ → Option ℤ
-moment_in text = option_map pos (number_up_to (2 ^ 63 - 1) text)
+use Rattle.std.specs.Prelude.{ℕ, ℤ, List, [], ◌∷◌, Option, None}
+use Rattle.spf_program.specs.Numbers.{moment_in}
 
 -- the moment that the arguments say: exactly one number
 abbrev pub start_in : List (List ℕ) → Option ℤ

@@ -1,17 +1,17 @@
 -- The exit status of a run, and its line on the error output.
-use Rattle.std.specs.Prelude.{◌≡◌, ◌⊎◌, ℕ, ℤ, true, List, [], ◌∷◌, ◌++◌, codes, decimal}
+use Rattle.std.specs.Prelude.{◌≡◌, ◌⊎◌, ℕ, ℤ, true, List, [], codes}
 use Rattle.std.specs.Prelude.{Option, None, Some, IfSome, Result, Ok, Err}
-use Rattle.spf_io.specs.declared.memory.Failed.{Failed}
-use Rattle.spf_io.specs.Outside.{HasCause, PutAppends, Rose}
+use Rattle.spf_io.specs.Outside.{Rose}
 use Rattle.spf_api.specs.declared.response.ContextResponse.{ContextResponse}
 use Rattle.spf_view.specs.Sessions.{Grows, all_of, onto}
 use Rattle.spf_view.specs.Views.{has_synced}
-use Rattle.spf_feed.specs.declared.follow_error.FollowError.{FollowError}
-use Rattle.spf_feed.specs.declared.follow_error.FollowError.TheVariants as answers
 use Rattle.spf_feed.specs.declared.ready.Ready.TheVariants as readiness
 use Rattle.spf_feed.specs.Items.{Rules, rules_with, subject}
 use Rattle.spf_feed.specs.Limits.{default_limits}
 use Rattle.spf_feed.specs.Run.{stream, outputs}
+use Rattle.spf_program.specs.Reports.{IsReported, failure_line, follow_message, follow_number}
+use Rattle.spf_program.specs.Reports.{follow_status}
+use Rattle.spf_program.specs.Streams.{Side, Streams}
 use Rattle.spf_proto.specs.declared.proto_error.ProtoError.{ProtoError}
 use Rattle.spf_proto.specs.declared.proto_error.ProtoError.TheVariants as errors
 use Rattle.spf_proto.specs.Body.{body_within}
@@ -19,48 +19,25 @@ use Rattle.spf_proto.specs.BodyErrors.{RefusedFor}
 use Rattle.spf_proto.specs.Following.{BodyFollowed, Held, HasCauses, OnlyThese}
 use Rattle.spf_proto.specs.Translated.{session_of}
 
-abbrev pub follow_status : FollowError → ℕ
-follow_status answers.OutOfMemory = 2
-follow_status answers.ReadFault = 3
-follow_status answers.WriteFault = 4
-follow_status answers.SessionTooLong = 5
-follow_status (answers.BadFrame frame) = 6
-follow_status (answers.Source e) = 7
-follow_status (answers.UnsupportedRpc e) = 8
-follow_status answers.InitialSyncTimeout = 9
-follow_status answers.Closed = 10
-follow_status answers.NeverSynced = 11
-
 abbrev pub status : ProtoError → ℕ
 status (errors.Follow e) = follow_status e
 status errors.TooManyMessages = 5
 status (errors.BadMessage number) = 6
 
-abbrev pub follow_text : FollowError → List ℕ
-follow_text answers.OutOfMemory = codes "out of memory\n"
-follow_text answers.ReadFault = codes "read failed\n"
-follow_text answers.WriteFault = codes "write failed\n"
-follow_text answers.SessionTooLong = codes "session too long\n"
-follow_text (answers.BadFrame frame) = codes "bad frame\n"
-follow_text (answers.Source e) = codes "request rejected\n"
-follow_text (answers.UnsupportedRpc e) = codes "required RPC is unsupported\n"
-follow_text answers.InitialSyncTimeout = codes "initial synchronization timed out\n"
-follow_text answers.Closed = codes "source is closed\n"
-follow_text answers.NeverSynced = codes "no update was accepted\n"
+-- what is wrong, up to the number of a bad message
+abbrev pub message : ProtoError → List ℕ
+message (errors.Follow e) = follow_message e
+message errors.TooManyMessages = codes "too many messages\n"
+message (errors.BadMessage at) = codes "bad message "
 
-abbrev pub text : ProtoError → List ℕ
-text (errors.Follow e) = follow_text e
-text errors.TooManyMessages = codes "too many messages\n"
-text (errors.BadMessage number) = codes "bad message "
-
--- the number of a bad message, and what ends its line
-abbrev pub number_text : ProtoError → List ℕ
-number_text (errors.BadMessage number) = decimal number ++ 10 ∷ []
-number_text _ = []
+abbrev pub number : ProtoError → Option ℕ
+number (errors.Follow e) = follow_number e
+number errors.TooManyMessages = None
+number (errors.BadMessage at) = Some at
 
 -- the line of an error
 abbrev pub error_line : ProtoError → List ℕ
-error_line e = codes "spf_proto: " ++ (text e ++ number_text e)
+error_line e = failure_line (codes "spf_proto: ") (message e) (number e)
 
 abbrev pub status_of_end : Result ℕ ProtoError → ℕ
 status_of_end (Ok count) = 0
@@ -69,27 +46,6 @@ status_of_end (Err e) = status e
 abbrev pub line_of_end : Result ℕ ProtoError → List ℕ
 line_of_end (Ok count) = []
 line_of_end (Err e) = error_line e
-
--- A line is put, or where the error output failed a beginning of it.
-pub record IsReported (held held' : Option (List ℕ)) (failures failures' : ℕ)
-    (line : List ℕ) : Type 0 where
-  pub put : Result (Unit {0}) Failed
-  pub appends : PutAppends held held' put line
-  pub cause : HasCause failures failures' put
-
--- how often an input or an output failed, and its bytes where they are known
-pub record Side : Type 0 where
-  pub bytes : Option (List ℕ)
-  pub failures : ℕ
-
-abbrev pub side : Option (List ℕ) → ℕ → Side
-side bytes failures = record { bytes = bytes; failures = failures }
-
--- the input, the output and the error output of a run, at one moment
-pub record Streams : Type 0 where
-  pub input : Side
-  pub output : Side
-  pub errors : Side
 
 -- the rules of the program: the default limits, no picker, and a usable first update
 abbrev pub program_rules : Rules
@@ -117,8 +73,7 @@ pub record Watches (start : ℤ) (before after : Streams) (n : ℕ) : Type 0 whe
   pub end : Result ℕ ProtoError
   pub follows : Follows start before.input after.input before.output after.output end
   pub status : n ≡ status_of_end end
-  pub line : IsReported before.errors.bytes after.errors.bytes before.errors.failures
-      after.errors.failures (line_of_end end)
+  pub line : IsReported before.errors after.errors (line_of_end end)
 
 -- The arguments are those of the program, and a body is followed;
 -- or they are not, nothing is read or written, and a line says so.
@@ -126,8 +81,7 @@ abbrev pub Runs : Option ℤ → Streams → Streams → ℕ → Type 0
 Runs (Some start) before after n = Watches start before after n
 Runs None before after n =
     (after.input ≡ before.input) × (after.output ≡ before.output)
-    × IsReported before.errors.bytes after.errors.bytes before.errors.failures
-    after.errors.failures (codes "spf_proto: bad words\n")
+    × IsReported before.errors after.errors (codes "spf_proto: bad words\n")
 
 -- The bytes are whole messages, at most as many as the program follows, one of which is accepted.
 pub record IsWholeBody (start : ℤ) (bytes : List ℕ) : Type 0 where

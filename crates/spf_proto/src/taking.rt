@@ -1,6 +1,6 @@
 //! Taking the octets of one message from a source, as they come.
 
-ghost use Rattle.std.specs.Prelude.{◌≡◌, ◌≢◌, ◌≤◌, ◌<◌, ℕ, [], length, Ok, IfOk};
+ghost use Rattle.std.specs.Prelude.{◌≡◌, ◌≢◌, ◌≤◌, ◌<◌, ℕ, length, Ok, IfOk};
 ghost use Rattle.spf_proto.specs.Body.{total};
 ghost use Rattle.spf_proto.specs.Taking.{Came, IsSome, IsStep, StopHasCause};
 ghost use Rattle.spf_proto.specs.declared.taking.Progress.TheVariants as progress;

@@ -92,7 +92,7 @@ fn bodies(rt: HostRuntime) -> Result<(), Fail> {
     Ok(())
 }
 
-/// Bodies whose first message is bad.
+/// Messages that are none, and what is stated to be one and does not come.
 static BAD_BODIES: [&str; 22] = [
     // Compressed, and with a flag that is none.
     "0100000000",
@@ -129,9 +129,9 @@ static BAD_BODIES: [&str; 22] = [
 #[test]
 fn bad_messages(rt: HostRuntime) -> Result<(), Fail> {
     for body in BAD_BODIES.iter() {
-        let (result, lines) = followed(rt.alloc(), &[*body], 10)?;
-        assert!(rt; result == Err(ProtoError::BadMessage { message: 1 }));
-        assert_eq!(rt; count(lines.as_slice()), 1);
+        let (result, lines) = followed(rt.alloc(), &[Q, *body], 10)?;
+        assert!(rt; result == Err(ProtoError::BadMessage { message: 2 }));
+        assert_eq!(rt; count(lines.as_slice()), 4);
     }
     Ok(())
 }

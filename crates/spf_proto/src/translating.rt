@@ -14,7 +14,7 @@ ghost use Rattle.spf_proto.specs.Translating.{IsMadeOrStopped, IsTranslated};
 use crate::message::read_message;
 use crate::payload::{put_bytes, put_context};
 use crate::taking::Stop;
-use spf_api::{ContextView, WorkloadApiError, context_from_view};
+use spf_api::{ContextView, WorkloadApiError, context_from_view_sharing};
 use spf_feed::{Ready, ResourceLimits, SvidPicker, frame_kind, select_svid, validate_limits};
 use spf_io::OutOfMemory;
 use spf_x509::X509Context;
@@ -101,11 +101,16 @@ fn accepts<C: SvidPicker>(
     synced || may_sync(context, choice, acceptance)
 }
 
-/// The context of an update, None where it breaks a rule.
-fn read_context(alloc: Global, view: &ContextView<'_>) -> Result<Option<X509Context>, OutOfMemory>
+/// The context of an update, None where it breaks a rule. What it has of the bytes of the held one
+/// is shared.
+fn read_context(
+    alloc: Global,
+    view: &ContextView<'_>,
+    held: Option<&X509Context>,
+) -> Result<Option<X509Context>, OutOfMemory>
     ensures { IfOk result (λ c. c ≡ context_in (context_of view.now)) }
 {
-    received(context_from_view(alloc, view))
+    received(context_from_view_sharing(alloc, view, held))
 }
 
 fn received(
@@ -120,12 +125,13 @@ fn received(
     }
 }
 
-/// Where a session stands after an update.
+/// Where a session stands after an update, whose context is held from then on.
 fn position_after<C: SvidPicker>(
     acceptance: Acceptance,
     picker: Option<&C>,
     position: Position,
     context: Option<X509Context>,
+    held: &mut Option<X509Context>,
 ) -> Position
     requires { ForSome picker (λ p. C.can_pick p.now) }
     ensures { standing result
@@ -136,10 +142,14 @@ fn position_after<C: SvidPicker>(
 {
     let synced = position.synced;
     match context {
-        Some(context) => Position {
-            is_open: synced,
-            synced: accepts(acceptance, picker, synced, &context) || synced,
-        },
+        Some(context) => {
+            let accepted = accepts(acceptance, picker, synced, &context);
+            *held = Some(context);
+            Position {
+                is_open: synced,
+                synced: accepted || synced,
+            }
+        }
         None => Position {
             is_open: false,
             synced,
@@ -167,13 +177,15 @@ fn put_frames(frames: &mut Vec<u8>, is_open: bool, payload: &[u8]) -> Result<(),
 }
 
 /// Puts the frames of a message in place of what the buffer held, and returns where the session
-/// stands after it. None where the octets are no message.
+/// stands after it. None where the octets are no message. What is held is the last context that
+/// was read: with any other the result is the same.
 fn frames_of<C: SvidPicker>(
     alloc: Global,
     acceptance: Acceptance,
     picker: Option<&C>,
     position: Position,
     octets: &[u8],
+    held: &mut Option<X509Context>,
     payload: &mut Vec<u8>,
     frames: &mut Vec<u8>,
 ) -> Result<Option<Position>, OutOfMemory>
@@ -195,8 +207,8 @@ fn frames_of<C: SvidPicker>(
         return Ok(None);
     }
     put_frames(frames, position.is_open, payload.as_slice())?;
-    let context = read_context(alloc, &view)?;
-    Ok(Some(position_after(acceptance, picker, position, context)))
+    let context = read_context(alloc, &view, held.as_ref())?;
+    Ok(Some(position_after(acceptance, picker, position, context, held)))
 }
 
 /// The same, with the reason where there is no message.
@@ -206,6 +218,7 @@ pub(crate) fn translate<C: SvidPicker>(
     picker: Option<&C>,
     position: Position,
     octets: &[u8],
+    held: &mut Option<X509Context>,
     payload: &mut Vec<u8>,
     frames: &mut Vec<u8>,
 ) -> Result<Position, Stop>
@@ -215,7 +228,9 @@ pub(crate) fn translate<C: SvidPicker>(
         (option_map (λ p. C.picks p.now) picker.entry)) acceptance.start position octets.now
         frames.new.items result }
 {
-    match frames_of(alloc, acceptance, picker, position, octets, payload, frames) {
+    match frames_of(
+        alloc, acceptance, picker, position, octets, held, payload, frames,
+    ) {
         Ok(Some(position)) => Ok(position),
         Ok(None) => Err(Stop::BadMessage),
         Err(_) => Err(Stop::OutOfMemory),

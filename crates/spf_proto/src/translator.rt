@@ -21,6 +21,7 @@ use crate::taking::{Progress, Stop, take_message};
 use crate::translating::{Acceptance, Position, translate};
 use spf_feed::{FollowError, SvidPicker};
 use spf_io::{Failed, OutOfMemory, Source};
+use spf_x509::X509Context;
 use std::alloc::Global;
 use std::marker::{Brand, Model, PhantomData};
 
@@ -48,6 +49,7 @@ pub(crate) struct Translator<'p, T: LentSource, C: SvidPicker, N: Origin> {
     picker: Option<&'p C>,
     chunk: Vec<u8>,
     got: Vec<u8>,
+    held: Option<X509Context>,
     payload: Vec<u8>,
     frames: Vec<u8>,
     at: usize,
@@ -127,6 +129,7 @@ impl<'p, T: LentSource, C: SvidPicker, N: Origin> Translator<'p, T, C, N> {
             picker,
             chunk,
             got: Vec::new(alloc),
+            held: None,
             payload: Vec::new(alloc),
             frames,
             at: 0,
@@ -172,6 +175,7 @@ impl<'p, T: LentSource, C: SvidPicker, N: Origin> Translator<'p, T, C, N> {
             self.picker,
             self.position,
             &self.got[5..],
+            &mut self.held,
             &mut self.payload,
             &mut self.frames,
         );

@@ -3,7 +3,8 @@
 ghost use Rattle.std.specs.Prelude.{◌≡◌, ◌↔◌, None, IsTrue, int_le, pos, map, string_bytes};
 ghost use Rattle.spf_io.specs.Outside.{Rose};
 ghost use Rattle.spf_proto.specs.Arguments.{start_in};
-ghost use Rattle.spf_proto.specs.Watching.{Completes, Follows, Headline, Runs, Streams, side};
+ghost use Rattle.spf_program.specs.Streams.{Streams, side};
+ghost use Rattle.spf_proto.specs.Watching.{Completes, Follows, Headline, Runs};
 
 use crate::arguments::start_of;
 use crate::following::follow_proto;

@@ -5,20 +5,22 @@ use Rattle.std.proofs.Common.{subst, take_all}
 use Rattle.std.specs.Prelude.{if◌then◌else◌, IfSome, IsOk}
 use Rattle.std.specs.Borrow.{Bor}
 use Rattle.std.specs.Option.{option_map}
-use Rattle.spf_view.specs.Sessions.{End, Whole, end_by, IsEndOf, refusal_of, all_of, Grows}
-use Rattle.spf_view.specs.Sessions.{GrowsUpTo, Followed}
-use Rattle.spf_feed.specs.Items.{Event, Rules}
+use Rattle.spf_view.specs.Sessions.{Stream, Outputs, End, Whole, end_by, IsEndOf, refusal_of}
+use Rattle.spf_view.specs.Sessions.{all_of, Grows, GrowsUpTo, Followed}
+use Rattle.spf_feed.specs.declared.turn.Terminal.{Terminal}
+use Rattle.spf_feed.specs.Items.{Rules}
 use Rattle.spf_feed.specs.Run.{stream, outputs, end_for}
 use Rattle.spiffe_watch.specs.Setting.{Setting}
-use Rattle.spiffe_watch.specs.Streams.{Streams}
+use Rattle.spf_program.specs.Streams.{Streams}
 use Rattle.spf_view.proofs.FollowLemmas.{followed_early}
 use Rattle.spf_feed.specs.declared.follow_error.FollowError.{FollowError}
 use Rattle.spf_feed.specs.declared.follow_error.FollowError.TheVariants as errors
 use Rattle.spiffe_watch.specs.declared.exit_reason.ExitReason.{ExitReason}
 use Rattle.spiffe_watch.specs.declared.arguments.Command.{Command}
 use Rattle.spiffe_watch.specs.declared.arguments.Command.TheVariants as commands
-use Rattle.spiffe_watch.specs.Headline.{rules_for, ports, FollowedBy, lines_of, PrintsSession}
-use Rattle.spiffe_watch.specs.Headline.{FollowsSession, Does, Headline, ended_by}
+use Rattle.spiffe_watch.specs.Headline.{Session, rules_for, x509_session, jwt_session, ports}
+use Rattle.spiffe_watch.specs.Headline.{FollowedBy, lines_of, PrintsSession, FollowsSession, Does}
+use Rattle.spiffe_watch.specs.Headline.{Headline, ended_by}
 
 -- a whole session is the end of a reading without a
 -- refusal, that is whole and has an accepted event
@@ -43,14 +45,13 @@ unrefused None r h = (refl, h)
 unrefused (Some x) r h = absurd cc
 
 -- without a refusal each event has its line
-lines_all : (rules : Rules) (past es : List Event) → refusal_of (stream rules) past es ≡ None
-    → all_of (stream rules) (outputs rules).line past es ≡ lines_of rules past es
+lines_all : {E X Y : Type 0} (s : Stream E Terminal) (o : Outputs E X Y) (past es : List E)
+    → refusal_of s past es ≡ None → all_of s o.line past es ≡ lines_of o past es
 unfolding all_of refusal_of
-lines_all rules past [] h = refl
-lines_all rules past (e ∷ es) h =
-    let u = unrefused ((stream rules).refusal past e) (refusal_of (stream rules) (e ∷ past) es) h in
-    rw u.0 (ap (λ (more : List ℕ). (outputs rules).line past e ++ more)
-    (lines_all rules (e ∷ past) es u.1))
+lines_all s o past [] h = refl
+lines_all s o past (e ∷ es) h =
+    let u = unrefused (s.refusal past e) (refusal_of s (e ∷ past) es) h in
+    rw u.0 (ap (λ (more : List ℕ). o.line past e ++ more) (lines_all s o (e ∷ past) es u.1))
 
 grows_whole : (old new : Option (List ℕ)) (more : List ℕ) → GrowsUpTo old new more false
     → Grows old new more
@@ -72,14 +73,15 @@ counted_by None false synced true n m h = absurd cc
 counted_by None false synced false n m h = absurd cc
 
 -- an answer that is Ok shows a whole session, and counts its events
-pub counted : (setting : Setting) (bytes : List ℕ) (left' held held' : Option (List ℕ)) (count : ℕ)
-    → FollowedBy setting (Some bytes) left' held held' (Ok count)
-    → (s : PrintsSession setting bytes held held') × (count ≡ length s.session.es)
-counted setting bytes left' held held' count f =
+pub counted : {E X Y : Type 0} (s : Session E X Y) (bytes : List ℕ)
+    (left' held held' : Option (List ℕ)) (count : ℕ)
+    → FollowedBy s (Some bytes) left' held held' (Ok count)
+    → (p : PrintsSession s bytes held held') × (count ≡ length p.session.es)
+counted s bytes left' held held' count f =
     elim f.end [ inl free ↦ absurd cc | inr ended ↦ by_end ended ]
   where
-    by_end : IsEndOf (stream (rules_for setting)) setting.max_frames bytes f.es (Whole count)
-        → (s : PrintsSession setting bytes held held') × (count ≡ length s.session.es)
+    by_end : IsEndOf s.stream s.max_frames bytes f.es (Whole count)
+        → (p : PrintsSession s bytes held held') × (count ≡ length p.session.es)
     by_end ended =
         let w = whole_by _ _ _ _ (length f.es) count ended.is in (
           record {
@@ -91,18 +93,16 @@ counted setting bytes left' held held' count f =
               calm = w.calm;
               whole = w.whole_is;
             };
-            lines = subst (Grows held held') (lines_all (rules_for setting) [] f.es w.calm)
-                (grows_whole held held'
-                (all_of (stream (rules_for setting)) (outputs (rules_for setting)).line [] f.es)
-                f.lines);
+            lines = subst (Grows held held') (lines_all s.stream s.outputs [] f.es w.calm)
+                (grows_whole held held' (all_of s.stream s.outputs.line [] f.es) f.lines);
           },
           counted_by _ _ _ _ (length f.es) count ended.is,
         )
 
-pub shows : (setting : Setting) (bytes : List ℕ) (left' held held' : Option (List ℕ)) (count : ℕ)
-    → FollowedBy setting (Some bytes) left' held held' (Ok count)
-    → PrintsSession setting bytes held held'
-shows setting bytes left' held held' count f = (counted setting bytes left' held held' count f).0
+pub shows : {E X Y : Type 0} (s : Session E X Y) (bytes : List ℕ) (left' held held' : Option (List ℕ))
+    (count : ℕ) → FollowedBy s (Some bytes) left' held held' (Ok count)
+    → PrintsSession s bytes held held'
+shows s bytes left' held held' count f = (counted s bytes left' held held' count f).0
 
 -- how following ended, and the rules of its picker
 pub ran : (setting : Setting) (left left' held held' : Option (List ℕ))
@@ -110,7 +110,7 @@ pub ran : (setting : Setting) (left left' held held' : Option (List ℕ))
     → rules ≡ rules_for setting
     → Followed (stream rules) (outputs rules) setting.max_frames (ports left held)
     (ports left' held') (end_for answer) → r ≡ ended_by answer
-    → FollowsSession setting left left' held held' r
+    → FollowsSession (x509_session setting) left left' held held' r
 ran setting left left' held held' answer r rules same f is = record {
   answer = answer;
   followed = subst
@@ -120,13 +120,13 @@ ran setting left left' held held' answer r rules same f is = record {
 }
 
 -- memory ran out before anything was read
-pub ran_early : (setting : Setting) (left held : Option (List ℕ)) (r : Result (Unit {0}) ExitReason)
-    → r ≡ ended_by (Err errors.OutOfMemory) → FollowsSession setting left left held held r
-ran_early setting left held r is =
+pub ran_early : {E X Y : Type 0} (s : Session E X Y) (left held : Option (List ℕ))
+    (r : Result (Unit {0}) ExitReason)
+    → r ≡ ended_by (Err errors.OutOfMemory) → FollowsSession s left left held held r
+ran_early s left held r is =
     record {
       answer = Err errors.OutOfMemory;
-      followed = followed_early (stream (rules_for setting)) (outputs (rules_for setting))
-          setting.max_frames (ports left held);
+      followed = followed_early s.stream s.outputs s.max_frames (ports left held);
       is = is;
     }
 
@@ -136,26 +136,29 @@ pub ended_well : (answer : Result ℕ FollowError) (end : Result (Unit {0}) Exit
 ended_well (Ok count) end is well = refl
 ended_well (Err e) end is well = absurd cc
 
-ran_well : (setting : Setting) (bytes : List ℕ) (left' held held' : Option (List ℕ))
-    (answer : Result ℕ FollowError) → FollowedBy setting (Some bytes) left' held held' answer
-    → IsOk answer → PrintsSession setting bytes held held'
-ran_well setting bytes left' held held' (Ok count) f ok =
-    shows setting bytes left' held held' count f
-ran_well setting bytes left' held held' (Err e) f ok = absurd cc
+ran_well : {E X Y : Type 0} (s : Session E X Y) (bytes : List ℕ) (left' held held' : Option (List ℕ))
+    (answer : Result ℕ FollowError) → FollowedBy s (Some bytes) left' held held' answer
+    → IsOk answer → PrintsSession s bytes held held'
+ran_well s bytes left' held held' (Ok count) f ok = shows s bytes left' held held' count f
+ran_well s bytes left' held held' (Err e) f ok = absurd cc
+
+printed : {E X Y : Type 0} (s : Session E X Y) (bytes left' held held' : Option (List ℕ))
+    (end : Result (Unit {0}) ExitReason) → FollowsSession s bytes left' held held' end
+    → end ≡ Ok tt → IfSome bytes (λ bytes. PrintsSession s bytes held held')
+printed s None left' held held' end ran well = tt
+printed s (Some bytes) left' held held' end ran well =
+    ran_well s bytes left' held held' ran.answer ran.followed
+    (ended_well ran.answer end ran.is well)
 
 pub headline : (command : Option Command) (before after : Streams)
     (end : Result (Unit {0}) ExitReason) → Does command before after end → end ≡ Ok tt
     → Headline command before after
 headline (Some (commands.X509 setting)) before after end does well =
-    by_bytes before.input.bytes does
-  where
-    by_bytes : (bytes : Option (List ℕ))
-        → FollowsSession setting bytes after.input.bytes before.output.bytes after.output.bytes end
-        → IfSome bytes (λ bytes. PrintsSession setting bytes before.output.bytes after.output.bytes)
-    by_bytes None ran = tt
-    by_bytes (Some bytes) ran =
-        ran_well setting bytes after.input.bytes before.output.bytes after.output.bytes ran.answer
-        ran.followed (ended_well ran.answer end ran.is well)
+    printed (x509_session setting) before.input.bytes after.input.bytes before.output.bytes
+    after.output.bytes end does well
+headline (Some (commands.Jwt setting)) before after end does well =
+    printed (jwt_session setting) before.input.bytes after.input.bytes before.output.bytes
+    after.output.bytes end does well
 headline (Some (commands.Make arguments)) before after end does well = tt
 headline (Some (commands.Bench arguments)) before after end does well = tt
 headline None before after end does well = tt

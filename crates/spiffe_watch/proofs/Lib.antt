@@ -1,11 +1,9 @@
 pub mod Completeness
 pub mod Endings
-pub mod Numbers
 pub mod Pairs
 pub mod Rows
 pub mod Settings
 pub mod HeadlineLemmas
-pub mod Said
 pub mod Cut
 pub mod GeneratedLemmas
 pub mod NumberTexts

@@ -10,7 +10,7 @@ use Rattle.std.proofs.lemmas.Bool.Decides.{nat_tests}
 use Rattle.std.proofs.lemmas.Fmt.{decimal_is_IsNumeral, first_decimal, decimal_nonempty}
 use Rattle.std.proofs.lemmas.Fmt.{decimal_digit}
 use Rattle.std.proofs.lemmas.Str.Parse.{digit_from_value}
-use Rattle.spiffe_watch.specs.Arguments.{is_numeral, leads_with_zero, number_up_to}
+use Rattle.spf_program.specs.Numbers.{is_numeral, leads_with_zero, number_up_to}
 use Rattle.spiffe_watch.specs.Tallied.{first_word, after_word, revision_in, withdrawn_in}
 use Rattle.spiffe_watch.proofs.TallyLemmas.{counted}
 use Rattle.spiffe_watch.proofs.Searched.{Avoids, first_word_cut, after_word_cut}

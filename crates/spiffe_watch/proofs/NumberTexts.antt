@@ -6,8 +6,8 @@ use Rattle.std.proofs.lemmas.Bool.Decides.{nat_tests}
 use Rattle.std.proofs.lemmas.List.Sums.{AllPass-from_list_all}
 use Rattle.std.proofs.lemmas.Str.{IsUtf8-from_ascii}
 use Rattle.std.proofs.lemmas.Str.Ascii.{IsAscii-from_all}
-use Rattle.spiffe_watch.specs.Arguments.{is_numeral, number_up_to}
-use Rattle.spiffe_watch.proofs.Numbers.{digits_of, number_missing}
+use Rattle.spf_program.specs.Numbers.{is_numeral, number_up_to}
+use Rattle.spf_program.proofs.Numbers.{digits_of, number_missing}
 
 -- a decimal digit is ASCII
 small_digit : (c : ℕ) → is_ascii_digit c ≡ true → c < 128

@@ -3,9 +3,9 @@ use Rattle.std.proofs.Common.{◌≡◌, refl, [], ◌∷◌, None, Some}
 use Rattle.std.specs.Prelude.{codes}
 use Rattle.spf_feed.specs.declared.ready.Ready.TheVariants as readiness
 use Rattle.spiffe_watch.specs.declared.arguments.Command.TheVariants as commands
-use Rattle.spiffe_watch.specs.Arguments.{number_up_to, number_in, limit_in, ready_in, is_numeral}
-use Rattle.spiffe_watch.specs.Arguments.{is_option, option_in, x509_setting, make_arguments_in}
-use Rattle.spiffe_watch.specs.Arguments.{command_in}
+use Rattle.spf_program.specs.Numbers.{number_up_to, number_in, is_numeral}
+use Rattle.spiffe_watch.specs.Arguments.{command_in, limit_in, ready_in, is_option, option_in}
+use Rattle.spiffe_watch.specs.Arguments.{x509_setting, make_arguments_in}
 
 zero : number_in (codes "0") ≡ Some 0
 unfolding number_up_to is_numeral

@@ -4,9 +4,10 @@ use Rattle.std.specs.Prelude.{ℤ, codes}
 use Rattle.std.specs.Option.{option_map}
 use Rattle.spf_feed.specs.declared.ready.Ready.{Ready}
 use Rattle.spf_feed.specs.declared.ready.Ready.TheVariants as readiness
-use Rattle.spiffe_watch.specs.Setting.{default_setting}
-use Rattle.spiffe_watch.specs.Arguments.{are_options, option_in, limit_in, moment_in, number_in}
-use Rattle.spiffe_watch.specs.Arguments.{ready_in, x509_setting}
+use Rattle.spiffe_watch.specs.Setting.{default_setting, default_jwt_setting}
+use Rattle.spf_program.specs.Numbers.{moment_in, number_in}
+use Rattle.spiffe_watch.specs.Arguments.{are_options, option_in, limit_in, ready_in, x509_setting}
+use Rattle.spiffe_watch.specs.Arguments.{not_there, jwt_setting}
 
 pub setting_read : (arguments : List (List ℕ)) (a b c d : Option ℕ) (e : Option ℤ) (f : ℕ)
     (g : Option (List ℕ)) (h : Ready)
@@ -38,3 +39,25 @@ pub setting_read : (arguments : List (List ℕ)) (a b c d : Option ℕ) (e : Opt
 unfolding x509_setting
 setting_read arguments a b c d e f g h p q r s t u v w x =
     rw (p, ← q, ← r, ← s, ← t, ← u, ← v, ← w, ← x) refl
+
+pub jwt_setting_read : (arguments : List (List ℕ)) (b c : Option ℕ) (e : Option ℤ) (f : ℕ)
+    → are_options arguments ≡ true
+    → Some tt ≡ option_in not_there tt (codes "--max-svids") arguments
+    → Some tt ≡ option_in not_there tt (codes "--max-crl-bytes") arguments
+    → Some tt ≡ option_in not_there tt (codes "--hint") arguments
+    → Some tt ≡ option_in not_there tt (codes "--ready") arguments
+    → Some b ≡ option_in limit_in default_jwt_setting.limits.max_bundles (codes "--max-bundles")
+    arguments
+    → Some c ≡ option_in limit_in default_jwt_setting.limits.max_bundle_jwks_bytes
+    (codes "--max-bundle-bytes") arguments
+    → Some e ≡ option_in (λ value. option_map Some (moment_in value)) None (codes "--deadline")
+    arguments
+    → Some f ≡ option_in number_in 1000000 (codes "--max-frames") arguments
+    → Some (record {
+      limits = record { max_bundles = b; max_bundle_jwks_bytes = c };
+      deadline = e;
+      max_frames = f;
+    }) ≡ jwt_setting arguments
+unfolding jwt_setting
+jwt_setting_read arguments b c e f p k l m n q r s t =
+    rw (p, ← k, ← l, ← m, ← n, ← q, ← r, ← s, ← t) refl

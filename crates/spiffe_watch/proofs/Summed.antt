@@ -10,6 +10,7 @@ use Rattle.spf_feed.specs.Run.{outputs, stream}
 use Rattle.spf_feed.proofs.PlainLines.{line_is_line}
 use Rattle.spiffe_watch.specs.declared.arguments.MakeArguments.{MakeArguments}
 use Rattle.spiffe_watch.specs.Headline.{ports, FollowedBy, IsSummary, rules_for}
+use Rattle.spiffe_watch.specs.Headline.{x509_session}
 use Rattle.spiffe_watch.specs.MadeSession.{made_session}
 use Rattle.spiffe_watch.specs.Setting.{default_setting}
 use Rattle.spiffe_watch.specs.Summary.{summary_line, withdrawn_of}
@@ -20,13 +21,14 @@ use Rattle.spiffe_watch.proofs.Tallied.{tally_said}
 -- the line of what a tally says of the lines of a generated session
 pub summed : (arguments : MakeArguments) (left' : Option (List ℕ)) (held : List ℕ)
     (count revision withdrawn : ℕ)
-    → FollowedBy default_setting (Some (made_session arguments)) left' (Some []) (Some held)
-    (Ok count)
+    → FollowedBy (x509_session default_setting) (Some (made_session arguments)) left' (Some [])
+    (Some held) (Ok count)
     → revision ≡ (tally_of held).revision → withdrawn ≡ (tally_of held).withdrawn
     → IsSummary arguments (summary_line count revision withdrawn)
 summed arguments left' held count revision withdrawn f r w =
     let shown =
-    counted default_setting (made_session arguments) left' (Some []) (Some held) count f in
+    counted (x509_session default_setting) (made_session arguments) left' (Some []) (Some held) count
+    f in
     let session = shown.0.session in
     let rules = rules_for default_setting in
     let few : length session.es < 2 ^ 64 - 1 = omega (arith, session.reading.reads.bound) in

@@ -110,7 +110,7 @@ pub lines_taken : (rules : Rules)
       revision = revision_after_history rules past;
       withdrawn = withdrawn;
       unfinished = [];
-    }) (lines_of rules past es)
+    }) (lines_of (outputs rules) past es)
     ≡ record {
       revision = revision_after_history rules (reverse es ++ past);
       withdrawn = withdrawn + withdrawn_of rules past es;
@@ -155,8 +155,8 @@ lines_taken rules plain past (e ∷ es) withdrawn short room =
     let tail : reverse es ++ (e ∷ past) ≡ reverse (e ∷ es) ++ past =
     sym (append_assoc (reverse es) (e ∷ []) past)
     ∙ ap (λ (l : List Event). l ++ past) (sym (reverse-append (e ∷ []) es)) in
-    tally_append start line (lines_of rules (e ∷ past) es)
-    ∙ ap (λ (t : Tallied). tally_from t (lines_of rules (e ∷ past) es))
+    tally_append start line (lines_of (outputs rules) (e ∷ past) es)
+    ∙ ap (λ (t : Tallied). tally_from t (lines_of (outputs rules) (e ∷ past) es))
     (line_taken line words (revision_after_history rules past) withdrawn (plain past e)
     (line_is (decimal n) view revision now)
     ∙ (λ i. record { revision = shown i; withdrawn = count i; unfinished = [] }))
@@ -173,7 +173,7 @@ lines_taken rules plain past (e ∷ es) withdrawn short room =
 -- events, and its count is how many of them leave the view withdrawn.
 pub tally_of_lines : (rules : Rules) (es : List Event) → length es < 2 ^ 64 - 1
     → ((past : List Event) (e : Event) → IsLine ((outputs rules).line past e))
-    → tally_of (lines_of rules [] es) ≡ record {
+    → tally_of (lines_of (outputs rules) [] es) ≡ record {
       revision = revision_after (subject rules) es;
       withdrawn = withdrawn_of rules [] es;
       unfinished = [];
@@ -192,7 +192,7 @@ tally_of_lines rules es short plain =
 -- the same of octets that are known
 pub tally_said : (rules : Rules) (es : List Event) (held : List ℕ) → length es < 2 ^ 64 - 1
     → ((past : List Event) (e : Event) → IsLine ((outputs rules).line past e))
-    → held ≡ lines_of rules [] es
+    → held ≡ lines_of (outputs rules) [] es
     → ((tally_of held).revision ≡ revision_after (subject rules) es)
     × ((tally_of held).withdrawn ≡ withdrawn_of rules [] es)
 tally_said rules es held short plain is =

@@ -5,7 +5,7 @@ use Rattle.std.proofs.Common.{codes, if◌then◌else◌}
 use Rattle.std.proofs.lemmas.List.{append-nil}
 use Rattle.std.specs.Option.{unwrap_or, option_map_or}
 use Rattle.std.specs.Str.{bytes_eq}
-use Rattle.spiffe_watch.specs.Arguments.{number_up_to}
+use Rattle.spf_program.specs.Numbers.{number_up_to}
 use Rattle.spiffe_watch.specs.Tallied.{Tallied, first_word, after_word, revision_in, withdrawn_in}
 use Rattle.spiffe_watch.specs.Tallied.{with_line, with_octet, tally_from, none_tallied, tally_of}
 use borrow.Author.Tests.{eqb-true}

@@ -1,43 +1,17 @@
 -- What the arguments of the command line mean.
-use Rattle.std.specs.Prelude.{ℕ, ◌-◌, ◌^◌, ℤ, pos, Bool, true, false, ◌&&◌, ◌||◌, not, List, []}
-use Rattle.std.specs.Prelude.{◌∷◌, length, Option, None, Some, nat_lt, ◌==◌, if◌then◌else◌, codes}
-use Rattle.std.specs.Char.{is_ascii_digit}
-use Rattle.std.specs.List.{list_all}
+use Rattle.std.specs.Prelude.{ℕ, Bool, true, false, ◌&&◌, ◌||◌, not, List, [], ◌∷◌, Option, None}
+use Rattle.std.specs.Prelude.{Some, if◌then◌else◌, codes}
 use Rattle.std.specs.Option.{option_map}
 use Rattle.std.specs.Str.{bytes_eq}
-use Rattle.std.specs.Str.Parse.{digits_value}
 use Rattle.spf_io.specs.Option.{◌>>=◌}
 use Rattle.spf_feed.specs.declared.ready.Ready.{Ready}
 use Rattle.spf_feed.specs.declared.ready.Ready.TheVariants as ready
-use Rattle.spiffe_watch.specs.Setting.{Setting, default_setting}
+use Rattle.spf_program.specs.Numbers.{number_up_to, number_in, moment_in}
+use Rattle.spiffe_watch.specs.Setting.{Setting, default_setting, default_jwt_setting}
 use Rattle.spiffe_watch.specs.declared.arguments.Command.{Command}
 use Rattle.spiffe_watch.specs.declared.arguments.Command.TheVariants as commands
+use Rattle.spiffe_watch.specs.declared.arguments.JwtArguments.{JwtArguments}
 use Rattle.spiffe_watch.specs.declared.arguments.MakeArguments.{MakeArguments}
-
--- a zero before a further digit
-abbrev pub leads_with_zero : List ℕ → Bool
-leads_with_zero (digit ∷ next ∷ digits) = digit == 48
-leads_with_zero _ = false
-
--- decimal digits, at least one, without a leading zero
-unfoldable pub is_numeral : List ℕ → Bool
-is_numeral text =
-    (not (length text == 0)) && (list_all is_ascii_digit text && not (leads_with_zero text))
-
--- the number that a text spells, where it is at most `max`
-unfoldable pub number_up_to : ℕ → List ℕ → Option ℕ
-number_up_to max text =
-    if not (is_numeral text) then None
-    else (if nat_lt max (digits_value 10 text) then None
-    else Some (digits_value 10 text))
-
--- a number, at most 2^63 - 1
-abbrev pub number_in : List ℕ → Option ℕ
-number_in text = number_up_to (2 ^ 63 - 1) text
-
--- a moment, in Unix seconds
-abbrev pub moment_in : List ℕ → Option ℤ
-moment_in text = option_map pos (number_in text)
 
 -- a limit: a number, or `none`
 unfoldable pub limit_in : List ℕ → Option (Option ℕ)
@@ -120,6 +94,34 @@ x509_setting arguments =
       ready = ready;
     }))
 
+-- the values that an option may have which stands only with x509: none
+abbrev pub not_there : List ℕ → Option (Unit {0})
+not_there value = None
+
+-- the setting of a session of JWT bundles, whose options come each at max once
+unfoldable pub jwt_setting : List (List ℕ) → Option JwtArguments
+jwt_setting arguments =
+    if not (are_options arguments) then None
+    else (option_in not_there tt (codes "--max-svids") arguments
+    >>= λ _. option_in not_there tt (codes "--max-crl-bytes") arguments
+    >>= λ _. option_in not_there tt (codes "--hint") arguments
+    >>= λ _. option_in not_there tt (codes "--ready") arguments
+    >>= λ _.
+    option_in limit_in default_jwt_setting.limits.max_bundles (codes "--max-bundles") arguments
+    >>= λ max_bundles.
+    option_in limit_in default_jwt_setting.limits.max_bundle_jwks_bytes
+    (codes "--max-bundle-bytes") arguments
+    >>= λ max_bundle_bytes.
+    option_in (λ value. option_map Some (moment_in value)) default_jwt_setting.deadline
+    (codes "--deadline") arguments
+    >>= λ deadline.
+    option_in number_in default_jwt_setting.max_frames (codes "--max-frames") arguments
+    >>= λ max_frames. Some (record {
+      limits = record { max_bundles = max_bundles; max_bundle_jwks_bytes = max_bundle_bytes };
+      deadline = deadline;
+      max_frames = max_frames;
+    }))
+
 -- the size and the seed of a generated session
 unfoldable pub make_arguments_in : List (List ℕ) → Option MakeArguments
 make_arguments_in (operations ∷ seed ∷ []) =
@@ -132,8 +134,9 @@ unfoldable pub command_in : List (List ℕ) → Option Command
 command_in [] = None
 command_in (name ∷ arguments) =
     if bytes_eq name (codes "x509") then option_map commands.X509 (x509_setting arguments)
+    else (if bytes_eq name (codes "jwt") then option_map commands.Jwt (jwt_setting arguments)
     else (if bytes_eq name (codes "make")
     then option_map commands.Make (make_arguments_in arguments)
     else (if bytes_eq name (codes "bench")
     then option_map commands.Bench (make_arguments_in arguments)
-    else None))
+    else None)))

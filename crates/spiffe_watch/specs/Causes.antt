@@ -1,9 +1,7 @@
 -- Why a run ends: its status, its line, and when reading or writing failed.
-use Rattle.std.specs.Prelude.{◌≡◌, ℕ, ◌≤◌, Bool, true, false, List, [], ◌∷◌, ◌++◌, take, codes}
+use Rattle.std.specs.Prelude.{◌≡◌, ℕ, ◌≤◌, Bool, true, false, List, [], ◌∷◌, ◌++◌, codes}
 use Rattle.std.specs.Prelude.{decimal, Option, None, Some, Result, Err}
-use Rattle.std.specs.Io.KnownBytes.{Appends}
 use Rattle.spf_io.specs.Outside.{Rose}
-use Rattle.spiffe_watch.specs.Streams.{Side, Failed}
 use Rattle.spf_feed.specs.declared.follow_error.FollowError.{FollowError}
 use Rattle.spf_feed.specs.declared.follow_error.FollowError.TheVariants as errors
 use Rattle.spiffe_watch.specs.declared.exit_reason.ExitReason.{ExitReason}
@@ -42,20 +40,10 @@ reason_text reasons.NeverSynced = codes "no update was accepted"
 abbrev pub reason_line : ExitReason → List ℕ
 reason_line reason = codes "spiffe_watch: " ++ (reason_text reason ++ LINE_FEED ∷ [])
 
--- the number in a line, and what stands from it on
+-- the number of a bad frame
 abbrev pub frame_in : ExitReason → Option ℕ
 frame_in (reasons.BadFrame frame) = Some frame
 frame_in _ = None
-
-abbrev pub number_text : Option ℕ → List ℕ
-number_text None = []
-number_text (Some number) = decimal number ++ LINE_FEED ∷ []
-
--- A line is put; where the error output failed, a prefix of it.
-pub record IsReported (before after : Side) (line : List ℕ) : Type 0 where
-  pub count : ℕ
-  pub put : Appends before.bytes after.bytes (take count line)
-  pub whole : (Failed before after → ⊥) → take count line ≡ line
 
 -- whether a run ended since its arguments are not those of the program
 abbrev pub is_bad_arguments : ExitReason → Bool

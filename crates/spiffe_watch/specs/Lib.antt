@@ -1,5 +1,4 @@
 pub mod Octets
-pub mod Streams
 pub mod Causes
 pub mod Setting
 pub mod Arguments

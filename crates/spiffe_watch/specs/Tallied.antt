@@ -4,7 +4,7 @@ use Rattle.std.specs.Prelude.{ℕ, ◌+◌, ◌-◌, ◌^◌, min, List, [], ◌
 use Rattle.std.specs.Prelude.{codes}
 use Rattle.std.specs.Option.{option_map_or}
 use Rattle.std.specs.Str.{bytes_eq}
-use Rattle.spiffe_watch.specs.Arguments.{number_up_to}
+use Rattle.spf_program.specs.Numbers.{number_up_to}
 use Rattle.spiffe_watch.specs.Octets.{SPACE, LINE_FEED}
 
 -- the octets before the first space

@@ -1,34 +1,30 @@
 //! The arguments of the command line.
 
-ghost use Rattle.std.specs.Prelude.{◌≡◌, ◌≤◌, None, Some, map, string_bytes};
-ghost use Rattle.std.specs.Char.{is_ascii_digit};
-ghost use Rattle.std.specs.List.{list_all};
-ghost use Rattle.std.specs.Option.{option_map, option_copied, ForSome};
+ghost use Rattle.std.specs.Prelude.{◌≡◌, None, Some, map, string_bytes};
+ghost use Rattle.std.specs.Option.{option_map, option_copied};
+ghost use Rattle.spf_program.specs.Numbers.{moment_in, number_in};
 ghost use Rattle.spiffe_watch.specs.Arguments.{
   command_in,
   make_arguments_in,
   x509_setting,
+  jwt_setting,
+  not_there,
   is_option as is_option_name,
   are_options as are_pairs,
   values_of,
   at_most_one,
   option_in,
   limit_in,
-  moment_in,
-  number_in,
   ready_in,
-  is_numeral as numeral_rule,
-  number_up_to as number_in_up_to,
 };
 
 use spf_feed::{Ready, ResourceLimits};
+use spf_jwt::JwtResourceLimits;
+use spf_program::{MAX_NUMBER, moment, number_up_to};
 use std::marker::Model;
 
 /// The default of `--max-frames`.
 pub(crate) const DEFAULT_MAX_FRAMES: u64 = 1_000_000;
-
-/// The max number that an argument may spell.
-const MAX_NUMBER: u64 = i64::MAX as u64;
 
 /// The max number of operations of a generated session.
 const MAX_OPERATIONS: u64 = 10_000;
@@ -40,6 +36,7 @@ const MAX_SEED: u64 = 65_535;
 #[derive(Drop)]
 pub(crate) enum Command<'a> {
     X509(X509Arguments<'a>),
+    Jwt(JwtArguments),
     Make(MakeArguments),
     Bench(MakeArguments),
 }
@@ -70,6 +67,14 @@ impl<'a> Model for X509Arguments<'a> {
     } };
 }
 
+/// The settings of a session of JWT bundles.
+#[derive(Clone, Copy)]
+pub(crate) struct JwtArguments {
+    pub(crate) limits: JwtResourceLimits,
+    pub(crate) deadline: Option<i64>,
+    pub(crate) max_frames: u64,
+}
+
 /// The arguments of `make` and `bench`: the size and the seed of a generated session.
 #[derive(Clone, Copy)]
 pub(crate) struct MakeArguments {
@@ -87,6 +92,7 @@ pub(crate) fn parse_command(arguments: &[String]) -> Option<Command<'_>>
     };
     match first.as_str() {
         "x509" => Some(Command::X509(x509_arguments(rest)?)),
+        "jwt" => Some(Command::Jwt(jwt_arguments(rest)?)),
         "make" => Some(Command::Make(make_arguments(rest)?)),
         "bench" => Some(Command::Bench(make_arguments(rest)?)),
         _ => None,
@@ -128,6 +134,44 @@ fn x509_arguments(arguments: &[String]) -> Option<X509Arguments<'_>>
         hint: hint_option(arguments, "--hint")?,
         ready: ready_option(arguments, "--ready", Ready::Usable)?,
     })
+}
+
+/// The setting of a session of JWT bundles, whose options come each at max once.
+#[tactic(auto, unfolding(crate::specs::Arguments::jwt_setting))]
+fn jwt_arguments(arguments: &[String]) -> Option<JwtArguments>
+    ensures { result ≡ jwt_setting (map string_bytes arguments.now) }
+{
+    if !are_options(arguments) {
+        return None;
+    }
+    no_option(arguments, "--max-svids")?;
+    no_option(arguments, "--max-crl-bytes")?;
+    no_option(arguments, "--hint")?;
+    no_option(arguments, "--ready")?;
+    let limits = JwtResourceLimits::default_limits();
+    Some(JwtArguments {
+        limits: JwtResourceLimits::new(
+            limit_option(arguments, "--max-bundles", limits.max_bundles)?,
+            limit_option(
+                arguments,
+                "--max-bundle-bytes",
+                limits.max_bundle_jwks_bytes,
+            )?,
+        ),
+        deadline: moment_option(arguments, "--deadline")?,
+        max_frames: number_option(arguments, "--max-frames", DEFAULT_MAX_FRAMES)?,
+    })
+}
+
+/// `None` where an option of `x509` alone is set.
+#[tactic(auto, unfolding(crate::specs::Arguments::option_in))]
+fn no_option(arguments: &[String], option: &str) -> Option<()>
+    ensures { result ≡ option_in not_there tt option.now (map string_bytes arguments.now) }
+{
+    match value_of(arguments, option)? {
+        None => Some(()),
+        Some(_) => None,
+    }
 }
 
 /// Whether this is the name of an option of `x509`.
@@ -237,46 +281,6 @@ fn ready_option(arguments: &[String], option: &str, absent: Ready) -> Option<Rea
         None => Some(absent),
         Some(value) => ready(value),
     }
-}
-
-/// Whether all bytes are decimal digits.
-fn all_digits(text: &[u8]) -> bool
-    ensures { result ≡ list_all is_ascii_digit text.now }
-{
-    text.iter().all(|digit| digit.is_ascii_digit())
-}
-
-/// Whether a text is decimal digits, at least one, without a leading zero.
-#[tactic(auto, unfolding(crate::specs::Arguments::is_numeral))]
-fn is_numeral(text: &[u8]) -> bool
-    ensures { result ≡ numeral_rule text.now }
-{
-    match text {
-        [] => false,
-        [b'0', _, ..] => false,
-        _ => all_digits(text),
-    }
-}
-
-/// The number that a text spells, where it is at most `max`.
-pub(crate) fn number_up_to(max: u64, text: &str) -> Option<u64>
-    ensures value { result ≡ number_in_up_to max text.now }
-    ensures bound { ForSome result (λ n. n ≤ max) }
-{
-    if !is_numeral(text.as_bytes()) {
-        return None;
-    }
-    match text.parse::<u64>() {
-        Ok(number) if number <= max => Some(number),
-        _ => None,
-    }
-}
-
-/// A moment, in Unix seconds.
-fn moment(text: &str) -> Option<i64>
-    ensures { result ≡ moment_in text.now }
-{
-    Some(number_up_to(MAX_NUMBER, text)? as i64)
 }
 
 /// A limit: a number, or `none`.

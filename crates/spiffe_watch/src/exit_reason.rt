@@ -1,14 +1,12 @@
 //! Why a run did not end well: its exit status, and its line on standard error.
 
-ghost use Rattle.std.specs.Prelude.{◌≡◌, ◌++◌};
-ghost use Rattle.spf_io.specs.Outside.{HasCause, PutAppends};
-ghost use Rattle.spiffe_watch.specs.Causes.{IsReported, reason_line, reason_of_error, frame_in};
-ghost use Rattle.spiffe_watch.specs.Causes.{number_text, status};
-ghost use Rattle.spiffe_watch.specs.Streams.{side};
+ghost use Rattle.std.specs.Prelude.{◌≡◌, codes};
+ghost use Rattle.spf_program.specs.Reports.{IsReported, failure_line};
+ghost use Rattle.spf_program.specs.Streams.{side};
+ghost use Rattle.spiffe_watch.specs.Causes.{frame_in, reason_line, reason_of_error, status};
 
-use itoa::Buffer;
 use spf_feed::FollowError;
-use spf_io::{Failed, OutOfMemory, Sink};
+use spf_io::{OutOfMemory, Sink};
 use std::alloc::{AllocError, AllocFailed};
 
 /// Why a run ended.
@@ -97,22 +95,23 @@ fn status_of(reason: ExitReason) -> u8
     }
 }
 
-/// The line of a reason, up to the number of a bad frame.
+/// What is wrong, up to the number of a bad frame.
 fn message_of(reason: ExitReason) -> &'static str
-    ensures { reason_line reason ≡ result.now ++ number_text (frame_in reason) }
+    ensures { reason_line reason
+        ≡ failure_line (codes "spiffe_watch: ") result.now (frame_in reason) }
 {
     match reason {
-        ExitReason::BadArguments => "spiffe_watch: bad words\n",
-        ExitReason::OutOfMemory => "spiffe_watch: out of memory\n",
-        ExitReason::ReadFailed => "spiffe_watch: read failed\n",
-        ExitReason::WriteFailed => "spiffe_watch: write failed\n",
-        ExitReason::SessionTooLong => "spiffe_watch: session too long\n",
-        ExitReason::BadFrame { frame: _ } => "spiffe_watch: bad frame ",
-        ExitReason::Rejected => "spiffe_watch: request rejected\n",
-        ExitReason::Unsupported => "spiffe_watch: required RPC is unsupported\n",
-        ExitReason::TimedOut => "spiffe_watch: initial synchronization timed out\n",
-        ExitReason::Closed => "spiffe_watch: source is closed\n",
-        ExitReason::NeverSynced => "spiffe_watch: no update was accepted\n",
+        ExitReason::BadArguments => "bad words\n",
+        ExitReason::OutOfMemory => "out of memory\n",
+        ExitReason::ReadFailed => "read failed\n",
+        ExitReason::WriteFailed => "write failed\n",
+        ExitReason::SessionTooLong => "session too long\n",
+        ExitReason::BadFrame { frame: _ } => "bad frame ",
+        ExitReason::Rejected => "request rejected\n",
+        ExitReason::Unsupported => "required RPC is unsupported\n",
+        ExitReason::TimedOut => "initial synchronization timed out\n",
+        ExitReason::Closed => "source is closed\n",
+        ExitReason::NeverSynced => "no update was accepted\n",
     }
 }
 
@@ -123,17 +122,13 @@ pub(crate) fn report<E: Sink>(errors: &mut E, reason: ExitReason) -> u8
     ensures line { IsReported (side (E.held errors.old) (E.failures errors.old))
         (side (E.held errors.new) (E.failures errors.new)) (reason_line reason) }
 {
-    let _ = put_line(errors, reason);
+    spf_program::report(
+        errors,
+        "spiffe_watch: ",
+        message_of(reason),
+        frame_of(reason),
+    );
     status_of(reason)
-}
-
-/// Writes the line of the reason, without allocating.
-fn put_line<E: Sink>(errors: &mut E, reason: ExitReason) -> Result<(), Failed>
-    ensures bytes { PutAppends (E.held errors.old) (E.held errors.new) result (reason_line reason) }
-    ensures cause { HasCause (E.failures errors.old) (E.failures errors.new) result }
-{
-    errors.put(message_of(reason).as_bytes())?;
-    put_number(errors, frame_of(reason))
 }
 
 /// The number of a bad frame.
@@ -144,17 +139,4 @@ fn frame_of(reason: ExitReason) -> Option<u64>
         ExitReason::BadFrame { frame } => Some(frame),
         _ => None,
     }
-}
-
-/// Writes a number and ends its line, if there is a number.
-fn put_number<E: Sink>(errors: &mut E, number: Option<u64>) -> Result<(), Failed>
-    ensures bytes { PutAppends (E.held errors.old) (E.held errors.new) result (number_text number) }
-    ensures cause { HasCause (E.failures errors.old) (E.failures errors.new) result }
-{
-    let Some(number) = number else {
-        return Ok(());
-    };
-    let mut digits = Buffer::new();
-    errors.put(digits.format(number).as_bytes())?;
-    errors.put(b"\n")
 }

@@ -2,6 +2,7 @@
 
 use spf_feed::{Publisher, Step};
 use spf_io::OutOfMemory;
+use spf_jwt_feed::{JwtPublisher, JwtStep};
 
 /// A publisher that drops each step.
 #[derive(Debug, Drop)]
@@ -13,6 +14,16 @@ impl Publisher for NoPublisher {
     ghost steps = { λ _. None };
 
     fn publish(&mut self, _step: Step) -> Result<(), OutOfMemory> {
+        Ok(())
+    }
+}
+
+impl JwtPublisher for NoPublisher {
+    ghost use Rattle.std.specs.Prelude.{None};
+
+    ghost steps = { λ _. None };
+
+    fn publish(&mut self, _step: JwtStep) -> Result<(), OutOfMemory> {
         Ok(())
     }
 }

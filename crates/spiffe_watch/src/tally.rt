@@ -4,12 +4,12 @@ ghost use Rattle.std.specs.Prelude.{◌≡◌, ◌≤◌, ◌<◌, ◌-◌, ◌^
 ghost use Rattle.std.specs.Prelude.{OnErr};
 ghost use Rattle.spiffe_watch.specs.Tallied.{first_word, after_word, revision_in, withdrawn_in};
 ghost use Rattle.spiffe_watch.specs.Tallied.{tally_of};
-ghost use Rattle.spiffe_watch.specs.Arguments as spec;
+ghost use Rattle.spf_program.specs.Numbers as spec;
 
-use crate::arguments::number_up_to;
 use crate::ghost_bytes::GhostBytes;
 use memchr::memchr;
 use spf_io::{Failed, Sink};
+use spf_program::number_up_to;
 use std::alloc::{AllocError, Global};
 use std::marker::Model;
 

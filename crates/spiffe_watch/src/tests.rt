@@ -22,7 +22,7 @@ type Row = (
     &'static str,
 );
 
-static ROWS: [Row; 57] = [
+static ROWS: [Row; 61] = [
     (
         "first-session",
         "x509",
@@ -316,6 +316,33 @@ static ROWS: [Row; 57] = [
         7,
         "request rejected",
     ),
+    (
+        "jwt-session",
+        "jwt",
+        "CM CN 05 00000041 00000001 00000014 7370696666653a2f2f6578616d706c652e6f7267 00000021 \
+         7b226b657973223a5b7b226b6964223a226b222c226b7479223a224543227d5d7d",
+        "1 waiting\n2 waiting\n\
+         3 0 permitted example.org=6b:7b226b6964223a226b222c226b7479223a224543227d\n",
+        0,
+        "",
+    ),
+    (
+        "jwt-session, over a limit",
+        "jwt --max-bundle-bytes 21",
+        "CM CN 05 00000041 00000001 00000014 7370696666653a2f2f6578616d706c652e6f7267 00000021 \
+         7b226b657973223a5b7b226b6964223a226b222c226b7479223a224543227d5d7d",
+        "1 waiting\n2 waiting\n3 waiting\n",
+        11,
+        "no update was accepted",
+    ),
+    (
+        "jwt-session, without an item",
+        "jwt",
+        "",
+        "",
+        11,
+        "no update was accepted",
+    ),
     ("bad-words", "", "", "", 1, "bad words"),
     ("bad-words", "x509 --hint", "", "", 1, "bad words"),
     ("bad-words", "x509 --deadline 05", "", "", 1, "bad words"),
@@ -346,6 +373,7 @@ static ROWS: [Row; 57] = [
         "bad words",
     ),
     ("bad-words", "jwt --hint a", "", "", 1, "bad words"),
+    ("bad-words", "jwt --deadline 05", "", "", 1, "bad words"),
     ("bad-words", "jwt --ready any", "", "", 1, "bad words"),
     ("bad-words", "make 10001 0", "", "", 1, "bad words"),
     ("bad-words", "make 1 65536", "", "", 1, "bad words"),

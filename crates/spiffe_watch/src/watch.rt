@@ -7,12 +7,12 @@ ghost use Rattle.spf_io.specs.Outside.{Rose};
 ghost use Rattle.spiffe_watch.specs.Arguments.{command_in};
 ghost use Rattle.spiffe_watch.specs.Causes.{HasCauses, is_bad_arguments};
 ghost use Rattle.spiffe_watch.specs.Headline.{FollowsSession, Does, Ended, Headline, Completes};
-ghost use Rattle.spiffe_watch.specs.Headline.{Puts, ended_by};
+ghost use Rattle.spiffe_watch.specs.Headline.{Puts, ended_by, x509_session, jwt_session};
 ghost use Rattle.spiffe_watch.specs.MadeSession.{made_session};
-ghost use Rattle.spiffe_watch.specs.Streams.{Side, Streams, side};
+ghost use Rattle.spf_program.specs.Streams.{Side, Streams, side};
 ghost use Rattle.spiffe_watch.specs.declared.exit_reason.ExitReason.TheVariants as reasons;
 
-use crate::arguments::{Command, MakeArguments, X509Arguments, parse_command};
+use crate::arguments::{Command, JwtArguments, MakeArguments, X509Arguments, parse_command};
 use crate::bench::bench;
 use crate::exit_reason::{ExitReason, reason_of, report};
 use crate::generated::GeneratedSession;
@@ -20,6 +20,7 @@ use crate::no_publisher::NoPublisher;
 use crate::output::put;
 use spf_feed::{FollowError, HintPicker, NoRecorder, SvidPicker, follow_x509};
 use spf_io::{OutOfMemory, Sink, Source, Text};
+use spf_jwt_feed::follow_jwt;
 use std::alloc::Global;
 
 /// Does what the arguments ask for, and returns the exit status: 0 where all went well. Where it
@@ -111,6 +112,7 @@ fn run<S: Source, K: Sink>(
     match parse_command(arguments) {
         None => Err(ExitReason::BadArguments),
         Some(Command::X509(arguments)) => follow(alloc, arguments, source, out),
+        Some(Command::Jwt(arguments)) => follow_bundles(alloc, arguments, source, out),
         Some(Command::Make(arguments)) => make(alloc, arguments, out),
         Some(Command::Bench(arguments)) => bench(alloc, arguments, out),
     }
@@ -137,7 +139,7 @@ fn follow<S: Source, K: Sink>(
     out: &mut K,
 ) -> Result<(), ExitReason>
     ensures arguments { IfErr result (λ e. is_bad_arguments e ≡ false) }
-    ensures session { FollowsSession arguments.entry (S.left source.old) (S.left source.new)
+    ensures session { FollowsSession (x509_session arguments.entry) (S.left source.old) (S.left source.new)
         (K.held out.old) (K.held out.new) result }
     ensures cause { HasCauses (S.failures source.old) (S.failures source.new) (K.failures out.old)
         (K.failures out.new) result }
@@ -154,6 +156,32 @@ fn follow<S: Source, K: Sink>(
         arguments.max_frames,
         picker.as_ref(),
         arguments.ready,
+    );
+    end_of(followed)
+}
+
+/// The same of a session of JWT bundles.
+fn follow_bundles<S: Source, K: Sink>(
+    alloc: Global,
+    arguments: JwtArguments,
+    source: &mut S,
+    out: &mut K,
+) -> Result<(), ExitReason>
+    ensures arguments { IfErr result (λ e. is_bad_arguments e ≡ false) }
+    ensures session { FollowsSession (jwt_session arguments) (S.left source.old)
+        (S.left source.new) (K.held out.old) (K.held out.new) result }
+    ensures cause { HasCauses (S.failures source.old) (S.failures source.new) (K.failures out.old)
+        (K.failures out.new) result }
+{
+    let followed = follow_jwt(
+        alloc,
+        source,
+        out,
+        &mut NoPublisher,
+        &mut NoRecorder::new(),
+        arguments.limits,
+        arguments.deadline,
+        arguments.max_frames,
     );
     end_of(followed)
 }

@@ -1,5 +1,3 @@
-use Rattle.std.proofs.Common.{◌≡◌, ℕ, ◌<◌, length, true, Some, vec_len}
-use Rattle.std.specs.List.{slice_get}
 use Rattle.spf_disk.specs.Memory.{IsFilledTo}
 use Rattle.spf_disk.proofs.mem_file.filled.Given as goal
 

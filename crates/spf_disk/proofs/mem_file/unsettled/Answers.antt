@@ -1,4 +1,3 @@
-use Rattle.std.proofs.Common.{subst}
 use Rattle.spf_disk.proofs.MemoryLemmas.{unsettled_more}
 use Rattle.spf_disk.proofs.mem_file.unsettled.Goals as goal
 

@@ -1,4 +1,4 @@
-use Rattle.std.proofs.Common.{◌-◌, ◌+◌, ◌≡◌, ◌<◌, ◌++◌, ◌∷◌, [], sym, arith}
+use Rattle.std.proofs.Common.{◌-◌, ◌+◌, ◌≡◌, ◌<◌, sym, arith}
 use Rattle.spf_api.specs.Reading.{counted}
 use Rattle.spf_api.proofs.Counted.{counted_more, counted_fails}
 use Rattle.spf_disk.proofs.reader.read_list.Goals as goal

@@ -1,4 +1,4 @@
-use Rattle.std.proofs.Common.{◌≡◌, ◌≤◌, ◌-◌, length, take, vec_len}
+use Rattle.std.proofs.Common.{◌≡◌, ◌≤◌, ◌-◌, length, take}
 use Rattle.spf_disk.specs.Crash.{Looks}
 use Rattle.spf_disk.specs.Image.{bytes_of}
 use Rattle.spf_disk.proofs.scanning.file_bytes.Given as goal

@@ -44,7 +44,8 @@ loop-is_line-preserved g c =
     let text = string_bytes c.take_line.new.text in
     let so = c.loop-is_line.invariant in
     let takes = retake c.args.lines.now.max c.loop-is_line.lines.max
-    (c.loop-is_line.lines.number + 1) mid new text (Ok c.in-Ok.is_line) so.1 c.in-Ok.ensures.takes in
+    (c.loop-is_line.lines.number + 1) mid new text (Ok c.in-Ok.is_line) so.1 c.in-Ok.ensures.takes
+    in
     let answers = subst (λ (a : List ℕ). AnswersAsk c.args.rules.now c.answer_ask.new.pass.seen a
     (g.K.Sink.held c.loop-is_line.out) (g.K.Sink.held c.answer_ask.new.out))
     c.as_str.ensures.value c.in-Ok-answer_ask.ensures.answers in (

@@ -24,5 +24,6 @@ returns-clause-serves g c = λ uncut.
     (prepend_known c.read_policy.new.lines.octets.items (g.S.Source.left c.read_policy.new.source))
     (prepend_known c.answer_asks.new.lines.octets.items (g.S.Source.left c.answer_asks.new.input))
     c.in-Ok.rules c.as_slice.result.now _ _ _ _ _ c.new-lines.ensures.octets
-    c.new-lines.ensures.number c.new-lines.ensures.max c.in-Ok.ensures.max c.as_slice.ensures uncut c.in-Ok.ensures.reads
+    c.new-lines.ensures.number c.new-lines.ensures.max c.in-Ok.ensures.max c.as_slice.ensures uncut
+    c.in-Ok.ensures.reads
     (c.answer_asks.ensures.serves uncut)

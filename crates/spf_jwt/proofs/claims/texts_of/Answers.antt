@@ -9,7 +9,8 @@ use Rattle.spf_jwt.proofs.claims.texts_of.Goals as goal
 
 pub returns-in_err-text : goal.returns-in_err-text
 returns-in_err-text c =
-    let p = err_from_is_err_and c.from_residual-in_err-text.result c.from_residual-in_err-text.ensures.1 in
+    let p = err_from_is_err_and c.from_residual-in_err-text.result
+    c.from_residual-in_err-text.ensures.1 in
     let e = c.in_err-text.field-0.0 in
     rw (p.1, p.2)
     (unless (is_memory_token e)

@@ -13,7 +13,8 @@ returns-in_err-bundle c =
     rw (p.1, p.2)
     (unless (is_memory_api (api_of_any_kind e))
     (each_fails named_bundle_of c.args.entries.now c.loop-entry.entry-index c.entry-item.result
-    c.loop-entry.bundles.items (api_of_any_kind e) c.loop-entry.invariant c.loop-entry-test.true c.entry-item.is)
+    c.loop-entry.bundles.items (api_of_any_kind e) c.loop-entry.invariant c.loop-entry-test.true
+    c.entry-item.is)
     c.in_err-bundle.ensures)
 
 pub loop-entry-preserved : goal.loop-entry-preserved

@@ -1,9 +1,12 @@
-use Rattle.spiffe_watch.specs.Streams.{side}
-use Rattle.spiffe_watch.proofs.Said.{reported}
+use Rattle.std.proofs.Common.{◌∙◌, sym, ap, subst, codes}
+use Rattle.spf_program.specs.Reports.{IsReported, failure_line}
+use Rattle.spf_program.specs.Streams.{side}
 use Rattle.spiffe_watch.proofs.exit_reason.report.Goals as goal
 
 pub returns-clause-line : goal.returns-clause-line
 returns-clause-line g c =
-    reported (side (g.E.Sink.held c.args.errors.now) (g.E.Sink.failures c.args.errors.now))
-    (side (g.E.Sink.held c.put_line.new.errors) (g.E.Sink.failures c.put_line.new.errors))
-    c.put_line.result _ c.put_line.ensures.bytes c.put_line.ensures.cause
+    subst (IsReported
+    (side (g.E.Sink.held c.args.errors.now) (g.E.Sink.failures c.args.errors.now))
+    (side (g.E.Sink.held c.report.new.errors) (g.E.Sink.failures c.report.new.errors)))
+    (ap (failure_line (codes "spiffe_watch: ") c.message_of.result.now) c.frame_of.ensures
+    ∙ sym c.message_of.ensures) c.report.ensures

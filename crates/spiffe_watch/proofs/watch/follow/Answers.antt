@@ -2,7 +2,7 @@ use Rattle.std.proofs.Common.{ap, ◌∙◌, subst, Err}
 use Rattle.std.proofs.lemmas.Result.{err_from_is_err_and}
 use Rattle.std.specs.Option.{option_copied}
 use Rattle.spf_feed.specs.Items.{rules_with}
-use Rattle.spiffe_watch.specs.Headline.{FollowsSession}
+use Rattle.spiffe_watch.specs.Headline.{FollowsSession, x509_session}
 use Rattle.spiffe_watch.specs.Setting.{Setting}
 use Rattle.spiffe_watch.proofs.HeadlineLemmas.{ran, ran_early, shared_map}
 use Rattle.spiffe_watch.proofs.watch.follow.Goals as goal
@@ -24,7 +24,7 @@ returns-clause-session g c =
       ready = inside.ready;
     } in
     subst (λ (s : Setting).
-    FollowsSession s (g.S.Source.left c.args.source.now)
+    FollowsSession (x509_session s) (g.S.Source.left c.args.source.now)
     (g.S.Source.left c.follow_x509-followed.new.source) (g.K.Sink.held c.args.out.now)
     (g.K.Sink.held c.follow_x509-followed.new.sink) c.end_of.result)
     c.arguments.view_is

@@ -1,6 +1,6 @@
 use Rattle.std.proofs.Common.{sym, ap, ◌∙◌}
 use Rattle.spiffe_watch.specs.Headline.{status_of_end}
-use Rattle.spiffe_watch.specs.Streams.{Streams, side}
+use Rattle.spf_program.specs.Streams.{Streams, side}
 use Rattle.spiffe_watch.proofs.Completeness.{completes}
 use Rattle.spiffe_watch.proofs.HeadlineLemmas.{headline}
 use Rattle.spiffe_watch.proofs.watch.watch.Goals as goal

@@ -6,7 +6,8 @@ use Rattle.spf_gate.proofs.line_reader.LineReader.take_line.Goals as goal
 
 pub returns-in-Ok-Nothing-clause-takes : goal.returns-in-Ok-Nothing-clause-takes
 returns-in-Ok-Nothing-clause-takes g c =
-    took_nothing _ _ _ _ (string_bytes c.args.text.now) _ _ _ c.in-Ok-Nothing.ensures.fills c.in-Ok-Nothing.field-0-is
+    took_nothing _ _ _ _ (string_bytes c.args.text.now) _ _ _ c.in-Ok-Nothing.ensures.fills
+    c.in-Ok-Nothing.field-0-is
 
 pub returns-in-Ok-clause-takes : goal.returns-in-Ok-clause-takes
 returns-in-Ok-clause-takes g c =
@@ -15,7 +16,8 @@ returns-in-Ok-clause-takes g c =
 
 pub returns-in-Err-take-clause-takes : goal.returns-in-Err-take-clause-takes
 returns-in-Err-take-clause-takes g c =
-    refused_fed _ _ _ _ _ (string_bytes c.take.new.text) c.in-Ok-Feed.size _ _ _ _ c.in-Ok-Feed.ensures.fills
+    refused_fed _ _ _ _ _ (string_bytes c.take.new.text) c.in-Ok-Feed.size _ _ _ _
+    c.in-Ok-Feed.ensures.fills
     c.in-Ok-Feed.field-0-is c.in-Err-take.ensures.refused.0 c.in-Err-take.ensures.rule
 
 pub returns-in-Ok-take-clause-takes : goal.returns-in-Ok-take-clause-takes
@@ -28,7 +30,8 @@ returns-in-Ok-take-clause-takes g c =
 pub returns-in-Err-take-2-clause-takes : goal.returns-in-Err-take-2-clause-takes
 returns-in-Err-take-2-clause-takes g c =
     let size : c.len-size.result ≡ length c.fill_line.new.octets.items = search rules in
-    refused_rest _ _ _ _ _ (string_bytes c.take-in-Ok-Rest.new.text) c.len-size.result _ _ _ _ c.in-Ok-Rest.ensures.fills
+    refused_rest _ _ _ _ _ (string_bytes c.take-in-Ok-Rest.new.text) c.len-size.result _ _ _ _
+    c.in-Ok-Rest.ensures.fills
     c.in-Ok-Rest.field-0-is size c.in-Err-take-2.ensures.refused.0 c.in-Err-take-2.ensures.rule
 
 pub returns-in-Err-clause-takes : goal.returns-in-Err-clause-takes

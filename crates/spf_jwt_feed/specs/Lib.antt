@@ -1,0 +1,11 @@
+pub mod Following
+pub mod Items
+pub mod Names
+pub mod Publishing
+pub mod Received
+pub mod Run
+pub mod Shown
+pub mod Standing
+pub mod States
+pub mod Steps
+pub mod Turns

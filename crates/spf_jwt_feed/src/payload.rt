@@ -1,0 +1,130 @@
+//! What the payload of a frame lays out.
+
+ghost use Rattle.std.specs.Prelude.{◌≡◌, IfOk};
+ghost use Rattle.spf_feed.specs.Events.{failure_at, moment_at, event_at};
+ghost use Rattle.spf_feed.specs.Events as spec;
+ghost use Rattle.spf_api.specs.declared.response.Response.TheVariants as responses;
+ghost use Rattle.spf_jwt_feed.specs.Items.{item_at, IsReceived, HasKeySets};
+ghost use Rattle.spf_jwt_feed.specs.Items as items_spec;
+
+use crate::event::{JwtItem, JwtReceived};
+use spf_api::{
+    BundlesResponse, ClientFault, Response, ResponseKind, WorkloadApiError, read_payload,
+};
+use spf_frame::frame_kind::{
+    CLIENT_FAILED, CLIENT_MADE, CLOSE, CONNECT_STATUS, CONNECTED, ITEM, ITEM_STATUS, MOMENT,
+    STREAM_END,
+};
+use spf_frame::{read_status, read_text};
+use spf_io::OutOfMemory;
+use spf_jwt::{JwtBundleSet, jwt_bundle_set_from};
+use std::alloc::Global;
+
+/// The code octet of a client that could not reach its endpoint.
+const UNREACHABLE: u8 = 255;
+
+/// A status, or the text of what could not be reached.
+#[tactic(auto, unfolding(spf_feed::specs::Events::failure_at))]
+fn failure_in(alloc: Global, bytes: &[u8]) -> Result<Option<ClientFault>, OutOfMemory>
+    ensures { IfOk result (λ o. o ≡ failure_at bytes.now) }
+{
+    let [number, rest @ ..] = bytes else {
+        return Ok(None);
+    };
+    if *number == UNREACHABLE {
+        return Ok(read_text(alloc, rest)?.map(ClientFault::Unreachable));
+    }
+    Ok(read_status(alloc, bytes)?.map(ClientFault::Status))
+}
+
+/// Eight octets of Unix seconds, from 0 to 2^63 - 1.
+#[tactic(auto, unfolding(spf_feed::specs::Events::moment_at))]
+fn moment_in(bytes: &[u8]) -> Option<i64>
+    ensures { result ≡ moment_at bytes.now }
+{
+    let [a, b, c, d, e, f, g, h] = bytes else {
+        return None;
+    };
+    let number = u64::from_be_bytes([*a, *b, *c, *d, *e, *f, *g, *h]);
+    if number > i64::MAX as u64 {
+        return None;
+    }
+    Some(number as i64)
+}
+
+/// The item whose key sets were read.
+fn received(parsed: Result<JwtBundleSet, WorkloadApiError>) -> Result<JwtItem, OutOfMemory>
+    ensures { IsReceived parsed result }
+{
+    match parsed {
+        Ok(set) => Ok(JwtItem::Bundles(set)),
+        Err(WorkloadApiError::OutOfMemory) => Err(OutOfMemory),
+        Err(_) => Ok(JwtItem::Broken),
+    }
+}
+
+/// What the bundles of a response are.
+fn item_of(alloc: Global, response: &BundlesResponse) -> Result<JwtItem, OutOfMemory>
+    ensures { IfOk result (λ i. i ≡ items_spec.item_in response.now) }
+{
+    if response.bundles.as_slice().is_empty() {
+        return Ok(JwtItem::Empty);
+    }
+    received(jwt_bundle_set_from(alloc, response))
+}
+
+/// The bundles of a response that carries key sets.
+fn key_sets(response: Response) -> BundlesResponse
+    requires { HasKeySets response }
+    ensures { response ≡ responses.JwtBundles result }
+{
+    match response {
+        Response::JwtBundles(bundles) => bundles,
+        _ => unreachable!(),
+    }
+}
+
+/// What an item brings. None where the payload lays out none.
+fn item_in(alloc: Global, bytes: &[u8]) -> Result<Option<JwtItem>, OutOfMemory>
+    ensures { IfOk result (λ o. o ≡ item_at bytes.now) }
+{
+    let Some(response) = read_payload(alloc, ResponseKind::JwtBundles, bytes)? else {
+        return Ok(None);
+    };
+    let item = item_of(alloc, &key_sets(response))?;
+    Ok(Some(item))
+}
+
+/// The event, where the payload is empty.
+fn when_empty(payload: &[u8], event: JwtReceived) -> Option<JwtReceived>
+    ensures { result ≡ spec.when_empty payload.now event }
+{
+    if payload.is_empty() {
+        Some(event)
+    } else {
+        None
+    }
+}
+
+/// The event that a frame lays out.
+#[tactic(auto, unfolding(spf_feed::specs::Events::event_at))]
+pub(crate) fn event_in(
+    alloc: Global,
+    kind: u8,
+    payload: &[u8],
+) -> Result<Option<JwtReceived>, OutOfMemory>
+    ensures { IfOk result (λ o. o ≡ event_at item_at kind payload.now) }
+{
+    match kind {
+        CLIENT_MADE => Ok(when_empty(payload, JwtReceived::ClientMade)),
+        CLIENT_FAILED => Ok(failure_in(alloc, payload)?.map(JwtReceived::ClientFailed)),
+        CONNECTED => Ok(when_empty(payload, JwtReceived::Connected)),
+        CONNECT_STATUS => Ok(read_status(alloc, payload)?.map(JwtReceived::ConnectStatus)),
+        ITEM => Ok(item_in(alloc, payload)?.map(JwtReceived::Item)),
+        ITEM_STATUS => Ok(read_status(alloc, payload)?.map(JwtReceived::ItemStatus)),
+        STREAM_END => Ok(when_empty(payload, JwtReceived::StreamEnd)),
+        MOMENT => Ok(moment_in(payload).map(JwtReceived::Moment)),
+        CLOSE => Ok(when_empty(payload, JwtReceived::Close)),
+        _ => Ok(None),
+    }
+}

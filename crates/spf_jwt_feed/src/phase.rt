@@ -1,0 +1,21 @@
+//! What a session is asked for next.
+
+ghost use Rattle.std.specs.Prelude.{◌≡◌};
+ghost use Rattle.spf_jwt_feed.specs.Received.{received_ask};
+
+use crate::event::{JwtItem, JwtReceived};
+use spf_feed::Phase;
+
+/// What the source is asked for after an event. An item that breaks no
+/// rule, or none but that it is empty, keeps the stream, once one was accepted.
+pub fn phase_after(phase: Phase, synced: bool, event: &JwtReceived) -> Phase
+    ensures { result ≡ received_ask phase synced event.now }
+{
+    match event {
+        JwtReceived::ClientMade => Phase::Connect,
+        JwtReceived::Connected => Phase::Next,
+        JwtReceived::Moment(_) => phase,
+        JwtReceived::Item(JwtItem::Bundles(_) | JwtItem::Empty) if synced => Phase::Next,
+        _ => Phase::Client,
+    }
+}

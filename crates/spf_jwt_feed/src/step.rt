@@ -1,0 +1,130 @@
+//! The steps that a session publishes.
+
+ghost use Rattle.std.specs.Prelude.{◌≡◌, ℕ, IfOk, IsTrue, List, Option, Some, None, [], map};
+ghost use Rattle.spf_feed.specs.Records.{RecordAppends};
+ghost use Rattle.spf_jwt_feed.specs.Steps.{PlainStep, plain, MayFollow};
+
+use spf_feed::Denial;
+use spf_io::OutOfMemory;
+use spf_jwt::{JwtBundleSet, JwtResourceLimits};
+use std::alloc::Global;
+use std::marker::Model;
+use std::sync::Arc;
+
+/// One accepted bundle set with the limits that it keeps, or one denial.
+#[derive(Debug, Drop)]
+pub enum JwtStep {
+    Accept {
+        bundle_set: Arc<JwtBundleSet>,
+        limits: JwtResourceLimits,
+    },
+    Deny {
+        reason: Arc<Denial>,
+    },
+}
+
+impl JwtStep {
+    /// The same step, which shares its bundle set or reason.
+    pub fn try_clone(&self) -> Result<JwtStep, OutOfMemory>
+        ensures { IfOk result (λ s. plain s ≡ plain self.now) }
+    {
+        match self {
+            JwtStep::Accept { bundle_set, limits } => Ok(JwtStep::Accept {
+                bundle_set: Arc::try_clone(bundle_set)?,
+                limits: *limits,
+            }),
+            JwtStep::Deny { reason } => Ok(JwtStep::Deny {
+                reason: Arc::try_clone(reason)?,
+            }),
+        }
+    }
+}
+
+/// What steps are handed to. It keeps memory of its own, which may run out.
+pub trait JwtPublisher {
+    // The steps so far, where the publisher says so.
+    ghost steps: { Self → Option (List PlainStep) };
+
+    // What names where it publishes, such as a board. No call changes it.
+    ghost target: { Self → List ℕ } = { λ _. [] };
+
+    fn publish(&mut self, step: JwtStep) -> Result<(), OutOfMemory>
+        requires { MayFollow (steps self.old) (plain step) }
+        ensures appends { RecordAppends (steps self.old) (steps self.new) result (plain step) }
+        ensures target { target self.new ≡ target self.old };
+}
+
+/// A publisher that keeps the steps. It may be made to refuse one call.
+#[derive(Debug, Drop)]
+pub struct MemJwtPublisher {
+    steps: Vec<JwtStep>,
+    calls: u64,
+    refused: Option<u64>,
+}
+
+impl Model for MemJwtPublisher {
+    ghost use Rattle.spf_jwt_feed.specs.Publishing.{Published};
+
+    ghost Value = { Published };
+
+    ghost use Rattle.std.specs.Prelude.{map};
+    ghost use Rattle.spf_jwt_feed.specs.Steps.{plain};
+
+    ghost view = { λ p. record {
+      steps = map plain p.steps.items;
+      calls = p.calls;
+      refused = p.refused;
+    } };
+}
+
+impl MemJwtPublisher {
+    pub fn new(alloc: Global) -> MemJwtPublisher
+        ensures { result ≡ record { steps = []; calls = 0; refused = None } }
+    {
+        MemJwtPublisher {
+            steps: Vec::new(alloc),
+            calls: 0,
+            refused: None,
+        }
+    }
+
+    /// A publisher that is out of memory at its call of
+    /// number `at`, from 1, and keeps nothing of that step.
+    pub fn refusing(alloc: Global, at: u64) -> MemJwtPublisher
+        ensures { result ≡ record { steps = []; calls = 0; refused = Some at } }
+    {
+        MemJwtPublisher {
+            steps: Vec::new(alloc),
+            calls: 0,
+            refused: Some(at),
+        }
+    }
+
+    pub fn steps(&self) -> &[JwtStep]
+        ensures { map plain result.now ≡ self.now.steps }
+    {
+        self.steps.as_slice()
+    }
+}
+
+impl JwtPublisher for MemJwtPublisher {
+    ghost use Rattle.std.specs.Prelude.{◌≡◌, Some, IsErr};
+    ghost use Rattle.spf_jwt_feed.specs.Publishing.{is_refused, called};
+
+    ghost steps = { λ p. Some p.steps };
+
+    fn publish(&mut self, step: JwtStep) -> Result<(), OutOfMemory>
+        ensures appends { RecordAppends (Some self.old.steps) (Some self.new.steps) result
+            (plain step) }
+        ensures refused { IsTrue (is_refused self.old) → IsErr result }
+        ensures counted { (self.new.calls ≡ called self.old)
+            × (self.new.refused ≡ self.old.refused) }
+    {
+        self.calls = self.calls.saturating_add(1);
+        if self.refused == Some(self.calls) {
+            return Err(OutOfMemory);
+        }
+        self.steps.push(step)?;
+        Ok(())
+    }
+}

@@ -1,0 +1,186 @@
+//! Policies, and the answers to asks.
+
+ghost use Rattle.std.specs.Prelude.{IsTrue, IfOk};
+ghost use Rattle.spf_feed.specs.Steps.{is_accept};
+
+use spf_api::{context_from_view, read_context_view};
+use spf_feed::{Denial, Prepared, ResourceLimits, Snapshot, Step, X509SourceState};
+use spf_fixtures::octets;
+use spf_gate::{Rule, RuleError, parse_rule, write_answer};
+use spf_x509::X509Context;
+use std::alloc::Global;
+use std::sync::Arc;
+use std::test::Fail;
+
+/// What a line of a policy says.
+#[derive(Clone, Copy, Debug, PartialEq, Eq)]
+enum Said {
+    Rule,
+    Nothing,
+    Broken,
+    OutOfMemory,
+}
+
+fn parsed(alloc: Global, line: &str) -> Said {
+    match parse_rule(alloc, line) {
+        Ok(Some(_)) => Said::Rule,
+        Ok(None) => Said::Nothing,
+        Err(RuleError::Broken) => Said::Broken,
+        Err(RuleError::OutOfMemory) => Said::OutOfMemory,
+    }
+}
+
+static LINES: [(&str, Said); 18] = [
+    ("", Said::Nothing),
+    ("# allow it", Said::Nothing),
+    ("allow id spiffe://example.org/w", Said::Rule),
+    ("allow id spiffe://example.org", Said::Rule),
+    ("deny domain example.org", Said::Rule),
+    ("allow prefix spiffe://example.org/w", Said::Rule),
+    ("allow it", Said::Broken),
+    ("allow", Said::Broken),
+    ("Allow domain example.org", Said::Broken),
+    (" allow domain example.org", Said::Broken),
+    ("allow  domain example.org", Said::Broken),
+    ("allow domain  example.org", Said::Broken),
+    ("allow domain example.org ", Said::Broken),
+    ("allow domain example.org\r", Said::Broken),
+    ("allow domain spiffe://example.org", Said::Broken),
+    ("allow domain Example.org", Said::Broken),
+    ("allow prefix spiffe://example.org", Said::Broken),
+    ("---", Said::Broken),
+];
+
+#[test]
+fn policy_lines(rt: HostRuntime) -> Result<(), Fail> {
+    let alloc = rt.alloc();
+    for (line, wanted) in LINES.iter() {
+        assert_eq!(rt; parsed(alloc, line), *wanted, "{line}");
+    }
+    Ok(())
+}
+
+fn add_rule(alloc: Global, rules: &mut Vec<Rule>, line: &str) -> Result<(), Fail> {
+    match parse_rule(alloc, line)? {
+        Some(rule) => {
+            rules.push(rule)?;
+            Ok(())
+        }
+        None => Err(Fail::from("no rule")),
+    }
+}
+
+static POLICY: [&str; 3] = [
+    "allow prefix spiffe://example.org/w",
+    "deny domain example.org",
+    "allow domain other.org",
+];
+
+fn policy(alloc: Global) -> Result<Vec<Rule>, Fail> {
+    let mut rules = Vec::new(alloc);
+    for line in POLICY.iter() {
+        add_rule(alloc, &mut rules, line)?;
+    }
+    Ok(rules)
+}
+
+/// The context of the item I1F, whose payload follows the kind and the length of its frame.
+fn context(alloc: Global) -> Result<X509Context, Fail> {
+    let frame = octets(alloc, "I1F")?;
+    let Some(payload) = frame.as_slice().get(5..) else {
+        return Err(Fail::from("no item"));
+    };
+    let Some(view) = read_context_view(alloc, payload)? else {
+        return Err(Fail::from("no layout"));
+    };
+    Ok(context_from_view(alloc, &view)?)
+}
+
+fn accepted(alloc: Global) -> Result<Prepared, Fail>
+    ensures { IfOk result (λ p. IsTrue (is_accept p)) }
+{
+    let step = Step::Accept {
+        context: Arc::new(alloc, context(alloc)?)?,
+        limits: ResourceLimits::default(),
+        choice: Some(0),
+    };
+    Ok(Prepared::new(alloc, step)?)
+}
+
+fn denied(alloc: Global) -> Result<Prepared, Fail> {
+    let reason = Arc::new(alloc, Denial::NoIdentityIssued)?;
+    Ok(Prepared::new(alloc, Step::Deny { reason })?)
+}
+
+/// The state of a source that accepted the item I1F, and was denied after it or not.
+fn state(alloc: Global, is_denied: bool) -> Result<X509SourceState, Fail> {
+    let mut snapshot = Snapshot::opening(accepted(alloc)?);
+    if is_denied {
+        snapshot.apply(denied(alloc)?);
+    }
+    Ok(snapshot.state(false)?)
+}
+
+/// The line that answers an ask.
+fn answer(alloc: Global, ask: &str, is_denied: bool) -> Result<String, Fail> {
+    let rules = policy(alloc)?;
+    let state = state(alloc, is_denied)?;
+    let mut line = Vec::new(alloc);
+    write_answer(alloc, &mut line, rules.as_slice(), &state, ask)?;
+    match String::from_utf8(line) {
+        Ok(text) => Ok(text),
+        Err(_) => Err(Fail::from("no text")),
+    }
+}
+
+/// An ask, whether the source was denied, and the answer.
+static ASKS: [(&str, bool, &str); 10] = [
+    (
+        "spiffe://example.org/w",
+        false,
+        "admitted 0 1 spiffe://example.org/w\n",
+    ),
+    (
+        "spiffe://example.org/w/x",
+        false,
+        "admitted 0 1 spiffe://example.org/w/x\n",
+    ),
+    (
+        "spiffe://example.org/wx",
+        false,
+        "denied 0 2 spiffe://example.org/wx\n",
+    ),
+    (
+        "spiffe://example.org",
+        false,
+        "denied 0 2 spiffe://example.org\n",
+    ),
+    (
+        "spiffe://other.org/a",
+        false,
+        "admitted 0 3 spiffe://other.org/a\n",
+    ),
+    (
+        "spiffe://third.org/a",
+        false,
+        "no-bundle 0 spiffe://third.org/a\n",
+    ),
+    ("x", false, "bad-id 3\n"),
+    ("", false, "bad-id 1\n"),
+    ("spiffe://other.org/a\r", false, "bad-id 9\n"),
+    (
+        "spiffe://other.org/a",
+        true,
+        "withdrawn 1 spiffe://other.org/a\n",
+    ),
+];
+
+#[test]
+fn answers(rt: HostRuntime) -> Result<(), Fail> {
+    let alloc = rt.alloc();
+    for (ask, is_denied, wanted) in ASKS.iter() {
+        let line = answer(alloc, ask, *is_denied)?;
+        assert_eq!(rt; line.as_str(), *wanted);
+    }
+    Ok(())
+}
