@@ -5,3 +5,4 @@ pub mod Marks
 pub mod Printed
 pub mod Recorded
 pub mod Revisions
+pub mod Sent

@@ -102,6 +102,12 @@ pub record Prints (first last : Seen) (count : ℕ) (clock clock' : Moments)
   pub text : Appends held held' (take put (text_of lines))
   pub whole : (r ≡ Err errors.WriteFailed → ⊥) → take put (text_of lines) ≡ text_of lines
 
+-- lines are printed of what has been seen in the end, from some list on
+abbrev pub PrintsTo : Seen → ℕ → Moments → Moments → Option (List ℕ) → Option (List ℕ)
+    → Result (Unit {0}) LiveError → Type 0
+PrintsTo last count clock clock' held held' r =
+    (first : Seen) × Prints first last count clock clock' held held' r
+
 -- Lines that are printed so far: what is seen begins with the list of each, and an earlier revision
 -- is that of the newest.
 pub record Printed (first seen : Seen) (earlier : Option ℕ) (count : ℕ) (clock clock' : Moments)

@@ -6,9 +6,6 @@ mod ending;
 mod error;
 mod follow;
 mod host;
-mod live;
-#[cfg(test)]
-mod live_tests;
 mod on_thread;
 mod on_threads;
 mod printing;
@@ -16,6 +13,5 @@ mod printing;
 pub use ending::report;
 pub use error::LiveError;
 pub use host::{HostConnector, HostLink, HostPause};
-pub use live::watch_live;
 pub use on_thread::{HostJob, OnThread, start_on_thread};
 pub use on_threads::watch_on_threads;

@@ -10,7 +10,7 @@ use crate::ending::report;
 use crate::error::{LiveError, error_of};
 use crate::host::{HostConnector, HostPause};
 use crate::on_thread::{HostJob, OnThread, start_on_thread};
-use crate::printing::print_lines;
+use crate::follow::print_source;
 use spf_feed::{HintPicker, SvidPicker};
 use spf_io::Sink;
 use spf_job::StepWords;
@@ -74,24 +74,12 @@ where
     ensures cause { IfErr result (FollowFails (Unit {0})
         (Rose (K.failures out.old) (K.failures out.new))) }
 {
-    let mut pass = pass;
-    let mut updates = match source.updated(&mut pass, places) {
-        Ok(updates) => updates,
-        Err(e) => {
-            let _record = handle.close_and_join().into_record(&mut pass);
-            return Err(error_of(e));
-        }
-    };
-    let printed = print_lines(&rt, alloc, &mut updates, clock, out, lines);
-    let mut pass = updates.into_pass();
+    let (mut pass, printed) = print_source(&rt, alloc, source, pass, clock, places, out, lines);
     let record = handle.close_and_join().into_record(&mut pass);
-    match printed {
-        Ok(()) => {}
-        Err(e) => return Err(e),
-    }
-    match record {
-        Ok(_) => Ok(()),
-        Err(_) => Err(LiveError::OutOfMemory),
+    match (printed, record) {
+        (Err(e), _) => Err(e),
+        (Ok(()), Ok(_)) => Ok(()),
+        (Ok(()), Err(_)) => Err(LiveError::OutOfMemory),
     }
 }
 
