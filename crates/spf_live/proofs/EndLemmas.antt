@@ -46,21 +46,34 @@ does_none members picks valid supervisor place output said clock clock' held hel
     Does members picks valid supervisor place output o clock clock' held held'
     (Err errors.BadWords)) is (refl, same)
 
+-- where a run ends before its source is followed
+pub does_early : {K : Type 0} (members : Option (List Member)) (picks : K → List Svid → Option ℕ)
+    (valid : Result (Unit {0}) EndpointError) (supervisor place output : Type 0)
+    (said : Option LiveSetting) (setting : LiveSetting) (clock clock' : Moments)
+    (held held' : Option (List ℕ)) (e : LiveError) → Some setting ≡ said → held' ≡ held
+    → FailsBy picks setting valid supervisor place output e
+    → Does members picks valid supervisor place output said clock clock' held held' (Err e)
+does_early members picks valid supervisor place output said setting clock clock' held held' e is same fails =
+    does_by members picks valid supervisor place output said setting clock clock' held held' (Err e)
+    is (runs_none members picks setting clock clock' held held' e same) fails
+
 bad_words : {K : Type 0} (picks : K → List Svid → Option ℕ)
     (valid : Result (Unit {0}) EndpointError) (supervisor place output : Type 0)
-    (setting : LiveSetting) (e : LiveError) → FailsBy picks setting valid supervisor place output e
-    → Err {T = Unit {0}} e ≡ Err errors.BadWords → ⊥
-bad_words picks valid supervisor place output setting errors.BadWords fails same = fails
-bad_words picks valid supervisor place output setting errors.OutOfMemory fails same = cc
-bad_words picks valid supervisor place output setting errors.WriteFailed fails same = cc
-bad_words picks valid supervisor place output setting errors.Rejected fails same = cc
-bad_words picks valid supervisor place output setting errors.Unsupported fails same = cc
-bad_words picks valid supervisor place output setting errors.TimedOut fails same = cc
-bad_words picks valid supervisor place output setting errors.NoSupervisor fails same = cc
-bad_words picks valid supervisor place output setting errors.NoPlace fails same = cc
+    (setting : LiveSetting) (e : LiveError) (r : Result (Unit {0}) LiveError)
+    → FailsBy picks setting valid supervisor place output e → r ≡ Err e
+    → r ≡ Err errors.BadWords → ⊥
+bad_words picks valid supervisor place output setting errors.BadWords r fails is same = fails
+bad_words picks valid supervisor place output setting errors.OutOfMemory r fails is same = cc
+bad_words picks valid supervisor place output setting errors.WriteFailed r fails is same = cc
+bad_words picks valid supervisor place output setting errors.Rejected r fails is same = cc
+bad_words picks valid supervisor place output setting errors.Unsupported r fails is same = cc
+bad_words picks valid supervisor place output setting errors.TimedOut r fails is same = cc
+bad_words picks valid supervisor place output setting errors.NoSupervisor r fails is same = cc
+bad_words picks valid supervisor place output setting errors.NoPlace r fails is same = cc
 
-unlike_bad : Ok {E = LiveError} tt ≡ Err errors.BadWords → ⊥
-unlike_bad same = cc
+unlike_bad : (r : Result (Unit {0}) LiveError) (done : Unit {0}) → r ≡ Ok done
+    → r ≡ Err errors.BadWords → ⊥
+unlike_bad r done is same = cc
 
 some_setting : (setting : LiveSetting) → Some setting ≡ None → ⊥
 some_setting setting same = cc
@@ -75,9 +88,9 @@ pub refused_words : {K : Type 0} (members : Option (List Member))
 refused_words members picks valid supervisor place output None clock clock' held held' r does =
     ((λ _. refl), (λ _. does.0))
 refused_words members picks valid supervisor place output (Some setting) clock clock' held held' (Ok done) does =
-    ((λ same. absurd (unlike_bad same)), (λ none. absurd (some_setting setting none)))
+    ((λ same. absurd (unlike_bad (Ok done) done refl same)), (λ none. absurd (some_setting setting none)))
 refused_words members picks valid supervisor place output (Some setting) clock clock' held held' (Err e) does = (
-  (λ same. absurd (bad_words picks valid supervisor place output setting e does.1 same)),
+  (λ same. absurd (bad_words picks valid supervisor place output setting e (Err e) does.1 refl same)),
   (λ none. absurd (some_setting setting none)),
 )
 

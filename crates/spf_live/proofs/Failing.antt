@@ -1,5 +1,5 @@
 -- Why runs fail, from the causes of their parts.
-use Rattle.std.proofs.Common.{◌≡◌, ◌<◌, ◌≤◌, ℕ, ◌⊎◌, inl, inr, List, Option, Result, Ok, Err, arith}
+use Rattle.std.proofs.Common.{◌≡◌, ◌<◌, ◌≤◌, ℕ, ◌⊎◌, inl, inr, List, Option, Result, Ok, Err, subst, sym, arith}
 use Rattle.std.specs.Prelude.{IfErr}
 use Rattle.spf_api.specs.declared.endpoint_error.EndpointError.{EndpointError}
 use Rattle.spf_board.specs.Passes.{Rose as Refused}
@@ -84,3 +84,35 @@ prepare_fails picks setting set valid before now supervisor place output source.
 prepare_fails picks setting set valid before now supervisor place output source.StreamEnded is f why = tt
 prepare_fails picks setting set valid before now supervisor place output (source.ResourceLimitExceeded k l a) is f why = tt
 prepare_fails picks setting set valid before now supervisor place output (source.ShutdownTimeout s t) is f why = tt
+
+-- where the cause of a place is none
+pub fails_outside : (place output : Type 0) (r : Result (Unit {0}) LiveError)
+    → IfErr r (FollowFails ⊥ output) → IfErr r (FollowFails place output)
+fails_outside place output (Ok done) why = tt
+fails_outside place output (Err e) why =
+    fails_more ⊥ place output output e (λ none. absurd none) (λ rose. rose) why
+
+-- whatever the cause of a place
+pub fails_somehow : (place output : Type 0) (r : Result (Unit {0}) LiveError) (e : LiveError)
+    → r ≡ Err e → IfErr r (FollowFails place output) → FollowFails (Unit {0}) output e
+fails_somehow place output r e is why =
+    fails_more place (Unit {0}) output output e (λ _. tt) (λ rose. rose)
+    (subst (λ (x : Result (Unit {0}) LiveError). IfErr x (FollowFails place output)) is why)
+
+pub runs_fail : {K : Type 0} (picks : K → List Svid → Option ℕ) (setting : LiveSetting)
+    (valid : Result (Unit {0}) EndpointError) (supervisor place place' output : Type 0)
+    (r : Result (Unit {0}) LiveError) → (place → place') → IfErr r (FollowFails place output)
+    → IfErr r (FailsBy picks setting valid supervisor place' output)
+runs_fail picks setting valid supervisor place place' output (Ok done) f why = tt
+runs_fail picks setting valid supervisor place place' output (Err e) f why =
+    run_fails picks setting valid supervisor place place' output e f why
+
+pub prepare_fails_by : {K : Type 0} (picks : K → List Svid → Option ℕ) (setting : LiveSetting)
+    (set : Settings K) (valid : Result (Unit {0}) EndpointError) (before now : ℕ)
+    (output : Type 0) (e : X509SourceError) (found : LiveError) → found ≡ error_of e
+    → IsSetTo picks setting set → PrepareFails picks set valid before now e
+    → FailsBy picks setting valid (Unit {0}) (Unit {0}) output found
+prepare_fails_by picks setting set valid before now output e found is set_to why =
+    subst (λ (x : LiveError). FailsBy picks setting valid (Unit {0}) (Unit {0}) output x) (sym is)
+    (prepare_fails picks setting set valid before now (Unit {0}) (Unit {0}) output e set_to
+    (λ refused. tt) why)

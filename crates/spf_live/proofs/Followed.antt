@@ -31,8 +31,8 @@ prints_until first last last' count clock clock' held held' r so grows = record 
   whole = so.whole;
 }
 
-unlike : (e : LiveError) → Ok tt ≡ Err e → ⊥
-unlike e same = cc
+unlike : (r : Result (Unit {0}) LiveError) (e : LiveError) → r ≡ Ok tt → r ≡ Err e → ⊥
+unlike r e is same = cc
 
 -- all lines are printed, and then memory runs out
 pub prints_unrecorded : (first last last' : Seen) (count : ℕ) (clock clock' : Moments)
@@ -49,5 +49,5 @@ prints_unrecorded first last last' count clock clock' held held' so grows = reco
   number = tt;
   put = so.put;
   text = so.text;
-  whole = λ _. so.whole (unlike errors.WriteFailed);
+  whole = λ _. so.whole (unlike (Ok tt) errors.WriteFailed refl);
 }

@@ -1,6 +1,7 @@
 pub mod EndLemmas
 pub mod Failing
 pub mod Followed
+pub mod Following
 pub mod Marks
 pub mod Printed
 pub mod Recorded

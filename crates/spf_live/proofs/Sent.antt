@@ -46,13 +46,13 @@ module _ (T : RattleType) (w : Ghosts T.Denot) (s : IsSend T) where
   fields_send : AllSend (fields Inside)
   fields_send = (
     search (sendable, crosses, session.the_send, board_send, recorder.the_send, picker.the_send,
-        connector.the_send, link.the_send, connector.the_field_send, link.the_field_send) depth 40,
+        connector.the_send, link.the_send) depth 40,
     (search (sendable, pace.the_field_send),
-    (search (sendable, pause.the_send, pause.the_field_send),
+    (search (sendable, pause.the_send),
     (search (sendable, words.the_send),
     (search (sendable, watch.the_send),
     (search (sendable, closer.the_send),
-    (search (sendable, bell.the_field_send, bell.the_send),
+    (search (sendable, bell.the_field_send),
     (s,
     tt)))))))
   )
