@@ -6,7 +6,7 @@ use Rattle.spf_link.specs.Connecting.{Member}
 use Rattle.spf_x509.specs.Svid.{Svid}
 use Rattle.spf_options.specs.Live.{LiveSetting}
 use Rattle.spf_live.specs.Ends.{end_status}
-use Rattle.spf_live.specs.Printing.{Moments, Prints, Seen}
+use Rattle.spf_live.specs.Printing.{Moments}
 use Rattle.spf_live.specs.Runs.{Does, FailsBy, Runs}
 use Rattle.spf_live.specs.declared.error.LiveError.{LiveError}
 use Rattle.spf_live.specs.declared.error.LiveError.TheVariants as errors

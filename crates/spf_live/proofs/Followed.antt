@@ -1,5 +1,5 @@
 -- What is seen and recorded after the lines.
-use Rattle.std.proofs.Common.{◌≡◌, sym, ap, ◌∙◌, refl, ℕ, List, [], ◌++◌, append_assoc, Option, Result, Ok, Err}
+use Rattle.std.proofs.Common.{◌≡◌, refl, ℕ, List, Option, Result, Ok, Err}
 use mathlib.Core.List.{IsPrefix}
 use Rattle.spf_live.specs.Printing.{Moments, Prints, Seen, newest_list}
 use Rattle.spf_live.specs.declared.error.LiveError.{LiveError}

@@ -1,6 +1,6 @@
 -- A source is followed, closed and joined.
-use Rattle.std.proofs.Common.{◌≡◌, sym, ◌∙◌, refl, subst, ℕ, Bool, true, List, [], Option, None, Some, Result, Ok, Err}
-use Rattle.std.specs.Prelude.{IfSome, IfOk, IfErr}
+use Rattle.std.proofs.Common.{◌≡◌, refl, subst, ℕ, true, List, Option, None, Some, Result, Ok}
+use Rattle.std.specs.Prelude.{IfSome, IfOk}
 use mathlib.Core.List.{IsPrefix}
 use Rattle.spf_history.specs.Lists.{is_ended, steps_of}
 use Rattle.spf_io.specs.declared.memory.OutOfMemory.{OutOfMemory}
@@ -58,14 +58,14 @@ pub followed : {S K : Type 0} (members : S → Option (List Member))
     → Follows (λ connector. None) picks job count clock clock' held held' (Ok tt)
 followed {S} {K} members picks job count clock clock' held held' r done seen last record' found left is is' prints grows from recorded kept settled =
     let so = subst (λ (x : Result (Unit {0}) LiveError).
-        PrintsTo seen count clock clock' held held' x) is prints in
+    PrintsTo seen count clock clock' held held' x) is prints in
     let has = subst (λ (x : Result (Recorded K) OutOfMemory).
-        IfOk x (λ y. left.recorded ≡ Some y)) is' recorded in
+    IfOk x (λ y. left.recorded ≡ Some y)) is' recorded in
     let keeps = subst (λ (x : Result (Recorded K) OutOfMemory). IfOk x (IsRecord picks)) is' kept in
     let ends = subst (λ (x : Result (Recorded K) OutOfMemory).
-        IfOk x (λ y. (y.steps ≡ steps_of last) × (is_ended last ≡ true))) is' settled in
+    IfOk x (λ y. (y.steps ≡ steps_of last) × (is_ended last ≡ true))) is' settled in
     let of = subst (λ (x : Option (Recorded K)). IfSome x (IsOf members picks job)) has
-        from.record_is in record {
+    from.record_is in record {
       first = so.0;
       last = last;
       prints = prints_until so.0 seen last count clock clock' held held' (Ok tt) so.1 grows;
@@ -83,7 +83,7 @@ pub runs_untold : {S K : Type 0} (members : S → Option (List Member))
     → Runs None picks setting None None held held' r
 runs_untold {S} {K} members picks setting set connector clock clock' held held' job followed r count is assigned same lines follows =
     let of_job = subst (λ (j : Assigned S K).
-        Follows (λ connector. None) picks j count None None held held' r) same follows in
+    Follows (λ connector. None) picks j count None None held held' r) same follows in
     runs_by (λ connector. None) picks setting set connector None None None held held' job r is
     (untold_assigned members picks set connector clock clock' job assigned)
     (subst (λ (n : ℕ). Follows (λ connector. None) picks job n None None held held' r) lines of_job)

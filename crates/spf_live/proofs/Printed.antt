@@ -1,6 +1,6 @@
 -- Lines that are printed one after another.
-use Rattle.std.proofs.Common.{◌≡◌, sym, ap, ◌∙◌, refl, subst, ℕ, ◌+◌, ◌<◌, ◌≤◌, List, [], ◌∷◌, ◌++◌, take}
-use Rattle.std.proofs.Common.{length, append_assoc, Option, None, Some, Result, Ok, Err, arith}
+use Rattle.std.proofs.Common.{◌≡◌, sym, ap, ◌∙◌, refl, subst, ℕ, ◌+◌, List, [], ◌∷◌, ◌++◌, take}
+use Rattle.std.proofs.Common.{length, append_assoc, Option, None, Some, Ok, Err, arith}
 use Rattle.std.specs.Io.KnownBytes.{Appends}
 use Rattle.std.proofs.KnownBytes.{Appends-trans, Appends-nil}
 use Rattle.std.proofs.Math.Seq.{take-append-add, take-length}
@@ -11,7 +11,7 @@ use Rattle.spf_system.specs.Clock.{IsTime}
 use Rattle.spf_feed.specs.Shown.{view_line}
 use Rattle.spf_feed.specs.Steps.{StateView}
 use Rattle.spf_x509_board.specs.States.{IsStateOf}
-use Rattle.spf_live.specs.Printing.{AreAt, AreLines, IsAbove, IsNext, Line, Moments, Printed, Prints}
+use Rattle.spf_live.specs.Printing.{AreLines, IsAbove, IsNext, Line, Moments, Printed, Prints}
 use Rattle.spf_live.specs.Printing.{PrintsLine, Seen, line_text, newest_list, newest_revision, text_of}
 use Rattle.spf_live.specs.declared.error.LiveError.{LiveError}
 use Rattle.spf_live.specs.declared.error.LiveError.TheVariants as errors

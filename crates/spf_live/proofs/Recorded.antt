@@ -1,5 +1,5 @@
 -- The record of a run.
-use Rattle.std.proofs.Common.{◌≡◌, sym, ap, ◌∙◌, refl, subst, ℕ, Bool, true, false, ◌||◌, List, [], ◌∷◌}
+use Rattle.std.proofs.Common.{◌≡◌, ap, ◌∙◌, refl, subst, ℕ, false, List, [], ◌∷◌}
 use Rattle.std.proofs.Common.{◌++◌, reverse, Option, None, Some, Result, Ok, Err}
 use Rattle.std.specs.Prelude.{ℤ, IfSome, IfOk}
 use Rattle.std.specs.Option.{option_map}
@@ -8,13 +8,12 @@ use Rattle.spf_history.specs.Lists.{steps_of}
 use Rattle.spf_link.specs.Connecting.{Member}
 use Rattle.spf_x509.specs.Svid.{Svid}
 use Rattle.spf_feed.specs.Items.{Event}
-use Rattle.spf_feed.specs.Pick.{first_with_hint}
 use Rattle.spf_feed.specs.declared.event.SessionEvent.TheVariants as events
 use Rattle.spf_feed.specs.declared.turn.SessionRules.{SessionRules}
 use Rattle.spf_feeder.specs.Coming.{AllTold}
 use Rattle.spf_feeder.specs.Kept.{rules_by}
 use Rattle.spf_feeder.specs.Orderly.{GoesOn, has_moment}
-use Rattle.spf_feeder.specs.Times.{Gives, known_moments, moments_in}
+use Rattle.spf_feeder.specs.Times.{Gives, moments_in}
 use Rattle.spiffe.specs.declared.builder.Settings.{Settings}
 use Rattle.spiffe.specs.Building.{IsAssigned}
 use Rattle.spiffe.specs.Records.{Assigned, IsOf, IsRecord, Recorded}

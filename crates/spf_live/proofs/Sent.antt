@@ -1,6 +1,6 @@
 -- The job of a live run may be sent to a thread.
 use denote.RattleType.{RattleType}
-use denote.Param.Send.{IsSend, AllSend, view_send, recorded_send, struct_send, sendable}
+use denote.Param.Send.{IsSend, AllSend, recorded_send, struct_send, sendable}
 use denote.Struct.Declared.{fields, shape}
 use denote.Struct.Tuple.{TupleAt, type_at}
 use mathlib.Core.List.{[], ◌∷◌}
@@ -45,16 +45,38 @@ module _ (T : RattleType) (w : Ghosts T.Denot) (s : IsSend T) where
 
   fields_send : AllSend (fields Inside)
   fields_send = (
-    search (sendable, crosses, session.the_send, board_send, recorder.the_send, picker.the_send,
-        connector.the_send, link.the_send) depth 40,
-    (search (sendable, pace.the_field_send),
-    (search (sendable, pause.the_send),
-    (search (sendable, words.the_send),
-    (search (sendable, watch.the_send),
-    (search (sendable, closer.the_send),
-    (search (sendable, bell.the_field_send),
-    (s,
-    tt)))))))
+    search (
+      sendable,
+      crosses,
+      session.the_send,
+      board_send,
+      recorder.the_send,
+      picker.the_send,
+      connector.the_send,
+      link.the_send,
+    ) depth 40,
+    (
+      search (sendable, pace.the_field_send),
+      (
+        search (sendable, pause.the_send),
+        (
+          search (sendable, words.the_send),
+          (
+            search (sendable, watch.the_send),
+            (
+              search (sendable, closer.the_send),
+              (
+                search (sendable, bell.the_field_send),
+                (
+                  s,
+                  tt,
+                ),
+              ),
+            ),
+          ),
+        ),
+      ),
+    ),
   )
 
   pub job_send : IsSend (X509Job.the_row HostConnector.the_row HintPicker.the_row
@@ -62,7 +84,7 @@ module _ (T : RattleType) (w : Ghosts T.Denot) (s : IsSend T) where
       links.ghosts picks.ghosts records.ghosts pauses.ghosts draws.ghosts w)
   job_send =
       let all : IsSend (denote.Struct.Declared.row Inside) =
-          recorded_send _ _ _ Inside.to_one (struct_send (shape Inside) fields_send) in
+      recorded_send _ _ _ Inside.to_one (struct_send (shape Inside) fields_send) in
       search (sendable, all)
 
 -- what captures one value may be sent as that value may

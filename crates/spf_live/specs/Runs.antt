@@ -1,13 +1,11 @@
 -- What a live run does, and why it fails.
-use Rattle.std.specs.Prelude.{◌≡◌, ℕ, ◌*◌, ◌≤◌, Bool, true, false, List, [], reverse, Option, None}
-use Rattle.std.specs.Prelude.{Some, IfSome, Result, Ok, Err, IfOk, IfErr}
+use Rattle.std.specs.Prelude.{◌≡◌, ℕ, ◌*◌, List, [], reverse, Option, None}
+use Rattle.std.specs.Prelude.{Some, IfSome, Result, Err, IfOk, IfErr}
 use Rattle.std.specs.Duration.{as_nanos}
 use Rattle.std.specs.Option.{option_map}
 use Rattle.spf_api.specs.declared.endpoint_error.EndpointError.{EndpointError}
 use Rattle.spf_api.specs.declared.error.WorkloadApiError.{WorkloadApiError}
-use Rattle.spf_board.specs.Passes.{Rose as Refused}
 use Rattle.spf_history.specs.Lists.{steps_of}
-use Rattle.spf_io.specs.Outside.{Rose}
 use Rattle.spf_link.specs.Connecting.{Member}
 use Rattle.spf_x509.specs.Svid.{Svid}
 use Rattle.spf_feed.specs.Pick.{first_with_hint}

@@ -1,5 +1,4 @@
-use Rattle.std.proofs.Common.{ℕ, List, Option, Some, arith}
-use Rattle.spf_live.proofs.Failing.{fails_more, rose_since}
+use Rattle.std.proofs.Common.{Some, arith}
 use Rattle.spf_live.proofs.Marks.{marked_read, sees_on, sees_same}
 use Rattle.spf_live.proofs.Printed.{printed_all, printed_failed, printed_more}
 use Rattle.spf_live.proofs.printing.print_changes.Goals as goal

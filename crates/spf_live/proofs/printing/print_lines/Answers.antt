@@ -1,4 +1,4 @@
-use Rattle.std.proofs.Common.{None, Some}
+use Rattle.std.proofs.Common.{None}
 use Rattle.spf_live.proofs.Marks.{marked_read, sees_on}
 use Rattle.spf_live.proofs.Printed.{printed_failed, printed_more, printed_none}
 use Rattle.spf_live.proofs.printing.print_lines.Goals as goal
