@@ -1,0 +1,118 @@
+-- Why runs fail, from the causes of their parts.
+use Rattle.std.proofs.Common.{◌≡◌, ◌≤◌, ℕ, inl, inr, List, Option, Result, Ok, Err, subst, sym, arith}
+use Rattle.std.specs.Prelude.{IfErr}
+use Rattle.spf_api.specs.declared.endpoint_error.EndpointError.{EndpointError}
+use Rattle.spf_board.specs.Passes.{Rose as Refused}
+use Rattle.spf_io.specs.Outside.{Rose}
+use Rattle.spf_x509.specs.Svid.{Svid}
+use Rattle.spf_feed.specs.declared.state.X509SourceError.{X509SourceError}
+use Rattle.spf_feed.specs.declared.state.X509SourceError.TheVariants as source
+use Rattle.spiffe.specs.declared.builder.Settings.{Settings}
+use Rattle.spiffe.specs.Building.{PrepareFails}
+use Rattle.spiffe.specs.Reads.{HasPlaceCause}
+use Rattle.spf_options.specs.Live.{LiveSetting}
+use Rattle.spf_live.specs.Ends.{error_of}
+use Rattle.spf_live.specs.Runs.{FailsBy, FollowFails, IsSetTo}
+use Rattle.spf_live.specs.declared.error.LiveError.{LiveError}
+use Rattle.spf_live.specs.declared.error.LiveError.TheVariants as errors
+
+pub refused_since : (a b c : ℕ) → a ≤ b → Refused b c → Refused a c
+refused_since a b c l (inl rose) = inl (omega (arith, l, rose))
+refused_since a b c l (inr last) = inr last
+
+pub rose_since : (a b c : ℕ) → a ≤ b → Rose b c → Rose a c
+rose_since a b c l (inl rose) = inl (omega (arith, l, rose))
+rose_since a b c l (inr last) = inr last
+
+-- weaker causes
+pub fails_more : (place place' output output' : Type 0) (e : LiveError) → (place → place')
+    → (output → output') → FollowFails place output e → FollowFails place' output' e
+fails_more place place' output output' errors.OutOfMemory f g why = tt
+fails_more place place' output output' errors.WriteFailed f g why = g why
+fails_more place place' output output' errors.NoPlace f g why = f why
+fails_more place place' output output' errors.BadWords f g why = absurd why
+fails_more place place' output output' errors.Rejected f g why = absurd why
+fails_more place place' output output' errors.Unsupported f g why = absurd why
+fails_more place place' output output' errors.TimedOut f g why = absurd why
+fails_more place place' output output' errors.NoSupervisor f g why = absurd why
+
+-- no place, or no memory, for the updates
+pub updated_fails : (before now : ℕ) (output : Type 0) (e : X509SourceError)
+    → HasPlaceCause {T = Unit {0}} before now (Err e)
+    → (before ≤ now) × FollowFails (Refused before now) output (error_of e)
+updated_fails before now output source.NoPlace why = why
+updated_fails before now output source.OutOfMemory why = (why, tt)
+updated_fails before now output (source.Source e) why = absurd why
+updated_fails before now output (source.UnsupportedRpc e) why = absurd why
+updated_fails before now output source.NoSuitableSvid why = absurd why
+updated_fails before now output (source.Withdrawn d) why = absurd why
+updated_fails before now output source.Closed why = absurd why
+updated_fails before now output source.InitialSyncTimeout why = absurd why
+updated_fails before now output source.StreamEnded why = absurd why
+updated_fails before now output (source.ResourceLimitExceeded k l a) why = absurd why
+updated_fails before now output (source.ShutdownTimeout s e) why = absurd why
+updated_fails before now output source.NoSupervisor why = absurd why
+
+pub run_fails : {K : Type 0} (picks : K → List Svid → Option ℕ) (setting : LiveSetting)
+    (valid : Result (Unit {0}) EndpointError) (supervisor place place' output : Type 0)
+    (e : LiveError) → (place → place') → FollowFails place output e
+    → FailsBy picks setting valid supervisor place' output e
+run_fails picks setting valid supervisor place place' output errors.OutOfMemory f why = tt
+run_fails picks setting valid supervisor place place' output errors.WriteFailed f why = why
+run_fails picks setting valid supervisor place place' output errors.NoPlace f why = f why
+run_fails picks setting valid supervisor place place' output errors.BadWords f why = absurd why
+run_fails picks setting valid supervisor place place' output errors.Rejected f why = absurd why
+run_fails picks setting valid supervisor place place' output errors.Unsupported f why = absurd why
+run_fails picks setting valid supervisor place place' output errors.TimedOut f why = absurd why
+run_fails picks setting valid supervisor place place' output errors.NoSupervisor f why = absurd why
+
+-- why a preparation fails, whatever a supervisor and a place come from
+pub prepare_fails : {K : Type 0} (picks : K → List Svid → Option ℕ) (setting : LiveSetting)
+    (set : Settings K) (valid : Result (Unit {0}) EndpointError) (before now : ℕ)
+    (supervisor place output : Type 0) (e : X509SourceError) → IsSetTo picks setting set
+    → (Refused before now → place) → PrepareFails picks set valid before now e
+    → FailsBy picks setting valid supervisor place output (error_of e)
+prepare_fails picks setting set valid before now supervisor place output (source.Source e) is f why = (set, is, e, why)
+prepare_fails picks setting set valid before now supervisor place output (source.UnsupportedRpc e) is f why = (set, is, e, why)
+prepare_fails picks setting set valid before now supervisor place output source.InitialSyncTimeout is f why = (set, is, why)
+prepare_fails picks setting set valid before now supervisor place output source.NoPlace is f why = f why
+prepare_fails picks setting set valid before now supervisor place output source.OutOfMemory is f why = tt
+prepare_fails picks setting set valid before now supervisor place output source.NoSupervisor is f why = absurd why
+prepare_fails picks setting set valid before now supervisor place output source.NoSuitableSvid is f why = tt
+prepare_fails picks setting set valid before now supervisor place output (source.Withdrawn d) is f why = tt
+prepare_fails picks setting set valid before now supervisor place output source.Closed is f why = tt
+prepare_fails picks setting set valid before now supervisor place output source.StreamEnded is f why = tt
+prepare_fails picks setting set valid before now supervisor place output (source.ResourceLimitExceeded k l a) is f why = tt
+prepare_fails picks setting set valid before now supervisor place output (source.ShutdownTimeout s t) is f why = tt
+
+-- where the cause of a place is none
+pub fails_outside : (place output : Type 0) (r : Result (Unit {0}) LiveError)
+    → IfErr r (FollowFails ⊥ output) → IfErr r (FollowFails place output)
+fails_outside place output (Ok done) why = tt
+fails_outside place output (Err e) why =
+    fails_more ⊥ place output output e (λ none. absurd none) (λ rose. rose) why
+
+-- whatever the cause of a place
+pub fails_somehow : (place output : Type 0) (r : Result (Unit {0}) LiveError) (e : LiveError)
+    → r ≡ Err e → IfErr r (FollowFails place output) → FollowFails (Unit {0}) output e
+fails_somehow place output r e is why =
+    fails_more place (Unit {0}) output output e (λ _. tt) (λ rose. rose)
+    (subst (λ (x : Result (Unit {0}) LiveError). IfErr x (FollowFails place output)) is why)
+
+pub runs_fail : {K : Type 0} (picks : K → List Svid → Option ℕ) (setting : LiveSetting)
+    (valid : Result (Unit {0}) EndpointError) (supervisor place place' output : Type 0)
+    (r : Result (Unit {0}) LiveError) → (place → place') → IfErr r (FollowFails place output)
+    → IfErr r (FailsBy picks setting valid supervisor place' output)
+runs_fail picks setting valid supervisor place place' output (Ok done) f why = tt
+runs_fail picks setting valid supervisor place place' output (Err e) f why =
+    run_fails picks setting valid supervisor place place' output e f why
+
+pub prepare_fails_by : {K : Type 0} (picks : K → List Svid → Option ℕ) (setting : LiveSetting)
+    (set : Settings K) (valid : Result (Unit {0}) EndpointError) (before now : ℕ)
+    (output : Type 0) (e : X509SourceError) (found : LiveError) → found ≡ error_of e
+    → IsSetTo picks setting set → PrepareFails picks set valid before now e
+    → FailsBy picks setting valid (Unit {0}) (Unit {0}) output found
+prepare_fails_by picks setting set valid before now output e found is set_to why =
+    subst (λ (x : LiveError). FailsBy picks setting valid (Unit {0}) (Unit {0}) output x) (sym is)
+    (prepare_fails picks setting set valid before now (Unit {0}) (Unit {0}) output e set_to
+    (λ refused. tt) why)

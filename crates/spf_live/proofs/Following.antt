@@ -1,0 +1,89 @@
+-- A source is followed, closed and joined.
+use Rattle.std.proofs.Common.{◌≡◌, refl, subst, ℕ, true, List, Option, None, Some, Result, Ok}
+use Rattle.std.specs.Prelude.{IfSome, IfOk}
+use mathlib.Core.List.{IsPrefix}
+use Rattle.spf_history.specs.Lists.{is_ended, steps_of}
+use Rattle.spf_io.specs.declared.memory.OutOfMemory.{OutOfMemory}
+use Rattle.spf_link.specs.Connecting.{Member}
+use Rattle.spf_x509.specs.Svid.{Svid}
+use Rattle.spiffe.specs.declared.builder.Settings.{Settings}
+use Rattle.spiffe.specs.Building.{IsAssigned}
+use Rattle.spiffe.specs.Records.{Assigned, IsLeftBy, IsOf, IsRecord, Left, Recorded}
+use Rattle.spf_options.specs.Live.{LiveSetting}
+use Rattle.spf_live.specs.Printing.{Moments, PrintsTo, Seen}
+use Rattle.spf_live.specs.Runs.{Follows, IsSetTo, Runs}
+use Rattle.spf_live.specs.declared.error.LiveError.{LiveError}
+use Rattle.spf_live.proofs.Followed.{prints_until}
+use Rattle.spf_live.proofs.Recorded.{runs_by}
+
+-- of a connector of which nothing is known
+untold_of : {S K : Type 0} (members : S → Option (List Member)) (picks : K → List Svid → Option ℕ)
+    (job : Assigned S K) (r : Recorded K) → IsOf members picks job r
+    → IsOf (λ connector. None) picks job r
+untold_of members picks job r of = record {
+  goes_on = of.goes_on;
+  settings = of.settings;
+  picker = of.picker;
+  bounds = of.bounds;
+  told = tt;
+  cell = of.cell;
+}
+
+untold_assigned : {S K : Type 0} (members : S → Option (List Member))
+    (picks : K → List Svid → Option ℕ) (set : Settings K) (connector : S)
+    (clock clock' : Moments) (job : Assigned S K)
+    → IsAssigned members picks set connector clock clock' job
+    → IsAssigned (λ connector. None) picks set connector None None job
+untold_assigned members picks set connector clock clock' job is = record {
+  limits = is.limits;
+  ready = is.ready;
+  deadline = is.deadline;
+  picker = is.picker;
+  bounds = is.bounds;
+  members_are = refl;
+  synced = is.synced;
+  clock_is = tt;
+}
+
+-- all lines are printed, and there is a record
+pub followed : {S K : Type 0} (members : S → Option (List Member))
+    (picks : K → List Svid → Option ℕ) (job : Assigned S K) (count : ℕ)
+    (clock clock' : Moments) (held held' : Option (List ℕ)) (r : Result (Unit {0}) LiveError)
+    (done : Unit {0}) (seen last : Seen) (record' : Result (Recorded K) OutOfMemory)
+    (found : Recorded K) (left : Left K) → r ≡ Ok done → record' ≡ Ok found
+    → PrintsTo seen count clock clock' held held' r → IsPrefix seen last
+    → IsLeftBy members picks job left → IfOk record' (λ x. left.recorded ≡ Some x)
+    → IfOk record' (IsRecord picks)
+    → IfOk record' (λ x. (x.steps ≡ steps_of last) × (is_ended last ≡ true))
+    → Follows (λ connector. None) picks job count clock clock' held held' (Ok tt)
+followed {S} {K} members picks job count clock clock' held held' r done seen last record' found left is is' prints grows from recorded kept settled =
+    let so = subst (λ (x : Result (Unit {0}) LiveError).
+    PrintsTo seen count clock clock' held held' x) is prints in
+    let has = subst (λ (x : Result (Recorded K) OutOfMemory).
+    IfOk x (λ y. left.recorded ≡ Some y)) is' recorded in
+    let keeps = subst (λ (x : Result (Recorded K) OutOfMemory). IfOk x (IsRecord picks)) is' kept in
+    let ends = subst (λ (x : Result (Recorded K) OutOfMemory).
+    IfOk x (λ y. (y.steps ≡ steps_of last) × (is_ended last ≡ true))) is' settled in
+    let of = subst (λ (x : Option (Recorded K)). IfSome x (IsOf members picks job)) has
+    from.record_is in record {
+      first = so.0;
+      last = last;
+      prints = prints_until so.0 seen last count clock clock' held held' (Ok tt) so.1 grows;
+      recorded = (found, keeps, untold_of members picks job found of, ends.0);
+    }
+
+-- a source that was built by these words was followed by the handle of its job
+pub runs_untold : {S K : Type 0} (members : S → Option (List Member))
+    (picks : K → List Svid → Option ℕ) (setting : LiveSetting) (set : Settings K) (connector : S)
+    (clock clock' : Moments) (held held' : Option (List ℕ)) (job followed : Assigned S K)
+    (r : Result (Unit {0}) LiveError) (count : ℕ) → IsSetTo picks setting set
+    → IsAssigned members picks set connector clock clock' job → followed ≡ job
+    → count ≡ setting.lines
+    → Follows (λ connector. None) picks followed count None None held held' r
+    → Runs None picks setting None None held held' r
+runs_untold {S} {K} members picks setting set connector clock clock' held held' job followed r count is assigned same lines follows =
+    let of_job = subst (λ (j : Assigned S K).
+    Follows (λ connector. None) picks j count None None held held' r) same follows in
+    runs_by (λ connector. None) picks setting set connector None None None held held' job r is
+    (untold_assigned members picks set connector clock clock' job assigned)
+    (subst (λ (n : ℕ). Follows (λ connector. None) picks job n None None held held' r) lines of_job)

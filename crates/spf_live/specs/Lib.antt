@@ -1,0 +1,3 @@
+pub mod Ends
+pub mod Printing
+pub mod Runs

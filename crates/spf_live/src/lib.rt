@@ -1,0 +1,17 @@
+//! Prints what a live source of X.509 identities holds, line by line, until there are enough lines.
+#![tactic(auto)]
+
+mod builder;
+mod ending;
+mod error;
+mod follow;
+mod host;
+mod on_thread;
+mod on_threads;
+mod printing;
+
+pub use ending::report;
+pub use error::LiveError;
+pub use host::{HostConnector, HostLink, HostPause};
+pub use on_thread::{HostJob, OnThread, start_on_thread};
+pub use on_threads::watch_on_threads;

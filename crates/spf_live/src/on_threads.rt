@@ -1,0 +1,143 @@
+//! A live run over real threads.
+
+ghost use Rattle.std.specs.Prelude.{◌≡◌, ◌↔◌, ◌≤◌, IfErr, None, Ok, map, string_bytes};
+ghost use Rattle.spf_io.specs.Outside.{Rose};
+ghost use Rattle.spf_options.specs.Live.{live_setting};
+ghost use Rattle.spf_live.specs.Runs.{Does, Ended, FollowFails, Follows};
+
+use crate::builder::builder_of;
+use crate::ending::report;
+use crate::error::{LiveError, error_of};
+use crate::follow::print_source;
+use crate::host::{HostConnector, HostPause};
+use crate::on_thread::{HostJob, OnThread, start_on_thread};
+use spf_feed::{HintPicker, SvidPicker};
+use spf_io::Sink;
+use spf_job::StepWords;
+use spf_options::live_options;
+use spf_system::{Clock, StdClock};
+use spf_x509_board::{BoardPlaces, Pass};
+use spiffe::{SupervisorHandle, X509Source};
+use std::alloc::Global;
+use std::sync::Wait;
+use std::thread::Threads;
+use std::time;
+
+/// Prints what a live source of the endpoint in the environment holds, as the words ask for, and
+/// returns the exit status. Where not all lines were printed, a line on `faults` says why.
+pub fn watch_on_threads<R, K, E>(
+    host: HostRuntime,
+    rt: R,
+    words: &[String],
+    out: &mut K,
+    faults: &mut E,
+) -> u8
+where
+    R: Threads + Wait + time::Clock + Copy + Drop + Send + 'static,
+    K: Sink,
+    E: Sink,
+    // Status 1 comes exactly where the words are not those of a live run.
+    ensures words { (result ≡ 1) ↔ (live_setting (map string_bytes words.now) ≡ None) }
+    // As `watch_live` over the endpoint, the clock and the threads of the process: no clause says
+    // when a thread is not to be had.
+    ensures ended { Ended None (⟦<HintPicker as SvidPicker>⟧.picks) (Ok tt) (Unit {0}) (Unit {0})
+        (Rose (K.failures out.old) (K.failures out.new))
+        (live_setting (map string_bytes words.now)) None None
+        (K.held out.old) (K.held out.new) (E.held faults.old) (E.held faults.new)
+        (E.failures faults.old) (E.failures faults.new) result }
+{
+    let end = live_on_threads(host, rt, words, out);
+    report(faults, end)
+}
+
+/// Prints that many lines of what the source holds. However that ends, it closes the source and
+/// waits for its supervisor.
+fn follow_on_thread<R, K>(
+    rt: R,
+    alloc: Global,
+    source: X509Source,
+    pass: Pass,
+    handle: SupervisorHandle<HostJob<R>, OnThread<R>>,
+    clock: &mut StdClock<HostRuntime>,
+    places: &mut BoardPlaces,
+    out: &mut K,
+    lines: u64,
+) -> Result<(), LiveError>
+where
+    R: Threads + Wait + time::Clock + Copy + Drop + Send + 'static,
+    K: Sink,
+    requires pass { pass.book ≡ source.board }
+    requires job { handle.job.board ≡ source.board }
+    requires lines { 1 ≤ lines }
+    ensures follows { Follows (λ _. None) (⟦<HintPicker as SvidPicker>⟧.picks) handle.job lines
+        None None (K.held out.old) (K.held out.new) result }
+    ensures cause { IfErr result (FollowFails (Unit {0})
+        (Rose (K.failures out.old) (K.failures out.new))) }
+{
+    let (mut pass, printed) = print_source(&rt, alloc, source, pass, clock, places, out, lines);
+    let record = handle.close_and_join().into_record(&mut pass);
+    match (printed, record) {
+        (Err(e), _) => Err(e),
+        (Ok(()), Ok(_)) => Ok(()),
+        (Ok(()), Err(_)) => Err(LiveError::OutOfMemory),
+    }
+}
+
+fn live_on_threads<R, K>(
+    host: HostRuntime,
+    rt: R,
+    words: &[String],
+    out: &mut K,
+) -> Result<(), LiveError>
+where
+    R: Threads + Wait + time::Clock + Copy + Drop + Send + 'static,
+    K: Sink,
+    ensures does { Does None (⟦<HintPicker as SvidPicker>⟧.picks) (Ok tt) (Unit {0}) (Unit {0})
+        (Rose (K.failures out.old) (K.failures out.new))
+        (live_setting (map string_bytes words.now)) None None (K.held out.old) (K.held out.new)
+        result }
+{
+    let Some(options) = live_options(words) else {
+        return Err(LiveError::BadWords);
+    };
+    let alloc = host.alloc();
+    let builder = match builder_of(alloc, HostConnector::new(host, alloc), &options) {
+        Ok(builder) => builder,
+        Err(_) => return Err(LiveError::OutOfMemory),
+    };
+    let mut clock = StdClock::new(host);
+    let random = StepWords::new(seed_of(clock.now()));
+    let mut places = BoardPlaces::new();
+    match builder.prepare(
+        rt,
+        alloc,
+        &mut clock,
+        HostPause::new(host),
+        random,
+        &mut places,
+    ) {
+        Ok((source, pass, job, pending)) => match start_on_thread(rt, job) {
+            Ok(handle) => follow_on_thread(
+                rt,
+                alloc,
+                source,
+                pass,
+                pending.started(handle),
+                &mut clock,
+                &mut places,
+                out,
+                options.lines,
+            ),
+            Err(_) => Err(LiveError::NoSupervisor),
+        },
+        Err(e) => Err(error_of(e)),
+    }
+}
+
+/// The seed of the random words: the clock's moment, or 0.
+fn seed_of(moment: Option<i64>) -> u64 {
+    match moment {
+        Some(moment) if moment >= 0 => moment as u64,
+        _ => 0,
+    }
+}

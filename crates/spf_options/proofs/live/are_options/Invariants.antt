@@ -1,0 +1,13 @@
+use Rattle.std.proofs.Common.{◌≡◌, length, map}
+use Rattle.std.specs.Prelude.{string_bytes}
+use Rattle.spf_options.specs.Live.{is_live_option}
+use Rattle.spf_options.specs.Pairs.{are_pairs}
+use Rattle.spf_options.proofs.live.are_options.Given as goal
+
+abbrev pub invariant-loop-rest : goal.invariant-loop-rest
+invariant-loop-rest l =
+    are_pairs is_live_option (map string_bytes l.rest)
+    ≡ are_pairs is_live_option (map string_bytes l.words)
+
+abbrev pub decreases-loop-rest : goal.decreases-loop-rest
+decreases-loop-rest l = length l.rest

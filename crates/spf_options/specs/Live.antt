@@ -1,0 +1,57 @@
+-- The options of a live run.
+use Rattle.std.specs.Prelude.{ℕ, Bool, ◌||◌, not, List, Option, None, Some, if◌then◌else◌, codes}
+use Rattle.std.specs.Str.{bytes_eq}
+use Rattle.spf_io.specs.Option.{◌>>=◌}
+use Rattle.spf_feed.specs.declared.limits.ResourceLimits.{ResourceLimits}
+use Rattle.spf_feed.specs.Limits.{default_limits}
+use Rattle.spf_feed.specs.declared.ready.Ready.{Ready}
+use Rattle.spf_feed.specs.declared.ready.Ready.TheVariants as readiness
+use Rattle.spf_options.specs.Pairs.{are_pairs, option_in}
+use Rattle.spf_options.specs.Values.{count_in, limit_in, ready_in, seconds_in, text_in}
+
+-- the limits, the hint of the SVID to take, what the first update must hold, the seconds that the
+-- initial synchronisation may take, and how many lines to print
+pub record LiveSetting : Type 0 where
+  pub limits : ResourceLimits
+  pub hint : Option (List ℕ)
+  pub ready : Ready
+  pub timeout : Option ℕ
+  pub lines : ℕ
+
+-- the names of the options
+unfoldable pub is_live_option : List ℕ → Bool
+is_live_option name =
+    bytes_eq name (codes "--hint") || bytes_eq name (codes "--max-svids")
+    || bytes_eq name (codes "--max-bundles") || bytes_eq name (codes "--max-bundle-bytes")
+    || bytes_eq name (codes "--max-crl-bytes") || bytes_eq name (codes "--ready")
+    || bytes_eq name (codes "--timeout") || bytes_eq name (codes "--lines")
+
+-- the limits that pairs set
+unfoldable pub limits_in : List (List ℕ) → Option ResourceLimits
+limits_in words =
+    option_in limit_in default_limits.max_svids (codes "--max-svids") words >>= λ svids.
+    option_in limit_in default_limits.max_bundles (codes "--max-bundles") words >>= λ bundles.
+    option_in limit_in default_limits.max_bundle_der_bytes (codes "--max-bundle-bytes") words
+    >>= λ octets. option_in limit_in default_limits.max_crl_bytes (codes "--max-crl-bytes") words
+    >>= λ crls. Some (record {
+      max_svids = svids;
+      max_bundles = bundles;
+      max_bundle_der_bytes = octets;
+      max_crl_bytes = crls;
+    })
+
+-- the setting of a live run, whose options come each at most once
+unfoldable pub live_setting : List (List ℕ) → Option LiveSetting
+live_setting words =
+    if not (are_pairs is_live_option words) then None
+    else (limits_in words >>= λ limits.
+    option_in text_in None (codes "--hint") words >>= λ hint.
+    option_in ready_in readiness.Usable (codes "--ready") words >>= λ ready.
+    option_in seconds_in None (codes "--timeout") words >>= λ timeout.
+    option_in count_in 1 (codes "--lines") words >>= λ lines. Some (record {
+      limits = limits;
+      hint = hint;
+      ready = ready;
+      timeout = timeout;
+      lines = lines;
+    }))

@@ -1,0 +1,103 @@
+//! The options of a live run.
+
+ghost use Rattle.std.specs.Prelude.{◌≡◌, ◌≤◌, map, string_bytes};
+ghost use Rattle.std.specs.Option.{ForSome};
+ghost use Rattle.spf_options.specs.Live.{is_live_option, limits_in, live_setting};
+ghost use Rattle.spf_options.specs.Pairs.{are_pairs};
+
+use crate::value::{count_option, limit_option, ready_option, seconds_option, text_option};
+use spf_feed::{Ready, ResourceLimits};
+use std::marker::Model;
+
+/// What the words of a live run set.
+#[derive(Drop)]
+pub struct LiveOptions<'a> {
+    pub limits: ResourceLimits,
+    /// The hint of the SVID to take.
+    pub hint: Option<&'a str>,
+    /// What the first update must hold.
+    pub ready: Ready,
+    /// The seconds that the initial synchronisation may take.
+    pub timeout: Option<u64>,
+    /// How many lines to print.
+    pub lines: u64,
+}
+
+impl<'a> Model for LiveOptions<'a> {
+    ghost use Rattle.std.specs.Option.{option_copied};
+    ghost use Rattle.spf_options.specs.Live.{LiveSetting};
+
+    ghost Value = { LiveSetting };
+
+    ghost view = { λ o. record {
+      limits = o.limits;
+      hint = option_copied o.hint;
+      ready = o.ready;
+      timeout = o.timeout;
+      lines = o.lines;
+    } };
+}
+
+/// Whether this is the name of an option.
+#[tactic(auto, unfolding(crate::specs::Live::is_live_option))]
+fn is_option(name: &str) -> bool
+    ensures { result ≡ is_live_option name.now }
+{
+    matches!(
+        name,
+        "--hint"
+            | "--max-svids"
+            | "--max-bundles"
+            | "--max-bundle-bytes"
+            | "--max-crl-bytes"
+            | "--ready"
+            | "--timeout"
+            | "--lines"
+    )
+}
+
+/// Whether the words are pairs of an option and its value.
+fn are_options(words: &[String]) -> bool
+    ensures { result ≡ are_pairs is_live_option (map string_bytes words.now) }
+{
+    let mut rest = words;
+    while let [name, _, after @ ..] = rest {
+        if !is_option(name.as_str()) {
+            return false;
+        }
+        rest = after;
+    }
+    rest.is_empty()
+}
+
+/// The limits that the words set.
+#[tactic(auto, unfolding(crate::specs::Live::limits_in))]
+fn limits_of(words: &[String]) -> Option<ResourceLimits>
+    ensures { result ≡ limits_in (map string_bytes words.now) }
+{
+    let default = ResourceLimits::default_limits();
+    Some(ResourceLimits::new(
+        limit_option(words, "--max-svids", default.max_svids)?,
+        limit_option(words, "--max-bundles", default.max_bundles)?,
+        limit_option(words, "--max-bundle-bytes", default.max_bundle_der_bytes)?,
+        limit_option(words, "--max-crl-bytes", default.max_crl_bytes)?,
+    ))
+}
+
+/// What the words of a live run set; `None` where they are no such words.
+#[tactic(auto, unfolding(crate::specs::Live::live_setting))]
+pub fn live_options(words: &[String]) -> Option<LiveOptions<'_>>
+    ensures setting { result ≡ live_setting (map string_bytes words.now) }
+    ensures lines { ForSome result (λ o. 1 ≤ o.lines) }
+{
+    if !are_options(words) {
+        return None;
+    }
+    Some(LiveOptions {
+        limits: limits_of(words)?,
+        hint: text_option(words, "--hint")?,
+        ready: ready_option(words, "--ready", Ready::Usable)?,
+        timeout: seconds_option(words, "--timeout")?,
+        lines: count_option(words, "--lines", 1)?,
+    })
+}
