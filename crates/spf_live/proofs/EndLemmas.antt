@@ -1,5 +1,6 @@
 -- What the words of a run and its end say of each other.
-use Rattle.std.proofs.Common.{◌≡◌, sym, ap, ◌∙◌, refl, subst, ℕ, List, [], Option, None, Some, Result, Ok, Err}
+use Rattle.std.proofs.Common.{◌≡◌, sym, ap, ◌∙◌, refl, subst, ℕ, List, [], Option, None, Some}
+use Rattle.std.proofs.Common.{Result, Ok, Err}
 use Rattle.std.specs.Prelude.{◌↔◌, IfErr}
 use Rattle.spf_api.specs.declared.endpoint_error.EndpointError.{EndpointError}
 use Rattle.spf_link.specs.Connecting.{Member}
@@ -31,7 +32,8 @@ pub does_by : {K : Type 0} (members : Option (List Member)) (picks : K → List 
     → Runs members picks setting clock clock' held held' r
     → IfErr r (FailsBy picks setting valid supervisor place output)
     → Does members picks valid supervisor place output said clock clock' held held' r
-does_by members picks valid supervisor place output said setting clock clock' held held' r is runs fails =
+does_by members picks valid supervisor place output said setting clock clock' held held' r is
+    runs fails =
     subst (λ (o : Option LiveSetting).
     Does members picks valid supervisor place output o clock clock' held held' r) is (runs, fails)
 
@@ -53,7 +55,8 @@ pub does_early : {K : Type 0} (members : Option (List Member)) (picks : K → Li
     (held held' : Option (List ℕ)) (e : LiveError) → Some setting ≡ said → held' ≡ held
     → FailsBy picks setting valid supervisor place output e
     → Does members picks valid supervisor place output said clock clock' held held' (Err e)
-does_early members picks valid supervisor place output said setting clock clock' held held' e is same fails =
+does_early members picks valid supervisor place output said setting clock clock' held held' e is
+    same fails =
     does_by members picks valid supervisor place output said setting clock clock' held held' (Err e)
     is (runs_none members picks setting clock clock' held held' e same) fails
 
@@ -87,12 +90,18 @@ pub refused_words : {K : Type 0} (members : Option (List Member))
     → (r ≡ Err errors.BadWords) ↔ (said ≡ None)
 refused_words members picks valid supervisor place output None clock clock' held held' r does =
     ((λ _. refl), (λ _. does.0))
-refused_words members picks valid supervisor place output (Some setting) clock clock' held held' (Ok done) does =
-    ((λ same. absurd (unlike_bad (Ok done) done refl same)), (λ none. absurd (some_setting setting none)))
-refused_words members picks valid supervisor place output (Some setting) clock clock' held held' (Err e) does = (
-  (λ same. absurd (bad_words picks valid supervisor place output setting e (Err e) does.1 refl same)),
-  (λ none. absurd (some_setting setting none)),
-)
+refused_words members picks valid supervisor place output (Some setting) clock clock' held held'
+    (Ok done) does = (
+      (λ same. absurd (unlike_bad (Ok done) done refl same)),
+      (λ none. absurd (some_setting
+          setting none)),
+    )
+refused_words members picks valid supervisor place output (Some setting) clock clock' held held'
+    (Err e) does = (
+      (λ same. absurd (bad_words picks valid supervisor place output setting e (Err e) does.1 refl
+          same)),
+      (λ none. absurd (some_setting setting none)),
+    )
 
 by_status : (r : Result (Unit {0}) LiveError) → end_status r ≡ 1 → r ≡ Err errors.BadWords
 by_status (Ok done) one = cc

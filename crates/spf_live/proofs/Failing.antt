@@ -1,5 +1,6 @@
 -- Why runs fail, from the causes of their parts.
-use Rattle.std.proofs.Common.{◌≡◌, ◌≤◌, ℕ, inl, inr, List, Option, Result, Ok, Err, subst, sym, arith}
+use Rattle.std.proofs.Common.{◌≡◌, ◌≤◌, ℕ, inl, inr, List, Option, Result, Ok, Err, subst, sym}
+use Rattle.std.proofs.Common.{arith}
 use Rattle.std.specs.Prelude.{IfErr}
 use Rattle.spf_api.specs.declared.endpoint_error.EndpointError.{EndpointError}
 use Rattle.spf_board.specs.Passes.{Rose as Refused}
@@ -72,18 +73,29 @@ pub prepare_fails : {K : Type 0} (picks : K → List Svid → Option ℕ) (setti
     (supervisor place output : Type 0) (e : X509SourceError) → IsSetTo picks setting set
     → (Refused before now → place) → PrepareFails picks set valid before now e
     → FailsBy picks setting valid supervisor place output (error_of e)
-prepare_fails picks setting set valid before now supervisor place output (source.Source e) is f why = (set, is, e, why)
-prepare_fails picks setting set valid before now supervisor place output (source.UnsupportedRpc e) is f why = (set, is, e, why)
-prepare_fails picks setting set valid before now supervisor place output source.InitialSyncTimeout is f why = (set, is, why)
-prepare_fails picks setting set valid before now supervisor place output source.NoPlace is f why = f why
-prepare_fails picks setting set valid before now supervisor place output source.OutOfMemory is f why = tt
-prepare_fails picks setting set valid before now supervisor place output source.NoSupervisor is f why = absurd why
-prepare_fails picks setting set valid before now supervisor place output source.NoSuitableSvid is f why = tt
-prepare_fails picks setting set valid before now supervisor place output (source.Withdrawn d) is f why = tt
+prepare_fails picks setting set valid before now supervisor place output (source.Source e) is f
+    why = (set, is, e, why)
+prepare_fails picks setting set valid before now supervisor place output (source.UnsupportedRpc
+    e) is f why = (set, is, e, why)
+prepare_fails picks setting set valid before now supervisor place output
+    source.InitialSyncTimeout is f why = (set, is, why)
+prepare_fails picks setting set valid before now supervisor place output source.NoPlace is f why =
+    f why
+prepare_fails picks setting set valid before now supervisor place output source.OutOfMemory is f
+    why = tt
+prepare_fails picks setting set valid before now supervisor place output source.NoSupervisor is
+    f why = absurd why
+prepare_fails picks setting set valid before now supervisor place output source.NoSuitableSvid
+    is f why = tt
+prepare_fails picks setting set valid before now supervisor place output (source.Withdrawn d) is
+    f why = tt
 prepare_fails picks setting set valid before now supervisor place output source.Closed is f why = tt
-prepare_fails picks setting set valid before now supervisor place output source.StreamEnded is f why = tt
-prepare_fails picks setting set valid before now supervisor place output (source.ResourceLimitExceeded k l a) is f why = tt
-prepare_fails picks setting set valid before now supervisor place output (source.ShutdownTimeout s t) is f why = tt
+prepare_fails picks setting set valid before now supervisor place output source.StreamEnded is f
+    why = tt
+prepare_fails picks setting set valid before now supervisor place output
+    (source.ResourceLimitExceeded k l a) is f why = tt
+prepare_fails picks setting set valid before now supervisor place output (source.ShutdownTimeout
+    s t) is f why = tt
 
 -- where the cause of a place is none
 pub fails_outside : (place output : Type 0) (r : Result (Unit {0}) LiveError)

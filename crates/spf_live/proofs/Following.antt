@@ -56,7 +56,8 @@ pub followed : {S K : Type 0} (members : S → Option (List Member))
     → IfOk record' (IsRecord picks)
     → IfOk record' (λ x. (x.steps ≡ steps_of last) × (is_ended last ≡ true))
     → Follows (λ connector. None) picks job count clock clock' held held' (Ok tt)
-followed {S} {K} members picks job count clock clock' held held' r done seen last record' found left is is' prints grows from recorded kept settled =
+followed {S} {K} members picks job count clock clock' held held' r done seen last record' found
+    left is is' prints grows from recorded kept settled =
     let so = subst (λ (x : Result (Unit {0}) LiveError).
     PrintsTo seen count clock clock' held held' x) is prints in
     let has = subst (λ (x : Result (Recorded K) OutOfMemory).
@@ -81,7 +82,8 @@ pub runs_untold : {S K : Type 0} (members : S → Option (List Member))
     → count ≡ setting.lines
     → Follows (λ connector. None) picks followed count None None held held' r
     → Runs None picks setting None None held held' r
-runs_untold {S} {K} members picks setting set connector clock clock' held held' job followed r count is assigned same lines follows =
+runs_untold {S} {K} members picks setting set connector clock clock' held held' job followed r
+    count is assigned same lines follows =
     let of_job = subst (λ (j : Assigned S K).
     Follows (λ connector. None) picks j count None None held held' r) same follows in
     runs_by (λ connector. None) picks setting set connector None None None held held' job r is

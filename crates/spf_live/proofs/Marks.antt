@@ -1,5 +1,6 @@
 -- The marked revision, and the lines whose revision is above it.
-use Rattle.std.proofs.Common.{◌≡◌, ◌∙◌, refl, sym, subst, ℕ, ◌<◌, ◌≤◌, List, Option, Some, None, Result, Ok, Err}
+use Rattle.std.proofs.Common.{◌≡◌, ◌∙◌, refl, sym, subst, ℕ, ◌<◌, ◌≤◌, List, Option, Some, None}
+use Rattle.std.proofs.Common.{Result, Ok, Err}
 use Rattle.std.proofs.Common.{arith, inl, inr}
 use Rattle.std.specs.Prelude.{◌≢◌}
 use Rattle.std.proofs.lemmas.Bool.{cases_lt}
@@ -50,14 +51,16 @@ next_above : (old mid : PassView) (seen : Seen) (before read marked : ℕ) (cloc
     (line : Line) → IsRevision old before → IsPrefix old.seen mid.seen → IsRevision mid read
     → read ≢ before → IsPrefix mid.seen seen → IsNext seen marked None clock clock' line
     → IsNext seen marked (Some before) clock clock' line
-next_above old mid seen before read marked clock clock' line was grows is differs more next = record {
-  list_is = next.list_is;
-  state_is = next.state_is;
-  marked_is = next.marked_is;
-  above = above old mid seen before read line.state was grows is differs more
-      (subst (λ (l : Seen). IsStateOf l line.state.closed line.state) next.list_is next.state_is);
-  at = next.at;
-}
+next_above old mid seen before read marked clock clock' line was grows is differs more next =
+    record {
+      list_is = next.list_is;
+      state_is = next.state_is;
+      marked_is = next.marked_is;
+      above = above old mid seen before read line.state was grows is differs more
+          (subst (λ (l : Seen). IsStateOf l line.state.closed line.state) next.list_is
+          next.state_is);
+      at = next.at;
+    }
 
 -- a line after a change
 pub prints_above : (old mid : PassView) (seen : Seen) (before read marked : ℕ)
@@ -65,24 +68,33 @@ pub prints_above : (old mid : PassView) (seen : Seen) (before read marked : ℕ)
     → IsRevision old before → IsPrefix old.seen mid.seen → IsRevision mid read → read ≢ before
     → IsPrefix mid.seen seen → PrintsLine seen marked None clock clock' held held' r
     → PrintsLine seen marked (Some before) clock clock' held held' r
-prints_above old mid seen before read marked clock clock' held held' (Ok done) was grows is differs more p = (
-  p.0,
-  next_above old mid seen before read marked clock clock' p.0 was grows is differs more p.1,
-  p.2,
-)
-prints_above old mid seen before read marked clock clock' held held' (Err errors.WriteFailed) was grows is differs more p = (
-  p.0,
-  next_above old mid seen before read marked clock clock' p.0 was grows is differs more p.1,
-  p.2,
-  p.3,
-)
-prints_above old mid seen before read marked clock clock' held held' (Err errors.OutOfMemory) was grows is differs more p = p
-prints_above old mid seen before read marked clock clock' held held' (Err errors.BadWords) was grows is differs more p = absurd p
-prints_above old mid seen before read marked clock clock' held held' (Err errors.Rejected) was grows is differs more p = absurd p
-prints_above old mid seen before read marked clock clock' held held' (Err errors.Unsupported) was grows is differs more p = absurd p
-prints_above old mid seen before read marked clock clock' held held' (Err errors.TimedOut) was grows is differs more p = absurd p
-prints_above old mid seen before read marked clock clock' held held' (Err errors.NoSupervisor) was grows is differs more p = absurd p
-prints_above old mid seen before read marked clock clock' held held' (Err errors.NoPlace) was grows is differs more p = absurd p
+prints_above old mid seen before read marked clock clock' held held' (Ok done) was grows is
+    differs more p = (
+      p.0,
+      next_above old mid seen before read marked clock clock' p.0 was grows is differs more p.1,
+      p.2,
+    )
+prints_above old mid seen before read marked clock clock' held held' (Err errors.WriteFailed)
+    was grows is differs more p = (
+      p.0,
+      next_above old mid seen before read marked clock clock' p.0 was grows is differs more p.1,
+      p.2,
+      p.3,
+    )
+prints_above old mid seen before read marked clock clock' held held' (Err errors.OutOfMemory)
+    was grows is differs more p = p
+prints_above old mid seen before read marked clock clock' held held' (Err errors.BadWords) was
+    grows is differs more p = absurd p
+prints_above old mid seen before read marked clock clock' held held' (Err errors.Rejected) was
+    grows is differs more p = absurd p
+prints_above old mid seen before read marked clock clock' held held' (Err errors.Unsupported)
+    was grows is differs more p = absurd p
+prints_above old mid seen before read marked clock clock' held held' (Err errors.TimedOut) was
+    grows is differs more p = absurd p
+prints_above old mid seen before read marked clock clock' held held' (Err errors.NoSupervisor)
+    was grows is differs more p = absurd p
+prints_above old mid seen before read marked clock clock' held held' (Err errors.NoPlace) was
+    grows is differs more p = absurd p
 
 pub sees_on : (old mid new : PassView) → SeesNoLess old mid → SeesNoLess mid new
     → SeesNoLess old new

@@ -12,7 +12,8 @@ use Rattle.spf_feed.specs.Shown.{view_line}
 use Rattle.spf_feed.specs.Steps.{StateView}
 use Rattle.spf_x509_board.specs.States.{IsStateOf}
 use Rattle.spf_live.specs.Printing.{AreLines, IsAbove, IsNext, Line, Moments, Printed, Prints}
-use Rattle.spf_live.specs.Printing.{PrintsLine, Seen, line_text, newest_list, newest_revision, text_of}
+use Rattle.spf_live.specs.Printing.{PrintsLine, Seen, line_text, newest_list, newest_revision}
+use Rattle.spf_live.specs.Printing.{text_of}
 use Rattle.spf_live.specs.declared.error.LiveError.{LiveError}
 use Rattle.spf_live.specs.declared.error.LiveError.TheVariants as errors
 
@@ -55,7 +56,8 @@ pub printed_more : (first seen seen' : Seen) (earlier : Option ℕ) (marked coun
     → Printed first seen earlier count clock clock' held held' → IsPrefix seen seen'
     → PrintsLine seen' marked earlier clock' clock'' held' held'' (Ok done)
     → Printed first seen' (Some marked) (count + 1) clock clock'' held held''
-printed_more first seen seen' earlier marked count clock clock' clock'' held held' held'' done so grows is =
+printed_more first seen seen' earlier marked count clock clock' clock'' held held' held'' done
+    so grows is =
     record {
       lines = is.0 ∷ so.lines;
       are = follows_on first seen seen' earlier marked clock' clock'' so.lines is.0 so.are so.newest
@@ -94,7 +96,8 @@ pub printed_nothing : (first seen seen' : Seen) (earlier : Option ℕ) (count nu
     (clock clock' clock'' : Moments) (held held' held'' : Option (List ℕ)) (e : LiveError)
     → Printed first seen earlier number clock clock' held held' → IsPrefix seen seen'
     → held'' ≡ held' → Prints first seen' count clock clock'' held held'' (Err e)
-printed_nothing first seen seen' earlier count number clock clock' clock'' held held' held'' e so grows same =
+printed_nothing first seen seen' earlier count number clock clock' clock'' held held' held'' e
+    so grows same =
     record {
       lines = so.lines;
       are = so.are;
@@ -115,7 +118,8 @@ pub printed_cut : (first seen seen' : Seen) (earlier : Option ℕ) (marked count
     → Printed first seen earlier number clock clock' held held' → IsPrefix seen seen'
     → PrintsLine seen' marked earlier clock' clock'' held' held'' (Err errors.WriteFailed)
     → Prints first seen' count clock clock'' held held'' (Err errors.WriteFailed)
-printed_cut first seen seen' earlier marked count number clock clock' clock'' held held' held'' so grows is =
+printed_cut first seen seen' earlier marked count number clock clock' clock'' held held' held''
+    so grows is =
     record {
       lines = is.0 ∷ so.lines;
       are = follows_on first seen seen' earlier marked clock' clock'' so.lines is.0 so.are so.newest
@@ -138,16 +142,26 @@ pub printed_failed : (first seen seen' : Seen) (earlier : Option ℕ) (marked co
     → Printed first seen earlier number clock clock' held held' → IsPrefix seen seen'
     → PrintsLine seen' marked earlier clock' clock'' held' held'' (Err e)
     → Prints first seen' count clock clock'' held held'' (Err e)
-printed_failed first seen seen' earlier marked count number clock clock' clock'' held held' held'' errors.OutOfMemory so grows is =
-    printed_nothing first seen seen' earlier count number clock clock' clock'' held held' held'' _ so grows is
-printed_failed first seen seen' earlier marked count number clock clock' clock'' held held' held'' errors.WriteFailed so grows is =
-    printed_cut first seen seen' earlier marked count number clock clock' clock'' held held' held'' so grows is
-printed_failed first seen seen' earlier marked count number clock clock' clock'' held held' held'' errors.BadWords so grows is = absurd is
-printed_failed first seen seen' earlier marked count number clock clock' clock'' held held' held'' errors.Rejected so grows is = absurd is
-printed_failed first seen seen' earlier marked count number clock clock' clock'' held held' held'' errors.Unsupported so grows is = absurd is
-printed_failed first seen seen' earlier marked count number clock clock' clock'' held held' held'' errors.TimedOut so grows is = absurd is
-printed_failed first seen seen' earlier marked count number clock clock' clock'' held held' held'' errors.NoSupervisor so grows is = absurd is
-printed_failed first seen seen' earlier marked count number clock clock' clock'' held held' held'' errors.NoPlace so grows is = absurd is
+printed_failed first seen seen' earlier marked count number clock clock' clock'' held held'
+    held'' errors.OutOfMemory so grows is =
+    printed_nothing first seen seen' earlier count number clock clock' clock'' held held' held''
+    _ so grows is
+printed_failed first seen seen' earlier marked count number clock clock' clock'' held held'
+    held'' errors.WriteFailed so grows is =
+    printed_cut first seen seen' earlier marked count number clock clock' clock'' held held'
+    held'' so grows is
+printed_failed first seen seen' earlier marked count number clock clock' clock'' held held'
+    held'' errors.BadWords so grows is = absurd is
+printed_failed first seen seen' earlier marked count number clock clock' clock'' held held'
+    held'' errors.Rejected so grows is = absurd is
+printed_failed first seen seen' earlier marked count number clock clock' clock'' held held'
+    held'' errors.Unsupported so grows is = absurd is
+printed_failed first seen seen' earlier marked count number clock clock' clock'' held held'
+    held'' errors.TimedOut so grows is = absurd is
+printed_failed first seen seen' earlier marked count number clock clock' clock'' held held'
+    held'' errors.NoSupervisor so grows is = absurd is
+printed_failed first seen seen' earlier marked count number clock clock' clock'' held held'
+    held'' errors.NoPlace so grows is = absurd is
 
 -- ---- one line
 

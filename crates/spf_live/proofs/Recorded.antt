@@ -73,14 +73,16 @@ record_of : {S K : Type 0} (members : S → Option (List Member)) (picks : K →
     → IsAssigned members picks set connector clock between job → IsRecord picks found
     → IsOf members picks job found → found.steps ≡ steps_of last
     → IsRecordOf (members connector) picks setting clock between last found
-record_of members picks setting set connector clock between job last found is assigned kept of steps =
+record_of members picks setting set connector clock between job last found is assigned kept of
+    steps =
     record {
       kept = kept;
       limits = ap (λ (s : SessionRules). s.limits) of.settings ∙ assigned.limits ∙ is.limits;
       ready = ap (λ (s : SessionRules). s.ready) of.settings ∙ assigned.ready ∙ is.ready;
       picker = ap (option_map picks) (of.picker ∙ assigned.picker) ∙ is.picker;
       moments = gives_on clock between job.run found.run of.goes_on assigned.clock_is;
-      told = told_by picks found (members job.first) (members connector) assigned.members_are of.told;
+      told = told_by picks found (members job.first) (members connector) assigned.members_are
+          of.told;
       steps_are = steps;
     }
 
@@ -106,11 +108,13 @@ pub runs_by : {S K : Type 0} (members : S → Option (List Member)) (picks : K �
     → IsAssigned members picks set connector clock between job
     → Follows members picks job setting.lines between clock' held held' r
     → Runs (members connector) picks setting clock clock' held held' r
-runs_by members picks setting set connector clock between clock' held held' job r is assigned f = record {
-  first = f.first;
-  last = f.last;
-  between = between;
-  prints = f.prints;
-  recorded = recorded_of members picks setting set connector clock between job f.last r is assigned
-      f.recorded;
-}
+runs_by members picks setting set connector clock between clock' held held' job r is assigned f =
+    record {
+      first = f.first;
+      last = f.last;
+      between = between;
+      prints = f.prints;
+      recorded = recorded_of members picks setting set connector clock between job f.last r is
+          assigned
+          f.recorded;
+    }

@@ -1,6 +1,7 @@
 -- Revisions never fall where steps are added.
 use Rattle.std.proofs.Common.{◌≡◌, sym, ap, ◌∙◌, refl, subst, ℕ, ◌≤◌, ◌-◌, ◌^◌, Bool, true, false}
-use Rattle.std.proofs.Common.{cond, List, [], ◌∷◌, ◌++◌, append_assoc, map, reverse, length, min, arith}
+use Rattle.std.proofs.Common.{cond, List, [], ◌∷◌, ◌++◌, append_assoc, map, reverse, length, min}
+use Rattle.std.proofs.Common.{arith}
 use Rattle.std.proofs.lemmas.List.{append-nil, length-reverse}
 use mathlib.Core.List.{IsPrefix}
 use Rattle.spf_history.specs.declared.entry.Entry.{Entry}

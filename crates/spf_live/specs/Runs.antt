@@ -24,8 +24,8 @@ use Rattle.spf_live.specs.declared.error.LiveError.TheVariants as errors
 
 -- ---- what a run does
 
--- Lines are printed. Where all went well there is a record of the job, whose steps are those of what
--- is seen last, and so begin with those of the list of each line.
+-- Lines are printed. Where all went well there is a record of the job, whose steps are those of
+-- what is seen last, and so begin with those of the list of each line.
 pub record Follows {S K : Type 0} (members : S → Option (List Member))
     (picks : K → List Svid → Option ℕ) (job : Assigned S K) (count : ℕ) (clock clock' : Moments)
     (held held' : Option (List ℕ)) (r : Result (Unit {0}) LiveError) : Type 0 where
@@ -35,8 +35,8 @@ pub record Follows {S K : Type 0} (members : S → Option (List Member))
   pub recorded : IfOk r (λ _. (found : Recorded K) × IsRecord picks found
       × IsOf members picks job found × (found.steps ≡ steps_of last))
 
--- A record of a run by these words, whose steps are those of what is seen last: its events are those
--- that the connector told, and its moments those that the clock gave before the lines.
+-- A record of a run by these words, whose steps are those of what is seen last: its events are
+-- those that the connector told, and its moments those that the clock gave before the lines.
 pub record IsRecordOf {K : Type 0} (members : Option (List Member))
     (picks : K → List Svid → Option ℕ) (setting : LiveSetting) (clock between : Moments)
     (last : Seen) (r : Recorded K) : Type 0 where

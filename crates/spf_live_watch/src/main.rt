@@ -34,13 +34,7 @@ fn main(rt: HostRuntime) -> ExitCode {
         Ok(_) => {}
         Err(e) => return ExitCode::from(refuse(rt.alloc(), &mut faults, &e)),
     }
-    ExitCode::from(watch_on_threads(
-        rt,
-        rt,
-        arguments.as_slice(),
-        &mut out,
-        &mut faults,
-    ))
+    ExitCode::from(watch_on_threads(rt, rt, arguments.as_slice(), &mut out, &mut faults))
 }
 
 /// Puts the help, and returns the exit status.
