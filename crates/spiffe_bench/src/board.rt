@@ -2,7 +2,7 @@
 
 ghost use Rattle.std.specs.Prelude.{◌≡◌, ◌≢◌, Some, [], IfOk};
 ghost use Rattle.spf_history.specs.Lists.{steps_of};
-ghost use Rattle.spf_feed.specs.Steps.{MayFollow};
+ghost use Rattle.spf_feed.specs.Steps.{MayFollow, plain};
 
 use crate::item::first_context;
 use spf_close::{Bell, closed_cell};
@@ -17,7 +17,7 @@ use std::sync::{Arc, Wait};
 
 /// A step that accepts the context, with its first SVID.
 pub(crate) fn accepting(context: Arc<X509Context>) -> Result<Step, OutOfMemory>
-    ensures { IfOk result (λ step. MayFollow (Some []) step) }
+    ensures { IfOk result (λ step. MayFollow (Some []) (plain step)) }
 {
     let limits = ResourceLimits::default_limits();
     if validate_limits(&context, limits).is_err() {
