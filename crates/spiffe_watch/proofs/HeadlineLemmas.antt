@@ -1,7 +1,8 @@
 -- From what following a session says to the headline.
 use Rattle.std.proofs.Common.{◌≡◌, ap, ◌∙◌, refl, ℕ, Bool, true, false, List, [], ◌∷◌, ◌++◌, length}
 use Rattle.std.proofs.Common.{take, Option, None, Some, is_some, Result, Ok, Err, inl, inr, arith}
-use Rattle.std.proofs.Common.{subst, take_all}
+use Rattle.std.proofs.Common.{subst, sym, take_all}
+use Rattle.std.proofs.KnownBytes.{Appends-nil}
 use Rattle.std.specs.Prelude.{if◌then◌else◌, IfSome, IsOk}
 use Rattle.std.specs.Borrow.{Bor}
 use Rattle.std.specs.Option.{option_map}
@@ -11,7 +12,8 @@ use Rattle.spf_feed.specs.declared.turn.Terminal.{Terminal}
 use Rattle.spf_feed.specs.Items.{Rules}
 use Rattle.spf_feed.specs.Run.{stream, outputs, end_for}
 use Rattle.spiffe_watch.specs.Setting.{Setting}
-use Rattle.spf_program.specs.Streams.{Streams}
+use Rattle.spf_program.specs.Reports.{IsReported}
+use Rattle.spf_program.specs.Streams.{Side, Streams}
 use Rattle.spf_view.proofs.FollowLemmas.{followed_early}
 use Rattle.spf_feed.specs.declared.follow_error.FollowError.{FollowError}
 use Rattle.spf_feed.specs.declared.follow_error.FollowError.TheVariants as errors
@@ -20,7 +22,22 @@ use Rattle.spiffe_watch.specs.declared.arguments.Command.{Command}
 use Rattle.spiffe_watch.specs.declared.arguments.Command.TheVariants as commands
 use Rattle.spiffe_watch.specs.Headline.{Session, rules_for, x509_session, jwt_session, ports}
 use Rattle.spiffe_watch.specs.Headline.{FollowedBy, lines_of, PrintsSession, FollowsSession, Does}
-use Rattle.spiffe_watch.specs.Headline.{Headline, ended_by}
+use Rattle.spiffe_watch.specs.Headline.{Ended, Headline, ended_by}
+
+-- a run that went well is not reported
+pub unreported : (command : Option Command) (before after : Streams)
+    (r : Result (Unit {0}) ExitReason) (u : Unit {0}) → r ≡ Ok u → after.errors ≡ before.errors
+    → Does command before after r → Ended command before after 0
+unreported command before after r u is same does = record {
+  end = Ok u;
+  does = subst (λ (x : Result (Unit {0}) ExitReason). Does command before after x) is does;
+  status = refl;
+  line = subst (λ (s : Side). IsReported before.errors s []) (sym same) (record {
+    put = Ok tt;
+    appends = Appends-nil before.errors.bytes;
+    cause = record { later = omega arith; failed = λ err. cc };
+  });
+}
 
 -- a whole session is the end of a reading without a
 -- refusal, that is whole and has an accepted event

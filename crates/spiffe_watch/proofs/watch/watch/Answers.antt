@@ -1,9 +1,24 @@
-use Rattle.std.proofs.Common.{sym, ap, ◌∙◌}
+use Rattle.std.proofs.Common.{sym, ap, ◌∙◌, refl}
 use Rattle.spiffe_watch.specs.Headline.{status_of_end}
 use Rattle.spf_program.specs.Streams.{Streams, side}
 use Rattle.spiffe_watch.proofs.Completeness.{completes}
-use Rattle.spiffe_watch.proofs.HeadlineLemmas.{headline}
+use Rattle.spiffe_watch.proofs.HeadlineLemmas.{headline, unreported}
 use Rattle.spiffe_watch.proofs.watch.watch.Goals as goal
+
+pub returns-in-Ok-clause-does : goal.returns-in-Ok-clause-does
+returns-in-Ok-clause-does g c =
+    let errors = side (g.E.Sink.held c.args.errors.now) (g.E.Sink.failures c.args.errors.now) in
+    let before : Streams = record {
+      input = side (g.S.Source.left c.args.source.now) (g.S.Source.failures c.args.source.now);
+      output = side (g.K.Sink.held c.args.out.now) (g.K.Sink.failures c.args.out.now);
+      errors = errors;
+    } in
+    let after : Streams = record {
+      input = side (g.S.Source.left c.run.new.source) (g.S.Source.failures c.run.new.source);
+      output = side (g.K.Sink.held c.run.new.out) (g.K.Sink.failures c.run.new.out);
+      errors = errors;
+    } in
+    unreported _ before after c.run.result _ c.in-Ok.is refl (c.run.ensures.does errors errors)
 
 pub returns-in-Ok-clause-headline : goal.returns-in-Ok-clause-headline
 returns-in-Ok-clause-headline g c = λ zero.
