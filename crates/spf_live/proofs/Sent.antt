@@ -5,7 +5,7 @@ use denote.Struct.Declared.{fields, shape}
 use denote.Struct.Tuple.{TupleAt, type_at}
 use mathlib.Core.List.{[], ◌∷◌}
 use mir.Syntax.{Sym}
-use Rattle.core.specs.declared.sync.Wait.{Ghosts}
+use Rattle.std.specs.declared.sync.Wait.{Ghosts}
 use Rattle.std.proofs.Crossing.{crosses}
 use Rattle.spf_feed.specs.contracts.picker.HintPicker as HintPicker
 use Rattle.spf_feed.specs.contracts.picker.HintPickerSvidPicker.TheImpl as picks
