@@ -5,12 +5,14 @@ ghost use Rattle.spf_board.specs.Passes.{Rose};
 ghost use Rattle.spf_board.specs.declared.places.PlaceFault.TheVariants as fault;
 
 use std::marker::Model;
+use thiserror::Error;
 
 /// Why there is no pass.
-#[derive(Clone, Copy, Debug, PartialEq, Eq)]
+#[derive(Clone, Copy, Debug, PartialEq, Eq, Error)]
 pub enum PlaceFault {
-    /// The board has no place for another reader.
+    #[error("the board has no place for another reader")]
     Refused,
+    #[error("out of memory")]
     OutOfMemory,
 }
 

@@ -11,6 +11,7 @@ use Rattle.std.proofs.lemmas.List.Sums.{prefix_len-le-length}
 use Rattle.std.proofs.lemmas.List.Splits.{slice_split_none, slice_split_first}
 use Rattle.std.proofs.lemmas.List.{take_all, drop_all, take-append-le, drop-append-le}
 use Rattle.std.proofs.lemmas.Bool.{false_from_ne_true, eqb-true}
+use Rattle.spf_io.proofs.Splits.{split_shape}
 use Rattle.memchr.specs.Find.{IsFirstByte, is_byte}
 use Rattle.spf_gate.specs.Lines.{is_feed, lines_of, without_empty_end}
 use Rattle.spf_gate.specs.Reading.{HasNoFeed, IsFirstFeed}
@@ -51,16 +52,6 @@ position_out xs ys none =
     (at_least (eqb (position_or_len is_feed xs) (length xs)) _ _ (length xs) (omega arith)
     (omega (arith, none)))
 
--- a split has a first part
-split_shape : (xs : List ℕ)
-    → (s : List ℕ) × (ss : List (List ℕ)) × (slice_split is_feed xs ≡ s ∷ ss)
-split_shape [] = ([], [], refl)
-split_shape (x ∷ xs) =
-    let p = split_shape xs in
-    elim (is_feed x) as (λ b. (s : List ℕ) × (ss : List (List ℕ))
-    × (cond b ([] ∷ slice_split is_feed xs) (onto_first x (slice_split is_feed xs)) ≡ s ∷ ss))
-    [ true ↦ ([], slice_split is_feed xs, refl) | false ↦ (x ∷ p.0, p.1, ap (onto_first x) p.2) ]
-
 one_piece : (xs : List ℕ) → xs ≢ [] → without_empty_end (xs ∷ []) ≡ xs ∷ []
 one_piece [] some = absurd (some refl)
 one_piece (x ∷ xs) some = refl
@@ -75,7 +66,7 @@ first_line xs some =
     ⊎ (position_or_len is_feed xs ≡ length xs) = grind arith in
     elim cases [
       | inl lt ↦
-          let p = split_shape (after_first is_feed xs) in
+          let p = split_shape is_feed (after_first is_feed xs) in
           rw (slice_split_first is_feed xs 0 lt, p.2) refl
       | inr whole ↦
           let none = slice_split_none is_feed xs

@@ -10,6 +10,7 @@ use Rattle.std.proofs.lemmas.List.Sums.{split_at_first, passes_at_first, prefix_
 use Rattle.std.proofs.lemmas.List.{drop_all}
 use Rattle.std.proofs.lemmas.Bool.{eqb-true}
 use Rattle.spf_io.specs.Rule.{◌>>=◌}
+use Rattle.spf_io.proofs.Splits.{split_shape}
 use Rattle.spf_id.specs.declared.error.SpiffeIdError.{SpiffeIdError}
 use Rattle.spf_id.specs.declared.error.SpiffeIdError.TheVariants.{MissingTrustDomain, EmptySegment}
 use Rattle.spf_id.specs.declared.error.SpiffeIdError.TheVariants.{TrailingSlash}
@@ -17,16 +18,6 @@ use Rattle.spf_id.specs.Id.{Id}
 use Rattle.spf_id.specs.Rule.{is_slash, domain_rule, segment_rule, segments_rule, segments_of}
 use Rattle.spf_id.specs.Rule.{path_of, parts_rule}
 use Rattle.spf_id.proofs.FirstIndex.{front_whole, split_whole}
-
--- a split has a first part
-split_shape : (xs : List ℕ)
-    → (s : List ℕ) × (ss : List (List ℕ)) × (slice_split is_slash xs ≡ s ∷ ss)
-split_shape [] = ([], [], refl)
-split_shape (x ∷ xs) =
-    let p = split_shape xs in
-    elim (is_slash x) as (λ b. (s : List ℕ) × (ss : List (List ℕ))
-    × (cond b ([] ∷ slice_split is_slash xs) (onto_first x (slice_split is_slash xs)) ≡ s ∷ ss))
-    [ true ↦ ([], slice_split is_slash xs, refl) | false ↦ (x ∷ p.0, p.1, ap (onto_first x) p.2) ]
 
 -- the last segment
 pub segments_last : (xs : List ℕ) → position_or_len is_slash xs ≡ length xs
@@ -40,7 +31,7 @@ pub segments_more : (xs : List ℕ) → position_or_len is_slash xs < length xs
     ≡ (segment_rule EmptySegment (before_first is_slash xs)
     >>= λ _. segments_rule (slice_split is_slash (after_first is_slash xs)))
 segments_more xs lt =
-    let p = split_shape (after_first is_slash xs) in
+    let p = split_shape is_slash (after_first is_slash xs) in
     rw (slice_split_first is_slash xs 0 lt, p.2) refl
 
 onto_path : (x : ℕ) (parts : List (List ℕ)) (xs : List ℕ) → path_of parts ≡ 47 ∷ xs

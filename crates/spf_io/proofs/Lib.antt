@@ -4,3 +4,4 @@ pub mod Exact
 pub mod Many
 pub mod Reading
 mod Rows
+pub mod Splits

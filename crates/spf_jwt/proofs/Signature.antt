@@ -8,23 +8,11 @@ use Rattle.std.proofs.lemmas.List.Splits.{slice_split_first, slice_split_none}
 use Rattle.std.proofs.lemmas.List.Sums.{split_at_first, passes_at_first, prefix_len-le-length}
 use Rattle.std.proofs.lemmas.List.Sums.{fails_before_first}
 use Rattle.std.proofs.lemmas.Bool.{eqb-true}
+use Rattle.spf_io.proofs.Splits.{split_shape}
 use Rattle.spf_api.specs.declared.jwt_error.JwtSvidError.{JwtSvidError}
 use Rattle.spf_api.specs.declared.jwt_error.JwtSvidError.TheVariants.{Parts}
 use Rattle.spf_jwt.specs.Token.{is_full_stop, is_base64url_octet, is_signature}
 use Rattle.spf_jwt.specs.Token.{parts_rule}
-
--- a split has a first part
-split_shape : (xs : List ℕ)
-    → (s : List ℕ) × (ss : List (List ℕ)) × (slice_split is_full_stop xs ≡ s ∷ ss)
-split_shape [] = ([], [], refl)
-split_shape (x ∷ xs) =
-    let p = split_shape xs in
-    elim (is_full_stop x) as (λ b. (s : List ℕ) × (ss : List (List ℕ))
-    × (cond b ([] ∷ slice_split is_full_stop xs) (onto_first x (slice_split is_full_stop xs))
-    ≡ s ∷ ss)) [
-      | true ↦ ([], slice_split is_full_stop xs, refl)
-      | false ↦ (x ∷ p.0, p.1, ap (onto_first x) p.2)
-    ]
 
 -- one part
 pub no_stop : (xs : List ℕ) → position_or_len is_full_stop xs ≡ length xs
@@ -72,7 +60,7 @@ last_part header claims signature =
     ⊎ (position_or_len is_full_stop signature ≡ length signature) = grind arith in
     elim cases [
       | inl lt ↦
-          let p = split_shape (after_first is_full_stop signature) in
+          let p = split_shape is_full_stop (after_first is_full_stop signature) in
           rw (
             slice_split_first is_full_stop signature 0 lt,
             p.2,
