@@ -3,6 +3,7 @@
 use spf_disk::OpenError;
 use spf_folder::FolderFault;
 use spf_io::OutOfMemory;
+use spf_program::ArgumentsError;
 use spf_x509::X509SvidError;
 use std::alloc::{AllocError, AllocFailed};
 use std::io;
@@ -33,6 +34,15 @@ impl ExportError {
             ExportError::NotWritten(_) => 4,
             ExportError::Folder(_) => 21,
             ExportError::Damaged => 22,
+        }
+    }
+}
+
+impl From<ArgumentsError> for ExportError {
+    fn from(error: ArgumentsError) -> ExportError {
+        match error {
+            ArgumentsError::NotText => ExportError::BadArguments,
+            ArgumentsError::OutOfMemory => ExportError::OutOfMemory,
         }
     }
 }

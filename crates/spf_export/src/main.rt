@@ -11,10 +11,9 @@ use export::{Exported, export};
 use export_error::ExportError;
 use help::HELP;
 use spf_io::{Sink, StdSink};
+use spf_program::program_arguments;
 use std::alloc::{AllocError, Global};
 use std::process::ExitCode;
-use std::rt::Env;
-use std::{env, io};
 
 fn main(rt: HostRuntime) -> ExitCode {
     match run(&rt) {
@@ -29,7 +28,7 @@ fn main(rt: HostRuntime) -> ExitCode {
 }
 
 fn run(rt: &HostRuntime) -> Result<(), ExportError> {
-    let arguments = arguments_of(rt)?;
+    let arguments = program_arguments(rt)?;
     match arguments.as_slice() {
         [argument] if argument.as_str() == "--help" => put_text(rt, HELP),
         [folder, out] => report(rt, export(rt, folder.as_str(), out.as_str())?),
@@ -53,20 +52,4 @@ fn put_text(rt: &HostRuntime, text: &str) -> Result<(), ExportError> {
         Ok(()) => Ok(()),
         Err(_) => Err(ExportError::NotPrinted),
     }
-}
-
-/// The arguments after the name of the program.
-fn arguments_of(rt: &(impl Env + AllocGlobal)) -> Result<Vec<String>, ExportError> {
-    let all = match env::args(rt) {
-        Ok(all) => all,
-        Err(error) if error.kind() == io::ErrorKind::OutOfMemory => {
-            return Err(ExportError::OutOfMemory);
-        }
-        Err(_) => return Err(ExportError::BadArguments),
-    };
-    let mut arguments = Vec::new(rt.alloc());
-    for argument in all.skip(1) {
-        arguments.push(argument)?;
-    }
-    Ok(arguments)
 }

@@ -8,11 +8,10 @@ use help::HELP;
 use spf_folder::{FolderDisk, FolderFault};
 use spf_helper::helper_watch;
 use spf_io::{Sink, StdSink, StdSource};
+use spf_program::{ArgumentsError, program_arguments, report};
 use std::alloc::Global;
 use std::io::BufReader;
 use std::process::ExitCode;
-use std::rt::Env;
-use std::{env, io};
 
 /// How many bytes of standard input are read at once.
 const INPUT_BUFFER: usize = 1 << 16;
@@ -20,31 +19,21 @@ const INPUT_BUFFER: usize = 1 << 16;
 /// The status where the disk failed.
 const DISK_FAILED: u8 = 21;
 
-/// Why the program ends before a session is followed.
-enum StartError {
-    BadArguments,
-    OutOfMemory,
-}
-
 fn main(rt: HostRuntime) -> ExitCode {
     let mut errors = StdSink::new(rt.stderr());
     match run(&rt, &mut errors) {
         Ok(status) => ExitCode::from(status),
-        Err(StartError::BadArguments) => {
-            let _ = errors.put(b"spf_helper: bad words\n");
-            ExitCode::from(1)
-        }
-        Err(StartError::OutOfMemory) => {
-            let _ = errors.put(b"spf_helper: out of memory\n");
-            ExitCode::from(2)
+        Err(error) => {
+            report(&mut errors, "spf_helper: ", error.message(), None);
+            ExitCode::from(error.status())
         }
     }
 }
 
 /// Answers `--help`, alone, and otherwise calls `helper_watch` over
 /// the folder that is named. It returns the exit status.
-fn run<E: Sink>(rt: &HostRuntime, errors: &mut E) -> Result<u8, StartError> {
-    let arguments = arguments_of(rt)?;
+fn run<E: Sink>(rt: &HostRuntime, errors: &mut E) -> Result<u8, ArgumentsError> {
+    let arguments = program_arguments(rt)?;
     match arguments.as_slice() {
         [argument] if argument.as_str() == "--help" => Ok(put_help(rt)),
         [folder] => follow(rt, folder.as_str(), arguments.as_slice(), errors),
@@ -59,10 +48,10 @@ fn follow<E: Sink>(
     folder: &str,
     arguments: &[String],
     errors: &mut E,
-) -> Result<u8, StartError> {
+) -> Result<u8, ArgumentsError> {
     let mut out = StdSink::new(rt.stdout());
     let Ok(input) = BufReader::with_capacity(rt.alloc(), INPUT_BUFFER, rt.stdin()) else {
-        return Err(StartError::OutOfMemory);
+        return Err(ArgumentsError::OutOfMemory);
     };
     let mut source = StdSource::new(input);
     let mut disk = FolderDisk::open(rt, folder);
@@ -93,23 +82,4 @@ fn put_help(rt: &HostRuntime) -> u8 {
         Ok(()) => 0,
         Err(_) => 4,
     }
-}
-
-/// The arguments after the name of the program.
-fn arguments_of(rt: &(impl Env + AllocGlobal)) -> Result<Vec<String>, StartError> {
-    let all = match env::args(rt) {
-        Ok(all) => all,
-        Err(error) if error.kind() == io::ErrorKind::OutOfMemory => {
-            return Err(StartError::OutOfMemory);
-        }
-        Err(_) => return Err(StartError::BadArguments),
-    };
-    let mut arguments = Vec::new(rt.alloc());
-    for argument in all.skip(1) {
-        match arguments.push(argument) {
-            Ok(()) => {}
-            Err(_) => return Err(StartError::OutOfMemory),
-        }
-    }
-    Ok(arguments)
 }

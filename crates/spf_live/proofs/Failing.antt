@@ -31,7 +31,7 @@ pub fails_more : (place place' output output' : Type 0) (e : LiveError) → (pla
 fails_more place place' output output' errors.OutOfMemory f g why = tt
 fails_more place place' output output' errors.WriteFailed f g why = g why
 fails_more place place' output output' errors.NoPlace f g why = f why
-fails_more place place' output output' errors.BadWords f g why = absurd why
+fails_more place place' output output' errors.BadArguments f g why = absurd why
 fails_more place place' output output' errors.Rejected f g why = absurd why
 fails_more place place' output output' errors.Unsupported f g why = absurd why
 fails_more place place' output output' errors.TimedOut f g why = absurd why
@@ -61,7 +61,7 @@ pub run_fails : {K : Type 0} (picks : K → List Svid → Option ℕ) (setting :
 run_fails picks setting valid supervisor place place' output errors.OutOfMemory f why = tt
 run_fails picks setting valid supervisor place place' output errors.WriteFailed f why = why
 run_fails picks setting valid supervisor place place' output errors.NoPlace f why = f why
-run_fails picks setting valid supervisor place place' output errors.BadWords f why = absurd why
+run_fails picks setting valid supervisor place place' output errors.BadArguments f why = absurd why
 run_fails picks setting valid supervisor place place' output errors.Rejected f why = absurd why
 run_fails picks setting valid supervisor place place' output errors.Unsupported f why = absurd why
 run_fails picks setting valid supervisor place place' output errors.TimedOut f why = absurd why

@@ -73,7 +73,7 @@ followed {S} {K} members picks job count clock clock' held held' r done seen las
       recorded = (found, keeps, untold_of members picks job found of, ends.0);
     }
 
--- a source that was built by these words was followed by the handle of its job
+-- a source that was built by these arguments was followed by the handle of its job
 pub runs_untold : {S K : Type 0} (members : S → Option (List Member))
     (picks : K → List Svid → Option ℕ) (setting : LiveSetting) (set : Settings K) (connector : S)
     (clock clock' : Moments) (held held' : Option (List ℕ)) (job followed : Assigned S K)

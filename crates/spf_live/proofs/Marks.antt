@@ -83,7 +83,7 @@ prints_above old mid seen before read marked clock clock' held held' (Err errors
     )
 prints_above old mid seen before read marked clock clock' held held' (Err errors.OutOfMemory)
     was grows is differs more p = p
-prints_above old mid seen before read marked clock clock' held held' (Err errors.BadWords) was
+prints_above old mid seen before read marked clock clock' held held' (Err errors.BadArguments) was
     grows is differs more p = absurd p
 prints_above old mid seen before read marked clock clock' held held' (Err errors.Rejected) was
     grows is differs more p = absurd p

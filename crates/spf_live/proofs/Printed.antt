@@ -151,7 +151,7 @@ printed_failed first seen seen' earlier marked count number clock clock' clock''
     printed_cut first seen seen' earlier marked count number clock clock' clock'' held held'
     held'' so grows is
 printed_failed first seen seen' earlier marked count number clock clock' clock'' held held'
-    held'' errors.BadWords so grows is = absurd is
+    held'' errors.BadArguments so grows is = absurd is
 printed_failed first seen seen' earlier marked count number clock clock' clock'' held held'
     held'' errors.Rejected so grows is = absurd is
 printed_failed first seen seen' earlier marked count number clock clock' clock'' held held'

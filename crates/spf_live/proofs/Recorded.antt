@@ -100,7 +100,7 @@ recorded_of members picks setting set connector clock between job last (Ok done)
   record_of members picks setting set connector clock between job last f.0 is assigned f.1 f.2 f.3,
 )
 
--- a source that was built by these words is followed
+-- a source that was built by these arguments is followed
 pub runs_by : {S K : Type 0} (members : S → Option (List Member)) (picks : K → List Svid → Option ℕ)
     (setting : LiveSetting) (set : Settings K) (connector : S) (clock between clock' : Moments)
     (held held' : Option (List ℕ)) (job : Assigned S K) (r : Result (Unit {0}) LiveError)

@@ -1,11 +1,17 @@
 -- How a live run ends: its status, and its line on standard error.
-use Rattle.std.specs.Prelude.{◌≡◌, ℕ, List, ◌∷◌, ◌++◌, [], codes, Option, Result, Ok, Err}
-use Rattle.spf_io.specs.Outside.{HasCause, PutAppends}
-use Rattle.spf_io.specs.declared.memory.Failed.{Failed}
+use Rattle.std.specs.Prelude.{◌≡◌, ℕ, List, codes, None, Result, Ok, Err}
 use Rattle.spf_feed.specs.declared.state.X509SourceError.{X509SourceError}
 use Rattle.spf_feed.specs.declared.state.X509SourceError.TheVariants as source
+use Rattle.spf_program.specs.Reports.{IsReported, failure_line}
+use Rattle.spf_program.specs.Streams.{Side}
+use Rattle.spf_program.specs.declared.arguments.ArgumentsError.{ArgumentsError}
+use Rattle.spf_program.specs.declared.arguments.ArgumentsError.TheVariants as arguments
 use Rattle.spf_live.specs.declared.error.LiveError.{LiveError}
 use Rattle.spf_live.specs.declared.error.LiveError.TheVariants as errors
+
+abbrev pub of_arguments : ArgumentsError → LiveError
+of_arguments arguments.NotText = errors.BadArguments
+of_arguments arguments.OutOfMemory = errors.OutOfMemory
 
 -- the error of a source; one that nobody closed ends only out of memory
 abbrev pub error_of : X509SourceError → LiveError
@@ -17,7 +23,7 @@ error_of source.NoPlace = errors.NoPlace
 error_of _ = errors.OutOfMemory
 
 abbrev pub error_status : LiveError → ℕ
-error_status errors.BadWords = 1
+error_status errors.BadArguments = 1
 error_status errors.OutOfMemory = 2
 error_status errors.WriteFailed = 4
 error_status errors.Rejected = 7
@@ -26,28 +32,25 @@ error_status errors.TimedOut = 9
 error_status errors.NoSupervisor = 12
 error_status errors.NoPlace = 13
 
-abbrev pub error_text : LiveError → List ℕ
-error_text errors.BadWords = codes "bad words"
-error_text errors.OutOfMemory = codes "out of memory"
-error_text errors.WriteFailed = codes "write failed"
-error_text errors.Rejected = codes "request rejected"
-error_text errors.Unsupported = codes "required RPC is unsupported"
-error_text errors.TimedOut = codes "initial synchronization timed out"
-error_text errors.NoSupervisor = codes "no supervisor"
-error_text errors.NoPlace = codes "no place"
+-- what is wrong, as the line on standard error says it
+abbrev pub error_message : LiveError → List ℕ
+error_message errors.BadArguments = codes "bad words\n"
+error_message errors.OutOfMemory = codes "out of memory\n"
+error_message errors.WriteFailed = codes "write failed\n"
+error_message errors.Rejected = codes "request rejected\n"
+error_message errors.Unsupported = codes "required RPC is unsupported\n"
+error_message errors.TimedOut = codes "initial synchronization timed out\n"
+error_message errors.NoSupervisor = codes "no supervisor\n"
+error_message errors.NoPlace = codes "no place\n"
 
--- the text of an error, and a line feed
 abbrev pub error_line : LiveError → List ℕ
-error_line error = codes "spiffe_watch: " ++ (error_text error ++ 10 ∷ [])
+error_line error = failure_line (codes "spiffe_watch: ") (error_message error) None
 
 abbrev pub end_status : Result (Unit {0}) LiveError → ℕ
 end_status (Ok done) = 0
 end_status (Err error) = error_status error
 
 -- The line of an error is put, and nothing where the run ended well.
-abbrev pub Reports : Option (List ℕ) → Option (List ℕ) → ℕ → ℕ → Result (Unit {0}) LiveError
-    → Type 0
-Reports held held' failures failures' (Ok done) = (held' ≡ held) × (failures' ≡ failures)
-Reports held held' failures failures' (Err error) =
-    (put : Result (Unit {0}) Failed) × PutAppends held held' put (error_line error)
-    × HasCause failures failures' put
+abbrev pub IsEndReported : Side → Side → Result (Unit {0}) LiveError → Type 0
+IsEndReported before after (Ok done) = after ≡ before
+IsEndReported before after (Err error) = IsReported before after (error_line error)

@@ -17,7 +17,8 @@ use Rattle.spiffe.specs.declared.builder.Settings.{Settings}
 use Rattle.spiffe.specs.Building.{SyncFails}
 use Rattle.spiffe.specs.Records.{Assigned, IsOf, IsRecord, Recorded}
 use Rattle.spf_options.specs.Live.{LiveSetting}
-use Rattle.spf_live.specs.Ends.{Reports, end_status}
+use Rattle.spf_program.specs.Streams.{Side}
+use Rattle.spf_live.specs.Ends.{IsEndReported, end_status}
 use Rattle.spf_live.specs.Printing.{Moments, Prints, Seen}
 use Rattle.spf_live.specs.declared.error.LiveError.{LiveError}
 use Rattle.spf_live.specs.declared.error.LiveError.TheVariants as errors
@@ -35,7 +36,7 @@ pub record Follows {S K : Type 0} (members : S → Option (List Member))
   pub recorded : IfOk r (λ _. (found : Recorded K) × IsRecord picks found
       × IsOf members picks job found × (found.steps ≡ steps_of last))
 
--- A record of a run by these words, whose steps are those of what is seen last: its events are
+-- A record of a run by these arguments, whose steps are those of what is seen last: its events are
 -- those that the connector told, and its moments those that the clock gave before the lines.
 pub record IsRecordOf {K : Type 0} (members : Option (List Member))
     (picks : K → List Svid → Option ℕ) (setting : LiveSetting) (clock between : Moments)
@@ -62,7 +63,7 @@ pub record Runs {K : Type 0} (members : Option (List Member)) (picks : K → Lis
 
 -- ---- why a run fails
 
--- a builder is set to what the words say
+-- a builder is set to what the arguments say
 pub record IsSetTo {K : Type 0} (picks : K → List Svid → Option ℕ) (setting : LiveSetting)
     (set : Settings K) : Type 0 where
   pub limits : set.limits ≡ setting.limits
@@ -75,7 +76,7 @@ pub record IsSetTo {K : Type 0} (picks : K → List Svid → Option ℕ) (settin
 -- comes from.
 abbrev pub FailsBy : {K : Type 0} → (K → List Svid → Option ℕ) → LiveSetting
     → Result (Unit {0}) EndpointError → Type 0 → Type 0 → Type 0 → LiveError → Type 0
-FailsBy picks setting valid supervisor place output errors.BadWords = ⊥
+FailsBy picks setting valid supervisor place output errors.BadArguments = ⊥
 FailsBy picks setting valid supervisor place output errors.OutOfMemory = Unit {0}
 FailsBy picks setting valid supervisor place output errors.WriteFailed = output
 FailsBy {K} picks setting valid supervisor place output errors.Rejected =
@@ -99,12 +100,12 @@ FollowFails place output _ = ⊥
 
 -- ---- the whole
 
--- What is done by what the words say: where they are not those of a live run, nothing is printed.
+-- What is done by what the arguments say: where they are not those of a live run, nothing is printed.
 abbrev pub Does : {K : Type 0} → Option (List Member) → (K → List Svid → Option ℕ)
     → Result (Unit {0}) EndpointError → Type 0 → Type 0 → Type 0 → Option LiveSetting
     → Moments → Moments → Option (List ℕ) → Option (List ℕ) → Result (Unit {0}) LiveError → Type 0
 Does members picks valid supervisor place output None clock clock' held held' r =
-    (r ≡ Err errors.BadWords) × (held' ≡ held)
+    (r ≡ Err errors.BadArguments) × (held' ≡ held)
 Does members picks valid supervisor place output (Some setting) clock clock' held held' r =
     Runs members picks setting clock clock' held held' r
     × IfErr r (FailsBy picks setting valid supervisor place output)
@@ -113,8 +114,8 @@ Does members picks valid supervisor place output (Some setting) clock clock' hel
 pub record Ended {K : Type 0} (members : Option (List Member)) (picks : K → List Svid → Option ℕ)
     (valid : Result (Unit {0}) EndpointError) (supervisor place output : Type 0)
     (setting : Option LiveSetting) (clock clock' : Moments) (held held' : Option (List ℕ))
-    (faults faults' : Option (List ℕ)) (failures failures' : ℕ) (status : ℕ) : Type 0 where
+    (stderr stderr' : Side) (status : ℕ) : Type 0 where
   pub end : Result (Unit {0}) LiveError
   pub does : Does members picks valid supervisor place output setting clock clock' held held' end
   pub status_is : status ≡ end_status end
-  pub reported : Reports faults faults' failures failures' end
+  pub reported : IsEndReported stderr stderr' end

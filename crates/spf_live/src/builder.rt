@@ -24,7 +24,7 @@ fn picker_of(alloc: Global, hint: Option<&str>) -> Result<Option<HintPicker>, Ou
     }
 }
 
-/// A builder over the connector that is set to what the words say.
+/// A builder over the connector that is set to what the arguments say.
 pub(crate) fn builder_of<C>(
     alloc: Global,
     connector: C,

@@ -1,22 +1,23 @@
 //! The end of a live run: its exit status, and its line on standard error.
 
 ghost use Rattle.std.specs.Prelude.{◌≡◌};
-ghost use Rattle.spf_live.specs.Ends.{Reports, end_status};
+ghost use Rattle.spf_program.specs.Streams.{side};
+ghost use Rattle.spf_live.specs.Ends.{IsEndReported, end_status};
 
-use crate::error::{LiveError, line_of, status_of};
+use crate::error::{LiveError, message_of, status_of};
 use spf_io::Sink;
 
-/// Puts the line of an error to `faults`, and returns the exit status. That `faults` fails changes
-/// nothing.
-pub fn report<E: Sink>(faults: &mut E, end: Result<(), LiveError>) -> u8
+/// Writes the line of an error to `errors`, and returns the exit status. A failure of `errors`
+/// changes nothing.
+pub fn report<E: Sink>(errors: &mut E, end: Result<(), LiveError>) -> u8
     ensures status { result ≡ end_status end }
-    ensures line { Reports (E.held faults.old) (E.held faults.new) (E.failures faults.old)
-        (E.failures faults.new) end }
+    ensures line { IsEndReported (side (E.held errors.old) (E.failures errors.old))
+        (side (E.held errors.new) (E.failures errors.new)) end }
 {
     match end {
         Ok(()) => 0,
         Err(error) => {
-            let _ = faults.put(line_of(error).as_bytes());
+            spf_program::report(errors, "spiffe_watch: ", message_of(error), None);
             status_of(error)
         }
     }

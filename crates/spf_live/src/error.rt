@@ -2,26 +2,49 @@
 
 ghost use Rattle.std.specs.Prelude.{◌≡◌};
 ghost use Rattle.spf_live.specs.Ends as spec;
-ghost use Rattle.spf_live.specs.Ends.{error_line};
+ghost use Rattle.spf_live.specs.Ends.{error_message};
 
 use spf_feed::X509SourceError;
 use spf_io::OutOfMemory;
+use spf_program::ArgumentsError;
+use thiserror::Error;
 
 /// Why a live run did not end well.
-#[derive(Clone, Copy, Debug, PartialEq, Eq)]
+#[derive(Clone, Copy, Debug, PartialEq, Eq, Error)]
 pub enum LiveError {
-    /// The words are not those of a live run.
-    BadWords,
+    #[error("bad words")]
+    BadArguments,
+    #[error("out of memory")]
     OutOfMemory,
+    #[error("write failed")]
     WriteFailed,
     /// The endpoint is none, or the agent rejected the request.
+    #[error("request rejected")]
     Rejected,
-    /// The agent does not know the call.
+    #[error("required RPC is unsupported")]
     Unsupported,
-    /// The initial synchronisation took longer than its timeout.
+    #[error("initial synchronization timed out")]
     TimedOut,
+    /// No thread was to be had.
+    #[error("no supervisor")]
     NoSupervisor,
+    /// The board had no place for another reader.
+    #[error("no place")]
     NoPlace,
+}
+
+impl From<ArgumentsError> for LiveError {
+    ghost use Rattle.std.specs.Prelude.{◌≡◌};
+    ghost use Rattle.spf_live.specs.Ends.{of_arguments};
+
+    ghost from_gives = { λ e live. live ≡ of_arguments e };
+
+    fn from(error: ArgumentsError) -> LiveError {
+        match error {
+            ArgumentsError::NotText => LiveError::BadArguments,
+            ArgumentsError::OutOfMemory => LiveError::OutOfMemory,
+        }
+    }
 }
 
 impl From<OutOfMemory> for LiveError {
@@ -54,7 +77,7 @@ pub(crate) fn status_of(error: LiveError) -> u8
     ensures { result ≡ spec.error_status error }
 {
     match error {
-        LiveError::BadWords => 1,
+        LiveError::BadArguments => 1,
         LiveError::OutOfMemory => 2,
         LiveError::WriteFailed => 4,
         LiveError::Rejected => 7,
@@ -65,18 +88,18 @@ pub(crate) fn status_of(error: LiveError) -> u8
     }
 }
 
-/// The line on standard error.
-pub(crate) fn line_of(error: LiveError) -> &'static str
-    ensures { result.now ≡ error_line error }
+/// What is wrong, as the line on standard error says it.
+pub(crate) fn message_of(error: LiveError) -> &'static str
+    ensures { result.now ≡ error_message error }
 {
     match error {
-        LiveError::BadWords => "spiffe_watch: bad words\n",
-        LiveError::OutOfMemory => "spiffe_watch: out of memory\n",
-        LiveError::WriteFailed => "spiffe_watch: write failed\n",
-        LiveError::Rejected => "spiffe_watch: request rejected\n",
-        LiveError::Unsupported => "spiffe_watch: required RPC is unsupported\n",
-        LiveError::TimedOut => "spiffe_watch: initial synchronization timed out\n",
-        LiveError::NoSupervisor => "spiffe_watch: no supervisor\n",
-        LiveError::NoPlace => "spiffe_watch: no place\n",
+        LiveError::BadArguments => "bad words\n",
+        LiveError::OutOfMemory => "out of memory\n",
+        LiveError::WriteFailed => "write failed\n",
+        LiveError::Rejected => "request rejected\n",
+        LiveError::Unsupported => "required RPC is unsupported\n",
+        LiveError::TimedOut => "initial synchronization timed out\n",
+        LiveError::NoSupervisor => "no supervisor\n",
+        LiveError::NoPlace => "no place\n",
     }
 }

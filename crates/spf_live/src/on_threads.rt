@@ -3,6 +3,7 @@
 ghost use Rattle.std.specs.Prelude.{◌≡◌, ◌↔◌, ◌≤◌, IfErr, None, Ok, map, string_bytes};
 ghost use Rattle.spf_io.specs.Outside.{Rose};
 ghost use Rattle.spf_options.specs.Live.{live_setting};
+ghost use Rattle.spf_program.specs.Streams.{side};
 ghost use Rattle.spf_live.specs.Runs.{Does, Ended, FollowFails, Follows};
 
 use crate::builder::builder_of;
@@ -23,31 +24,31 @@ use std::sync::Wait;
 use std::thread::Threads;
 use std::time;
 
-/// Prints what a live source of the endpoint in the environment holds, as the words ask for, and
-/// returns the exit status. Where not all lines were printed, a line on `faults` says why.
+/// Prints what a live source of the endpoint in the environment holds, as the arguments say, and
+/// returns the exit status. Where not all lines were printed, a line on `errors` says why.
 pub fn watch_on_threads<R, K, E>(
     host: HostRuntime,
     rt: R,
-    words: &[String],
+    arguments: &[String],
     out: &mut K,
-    faults: &mut E,
+    errors: &mut E,
 ) -> u8
 where
     R: Threads + Wait + time::Clock + Copy + Drop + Send + 'static,
     K: Sink,
     E: Sink,
-    // Status 1 comes exactly where the words are not those of a live run.
-    ensures words { (result ≡ 1) ↔ (live_setting (map string_bytes words.now) ≡ None) }
+    // Status 1 comes exactly where the arguments are not those of a live run.
+    ensures arguments { (result ≡ 1) ↔ (live_setting (map string_bytes arguments.now) ≡ None) }
     // As `watch_live` over the endpoint, the clock and the threads of the process: no clause says
     // when a thread is not to be had.
     ensures ended { Ended None (⟦<HintPicker as SvidPicker>⟧.picks) (Ok tt) (Unit {0}) (Unit {0})
         (Rose (K.failures out.old) (K.failures out.new))
-        (live_setting (map string_bytes words.now)) None None
-        (K.held out.old) (K.held out.new) (E.held faults.old) (E.held faults.new)
-        (E.failures faults.old) (E.failures faults.new) result }
+        (live_setting (map string_bytes arguments.now)) None None
+        (K.held out.old) (K.held out.new) (side (E.held errors.old) (E.failures errors.old))
+        (side (E.held errors.new) (E.failures errors.new)) result }
 {
-    let end = live_on_threads(host, rt, words, out);
-    report(faults, end)
+    let end = live_on_threads(host, rt, arguments, out);
+    report(errors, end)
 }
 
 /// Prints that many lines of what the source holds. However that ends, it closes the source and
@@ -86,7 +87,7 @@ where
 fn live_on_threads<R, K>(
     host: HostRuntime,
     rt: R,
-    words: &[String],
+    arguments: &[String],
     out: &mut K,
 ) -> Result<(), LiveError>
 where
@@ -94,11 +95,11 @@ where
     K: Sink,
     ensures does { Does None (⟦<HintPicker as SvidPicker>⟧.picks) (Ok tt) (Unit {0}) (Unit {0})
         (Rose (K.failures out.old) (K.failures out.new))
-        (live_setting (map string_bytes words.now)) None None (K.held out.old) (K.held out.new)
+        (live_setting (map string_bytes arguments.now)) None None (K.held out.old) (K.held out.new)
         result }
 {
-    let Some(options) = live_options(words) else {
-        return Err(LiveError::BadWords);
+    let Some(options) = live_options(arguments) else {
+        return Err(LiveError::BadArguments);
     };
     let alloc = host.alloc();
     let builder = match builder_of(alloc, HostConnector::new(host, alloc), &options) {
@@ -134,7 +135,7 @@ where
     }
 }
 
-/// The seed of the random words: the clock's moment, or 0.
+/// The seed of the random numbers: the clock's moment, or 0.
 fn seed_of(moment: Option<i64>) -> u64 {
     match moment {
         Some(moment) if moment >= 0 => moment as u64,

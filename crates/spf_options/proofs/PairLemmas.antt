@@ -1,24 +1,24 @@
--- Words that are pairs of an option and its value, at their end.
+-- Arguments that are pairs of an option and its value, at their end.
 use Rattle.std.proofs.Common.{◌≡◌, refl, ℕ, ◌<◌, ◌++◌, List, [], ◌∷◌, length, map, arith, Option}
 use Rattle.std.proofs.Common.{None, Some, ◌==◌, Bool}
 use Rattle.spf_options.specs.Pairs.{are_pairs, values_of, at_most_one}
 
-pub values_none : {X : Type 0} (f : X → List ℕ) (option : List ℕ) (words : List X)
-    → length words < 2 → values_of option (map f words) ≡ []
+pub values_none : {X : Type 0} (f : X → List ℕ) (option : List ℕ) (arguments : List X)
+    → length arguments < 2 → values_of option (map f arguments) ≡ []
 values_none f option [] l = refl
 values_none f option (x ∷ []) l = refl
-values_none f option (x ∷ y ∷ words) l = absurd (omega (arith, l))
+values_none f option (x ∷ y ∷ arguments) l = absurd (omega (arith, l))
 
 -- the value that was found so far, as a list
 abbrev pub found_list : Option (List ℕ) → List (List ℕ)
 found_list None = []
 found_list (Some value) = value ∷ []
 
-pub pairs_end : {X : Type 0} (f : X → List ℕ) (is_name : List ℕ → Bool) (words : List X)
-    → length words < 2 → (length words == 0) ≡ are_pairs is_name (map f words)
+pub pairs_end : {X : Type 0} (f : X → List ℕ) (is_name : List ℕ → Bool) (arguments : List X)
+    → length arguments < 2 → (length arguments == 0) ≡ are_pairs is_name (map f arguments)
 pairs_end f is_name [] l = refl
 pairs_end f is_name (x ∷ []) l = refl
-pairs_end f is_name (x ∷ y ∷ words) l = absurd (omega (arith, l))
+pairs_end f is_name (x ∷ y ∷ arguments) l = absurd (omega (arith, l))
 
 -- no further value
 pub found_all : (found : Option (List ℕ)) → Some found ≡ at_most_one (found_list found ++ [])

@@ -9,36 +9,36 @@ use Rattle.spf_options.specs.Live.{is_live_option, limits_in, live_setting}
 use Rattle.spf_options.specs.Pairs.{are_pairs, option_in}
 use Rattle.spf_options.specs.Values.{count_in, limit_in, ready_in, seconds_in, text_in}
 
-pub limits_read : (words : List (List ℕ)) (a b c d : Option ℕ)
-    → Some a ≡ option_in limit_in default_limits.max_svids (codes "--max-svids") words
-    → Some b ≡ option_in limit_in default_limits.max_bundles (codes "--max-bundles") words
+pub limits_read : (arguments : List (List ℕ)) (a b c d : Option ℕ)
+    → Some a ≡ option_in limit_in default_limits.max_svids (codes "--max-svids") arguments
+    → Some b ≡ option_in limit_in default_limits.max_bundles (codes "--max-bundles") arguments
     → Some c ≡ option_in limit_in default_limits.max_bundle_der_bytes (codes "--max-bundle-bytes")
-    words
-    → Some d ≡ option_in limit_in default_limits.max_crl_bytes (codes "--max-crl-bytes") words
+    arguments
+    → Some d ≡ option_in limit_in default_limits.max_crl_bytes (codes "--max-crl-bytes") arguments
     → Some (record {
       max_svids = a;
       max_bundles = b;
       max_bundle_der_bytes = c;
       max_crl_bytes = d;
-    }) ≡ limits_in words
+    }) ≡ limits_in arguments
 unfolding limits_in
-limits_read words a b c d p q r s = rw (← p, ← q, ← r, ← s) refl
+limits_read arguments a b c d p q r s = rw (← p, ← q, ← r, ← s) refl
 
-pub setting_read : (words : List (List ℕ)) (limits : ResourceLimits) (hint : Option (List ℕ))
+pub setting_read : (arguments : List (List ℕ)) (limits : ResourceLimits) (hint : Option (List ℕ))
     (ready : Ready) (timeout : Option ℕ) (lines : ℕ)
-    → are_pairs is_live_option words ≡ true
-    → Some limits ≡ limits_in words
-    → Some hint ≡ option_in text_in None (codes "--hint") words
-    → Some ready ≡ option_in ready_in readiness.Usable (codes "--ready") words
-    → Some timeout ≡ option_in seconds_in None (codes "--timeout") words
-    → Some lines ≡ option_in count_in 1 (codes "--lines") words
+    → are_pairs is_live_option arguments ≡ true
+    → Some limits ≡ limits_in arguments
+    → Some hint ≡ option_in text_in None (codes "--hint") arguments
+    → Some ready ≡ option_in ready_in readiness.Usable (codes "--ready") arguments
+    → Some timeout ≡ option_in seconds_in None (codes "--timeout") arguments
+    → Some lines ≡ option_in count_in 1 (codes "--lines") arguments
     → Some (record {
       limits = limits;
       hint = hint;
       ready = ready;
       timeout = timeout;
       lines = lines;
-    }) ≡ live_setting words
+    }) ≡ live_setting arguments
 unfolding live_setting
-setting_read words limits hint ready timeout lines p q r s t u =
+setting_read arguments limits hint ready timeout lines p q r s t u =
     rw (p, ← q, ← r, ← s, ← t, ← u) refl

@@ -1,4 +1,3 @@
 pub mod Live
-pub mod Numbers
 pub mod Pairs
 pub mod Values

@@ -28,11 +28,12 @@ is_live_option name =
 
 -- the limits that pairs set
 unfoldable pub limits_in : List (List ℕ) → Option ResourceLimits
-limits_in words =
-    option_in limit_in default_limits.max_svids (codes "--max-svids") words >>= λ svids.
-    option_in limit_in default_limits.max_bundles (codes "--max-bundles") words >>= λ bundles.
-    option_in limit_in default_limits.max_bundle_der_bytes (codes "--max-bundle-bytes") words
-    >>= λ octets. option_in limit_in default_limits.max_crl_bytes (codes "--max-crl-bytes") words
+limits_in arguments =
+    option_in limit_in default_limits.max_svids (codes "--max-svids") arguments >>= λ svids.
+    option_in limit_in default_limits.max_bundles (codes "--max-bundles") arguments >>= λ bundles.
+    option_in limit_in default_limits.max_bundle_der_bytes (codes "--max-bundle-bytes") arguments
+    >>= λ octets.
+    option_in limit_in default_limits.max_crl_bytes (codes "--max-crl-bytes") arguments
     >>= λ crls. Some (record {
       max_svids = svids;
       max_bundles = bundles;
@@ -42,13 +43,13 @@ limits_in words =
 
 -- the setting of a live run, whose options come each at most once
 unfoldable pub live_setting : List (List ℕ) → Option LiveSetting
-live_setting words =
-    if not (are_pairs is_live_option words) then None
-    else (limits_in words >>= λ limits.
-    option_in text_in None (codes "--hint") words >>= λ hint.
-    option_in ready_in readiness.Usable (codes "--ready") words >>= λ ready.
-    option_in seconds_in None (codes "--timeout") words >>= λ timeout.
-    option_in count_in 1 (codes "--lines") words >>= λ lines. Some (record {
+live_setting arguments =
+    if not (are_pairs is_live_option arguments) then None
+    else (limits_in arguments >>= λ limits.
+    option_in text_in None (codes "--hint") arguments >>= λ hint.
+    option_in ready_in readiness.Usable (codes "--ready") arguments >>= λ ready.
+    option_in seconds_in None (codes "--timeout") arguments >>= λ timeout.
+    option_in count_in 1 (codes "--lines") arguments >>= λ lines. Some (record {
       limits = limits;
       hint = hint;
       ready = ready;

@@ -1,11 +1,11 @@
 -- What the value of an option reads as.
-use Rattle.std.specs.Prelude.{ℕ, List, Option, None, Some, if◌then◌else◌, codes, ◌==◌}
+use Rattle.std.specs.Prelude.{ℕ, ℤ, List, Option, None, Some, if◌then◌else◌, codes, ◌==◌}
 use Rattle.std.specs.Option.{option_map}
 use Rattle.std.specs.Str.{bytes_eq}
 use Rattle.spf_io.specs.Option.{◌>>=◌}
 use Rattle.spf_feed.specs.declared.ready.Ready.{Ready}
 use Rattle.spf_feed.specs.declared.ready.Ready.TheVariants as readiness
-use Rattle.spf_options.specs.Numbers.{number_in}
+use Rattle.spf_program.specs.Numbers.{moment_in, number_in}
 
 -- a limit: a number, or `none`
 unfoldable pub limit_in : List ℕ → Option (Option ℕ)
@@ -21,6 +21,10 @@ ready_in text =
 -- a text, as it stands
 abbrev pub text_in : List ℕ → Option (Option (List ℕ))
 text_in text = Some (Some text)
+
+-- a moment that may be set, in Unix seconds
+abbrev pub optional_moment_in : List ℕ → Option (Option ℤ)
+optional_moment_in text = option_map Some (moment_in text)
 
 -- a number of seconds
 abbrev pub seconds_in : List ℕ → Option (Option ℕ)

@@ -9,7 +9,7 @@ use crate::value::{count_option, limit_option, ready_option, seconds_option, tex
 use spf_feed::{Ready, ResourceLimits};
 use std::marker::Model;
 
-/// What the words of a live run set.
+/// What the arguments of a live run set.
 #[derive(Drop)]
 pub struct LiveOptions<'a> {
     pub limits: ResourceLimits,
@@ -56,11 +56,11 @@ fn is_option(name: &str) -> bool
     )
 }
 
-/// Whether the words are pairs of an option and its value.
-fn are_options(words: &[String]) -> bool
-    ensures { result ≡ are_pairs is_live_option (map string_bytes words.now) }
+/// Whether the arguments are pairs of an option and its value.
+fn are_options(arguments: &[String]) -> bool
+    ensures { result ≡ are_pairs is_live_option (map string_bytes arguments.now) }
 {
-    let mut rest = words;
+    let mut rest = arguments;
     while let [name, _, after @ ..] = rest {
         if !is_option(name.as_str()) {
             return false;
@@ -70,34 +70,38 @@ fn are_options(words: &[String]) -> bool
     rest.is_empty()
 }
 
-/// The limits that the words set.
+/// The limits that the arguments set.
 #[tactic(auto, unfolding(crate::specs::Live::limits_in))]
-fn limits_of(words: &[String]) -> Option<ResourceLimits>
-    ensures { result ≡ limits_in (map string_bytes words.now) }
+fn limits_of(arguments: &[String]) -> Option<ResourceLimits>
+    ensures { result ≡ limits_in (map string_bytes arguments.now) }
 {
     let default = ResourceLimits::default_limits();
     Some(ResourceLimits::new(
-        limit_option(words, "--max-svids", default.max_svids)?,
-        limit_option(words, "--max-bundles", default.max_bundles)?,
-        limit_option(words, "--max-bundle-bytes", default.max_bundle_der_bytes)?,
-        limit_option(words, "--max-crl-bytes", default.max_crl_bytes)?,
+        limit_option(arguments, "--max-svids", default.max_svids)?,
+        limit_option(arguments, "--max-bundles", default.max_bundles)?,
+        limit_option(
+            arguments,
+            "--max-bundle-bytes",
+            default.max_bundle_der_bytes,
+        )?,
+        limit_option(arguments, "--max-crl-bytes", default.max_crl_bytes)?,
     ))
 }
 
-/// What the words of a live run set; `None` where they are no such words.
+/// What the arguments of a live run set; `None` where they are not those of one.
 #[tactic(auto, unfolding(crate::specs::Live::live_setting))]
-pub fn live_options(words: &[String]) -> Option<LiveOptions<'_>>
-    ensures setting { result ≡ live_setting (map string_bytes words.now) }
+pub fn live_options(arguments: &[String]) -> Option<LiveOptions<'_>>
+    ensures setting { result ≡ live_setting (map string_bytes arguments.now) }
     ensures lines { ForSome result (λ o. 1 ≤ o.lines) }
 {
-    if !are_options(words) {
+    if !are_options(arguments) {
         return None;
     }
     Some(LiveOptions {
-        limits: limits_of(words)?,
-        hint: text_option(words, "--hint")?,
-        ready: ready_option(words, "--ready", Ready::Usable)?,
-        timeout: seconds_option(words, "--timeout")?,
-        lines: count_option(words, "--lines", 1)?,
+        limits: limits_of(arguments)?,
+        hint: text_option(arguments, "--hint")?,
+        ready: ready_option(arguments, "--ready", Ready::Usable)?,
+        timeout: seconds_option(arguments, "--timeout")?,
+        lines: count_option(arguments, "--lines", 1)?,
     })
 }

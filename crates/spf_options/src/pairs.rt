@@ -5,12 +5,12 @@ ghost use Rattle.std.specs.Option.{option_map, option_copied};
 ghost use Rattle.spf_options.specs.Pairs.{at_most_one, values_of};
 
 /// The value that pairs give to an option, if any; `None` where they give several.
-pub fn value_of<'a>(words: &'a [String], option: &str) -> Option<Option<&'a str>>
+pub fn value_of<'a>(arguments: &'a [String], option: &str) -> Option<Option<&'a str>>
     ensures { option_map option_copied result
-        ≡ at_most_one (values_of option.now (map string_bytes words.now)) }
+        ≡ at_most_one (values_of option.now (map string_bytes arguments.now)) }
 {
     let mut found = None;
-    let mut rest = words;
+    let mut rest = arguments;
     while let [name, value, after @ ..] = rest {
         if name.as_str() == option {
             if found.is_some() {

@@ -1,23 +1,23 @@
-//! Words of a live run, each with what they set.
+//! Arguments of a live run, each with what they set.
 
 use crate::live_options;
 use spf_feed::Ready;
 use std::alloc::Global;
 use std::test::Fail;
 
-/// The texts as words.
-fn words(alloc: Global, texts: &[&str]) -> Result<Vec<String>, Fail> {
-    let mut words = Vec::new(alloc);
+/// The texts as arguments.
+fn arguments(alloc: Global, texts: &[&str]) -> Result<Vec<String>, Fail> {
+    let mut arguments = Vec::new(alloc);
     for text in texts {
-        words.push(String::from_str(alloc, text)?)?;
+        arguments.push(String::from_str(alloc, text)?)?;
     }
-    Ok(words)
+    Ok(arguments)
 }
 
-/// How many lines the words ask for.
+/// How many lines the arguments ask for.
 fn lines_of(alloc: Global, texts: &[&str]) -> Result<Option<u64>, Fail> {
-    let words = words(alloc, texts)?;
-    match live_options(words.as_slice()) {
+    let arguments = arguments(alloc, texts)?;
+    match live_options(arguments.as_slice()) {
         Some(options) => Ok(Some(options.lines)),
         None => Ok(None),
     }
@@ -38,7 +38,7 @@ fn numbers_of_lines(rt: HostRuntime) -> Result<(), Fail> {
 
 #[test]
 fn every_option(rt: HostRuntime) -> Result<(), Fail> {
-    let words = words(
+    let arguments = arguments(
         rt.alloc(),
         &[
             "--ready",
@@ -51,7 +51,7 @@ fn every_option(rt: HostRuntime) -> Result<(), Fail> {
             "a",
         ],
     )?;
-    match live_options(words.as_slice()) {
+    match live_options(arguments.as_slice()) {
         Some(options) => {
             assert!(rt; options.ready == Ready::Any);
             assert!(rt; options.limits.max_svids == None);

@@ -3,11 +3,13 @@
 ghost use Rattle.std.specs.Prelude.{◌≡◌, ◌≤◌, None, map, string_bytes};
 ghost use Rattle.std.specs.Option.{option_map, option_copied, ForSome};
 ghost use Rattle.spf_options.specs.Pairs.{option_in};
-ghost use Rattle.spf_options.specs.Values.{count_in, limit_in, ready_in, seconds_in, text_in};
+ghost use Rattle.spf_options.specs.Values.{count_in, limit_in, optional_moment_in, ready_in};
+ghost use Rattle.spf_options.specs.Values.{seconds_in, text_in};
+ghost use Rattle.spf_program.specs.Numbers.{number_in};
 
-use crate::number::{MAX_NUMBER, number_up_to};
 use crate::pairs::value_of;
 use spf_feed::Ready;
+use spf_program::{MAX_NUMBER, moment, number_up_to};
 
 /// A limit: a number, or `none`.
 #[tactic(auto, unfolding(crate::specs::Values::limit_in))]
@@ -45,10 +47,14 @@ fn count(text: &str) -> Option<u64>
 
 /// The limit that an option sets, by default `absent`.
 #[tactic(auto, unfolding(crate::specs::Pairs::option_in))]
-pub fn limit_option(words: &[String], option: &str, absent: Option<usize>) -> Option<Option<usize>>
-    ensures { result ≡ option_in limit_in absent option.now (map string_bytes words.now) }
+pub fn limit_option(
+    arguments: &[String],
+    option: &str,
+    absent: Option<usize>,
+) -> Option<Option<usize>>
+    ensures { result ≡ option_in limit_in absent option.now (map string_bytes arguments.now) }
 {
-    match value_of(words, option)? {
+    match value_of(arguments, option)? {
         None => Some(absent),
         Some(value) => limit(value),
     }
@@ -56,11 +62,11 @@ pub fn limit_option(words: &[String], option: &str, absent: Option<usize>) -> Op
 
 /// The text that an option sets, if any.
 #[tactic(auto, unfolding(crate::specs::Pairs::option_in))]
-pub fn text_option<'a>(words: &'a [String], option: &str) -> Option<Option<&'a str>>
+pub fn text_option<'a>(arguments: &'a [String], option: &str) -> Option<Option<&'a str>>
     ensures { option_map option_copied result
-        ≡ option_in text_in None option.now (map string_bytes words.now) }
+        ≡ option_in text_in None option.now (map string_bytes arguments.now) }
 {
-    match value_of(words, option)? {
+    match value_of(arguments, option)? {
         None => Some(None),
         Some(value) => Some(Some(value)),
     }
@@ -68,21 +74,44 @@ pub fn text_option<'a>(words: &'a [String], option: &str) -> Option<Option<&'a s
 
 /// What the first update must hold, by default `absent`.
 #[tactic(auto, unfolding(crate::specs::Pairs::option_in))]
-pub fn ready_option(words: &[String], option: &str, absent: Ready) -> Option<Ready>
-    ensures { result ≡ option_in ready_in absent option.now (map string_bytes words.now) }
+pub fn ready_option(arguments: &[String], option: &str, absent: Ready) -> Option<Ready>
+    ensures { result ≡ option_in ready_in absent option.now (map string_bytes arguments.now) }
 {
-    match value_of(words, option)? {
+    match value_of(arguments, option)? {
         None => Some(absent),
         Some(value) => ready(value),
     }
 }
 
+/// The moment that an option sets, if any.
+#[tactic(auto, unfolding(crate::specs::Pairs::option_in))]
+pub fn moment_option(arguments: &[String], option: &str) -> Option<Option<i64>>
+    ensures { result
+        ≡ option_in optional_moment_in None option.now (map string_bytes arguments.now) }
+{
+    match value_of(arguments, option)? {
+        None => Some(None),
+        Some(value) => Some(Some(moment(value)?)),
+    }
+}
+
+/// The number that an option sets, by default `absent`.
+#[tactic(auto, unfolding(crate::specs::Pairs::option_in))]
+pub fn number_option(arguments: &[String], option: &str, absent: u64) -> Option<u64>
+    ensures { result ≡ option_in number_in absent option.now (map string_bytes arguments.now) }
+{
+    match value_of(arguments, option)? {
+        None => Some(absent),
+        Some(value) => number_up_to(MAX_NUMBER, value),
+    }
+}
+
 /// The number of seconds that an option sets, if any.
 #[tactic(auto, unfolding(crate::specs::Pairs::option_in))]
-pub fn seconds_option(words: &[String], option: &str) -> Option<Option<u64>>
-    ensures { result ≡ option_in seconds_in None option.now (map string_bytes words.now) }
+pub fn seconds_option(arguments: &[String], option: &str) -> Option<Option<u64>>
+    ensures { result ≡ option_in seconds_in None option.now (map string_bytes arguments.now) }
 {
-    match value_of(words, option)? {
+    match value_of(arguments, option)? {
         None => Some(None),
         Some(value) => Some(Some(number_up_to(MAX_NUMBER, value)?)),
     }
@@ -90,12 +119,12 @@ pub fn seconds_option(words: &[String], option: &str) -> Option<Option<u64>>
 
 /// The number from 1 on that an option sets, by default `absent`.
 #[tactic(auto, unfolding(crate::specs::Pairs::option_in))]
-pub fn count_option(words: &[String], option: &str, absent: u64) -> Option<u64>
+pub fn count_option(arguments: &[String], option: &str, absent: u64) -> Option<u64>
     requires { 1 ≤ absent }
-    ensures value { result ≡ option_in count_in absent option.now (map string_bytes words.now) }
+    ensures value { result ≡ option_in count_in absent option.now (map string_bytes arguments.now) }
     ensures least { ForSome result (λ n. 1 ≤ n) }
 {
-    match value_of(words, option)? {
+    match value_of(arguments, option)? {
         None => Some(absent),
         Some(value) => count(value),
     }

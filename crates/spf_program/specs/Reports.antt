@@ -6,6 +6,16 @@ use Rattle.spf_io.specs.Outside.{HasCause, PutAppends}
 use Rattle.spf_feed.specs.declared.follow_error.FollowError.{FollowError}
 use Rattle.spf_feed.specs.declared.follow_error.FollowError.TheVariants as errors
 use Rattle.spf_program.specs.Streams.{Side}
+use Rattle.spf_program.specs.declared.arguments.ArgumentsError.{ArgumentsError}
+use Rattle.spf_program.specs.declared.arguments.ArgumentsError.TheVariants as arguments
+
+abbrev pub arguments_status : ArgumentsError → ℕ
+arguments_status arguments.NotText = 1
+arguments_status arguments.OutOfMemory = 2
+
+abbrev pub arguments_message : ArgumentsError → List ℕ
+arguments_message arguments.NotText = codes "bad words\n"
+arguments_message arguments.OutOfMemory = codes "out of memory\n"
 
 abbrev pub follow_status : FollowError → ℕ
 follow_status errors.OutOfMemory = 2

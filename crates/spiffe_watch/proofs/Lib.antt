@@ -1,6 +1,5 @@
 pub mod Completeness
 pub mod Endings
-pub mod Pairs
 pub mod Rows
 pub mod Settings
 pub mod HeadlineLemmas

@@ -4,7 +4,9 @@ use Rattle.std.specs.Prelude.{codes}
 use Rattle.spf_feed.specs.declared.ready.Ready.TheVariants as readiness
 use Rattle.spiffe_watch.specs.declared.arguments.Command.TheVariants as commands
 use Rattle.spf_program.specs.Numbers.{number_up_to, number_in, is_numeral}
-use Rattle.spiffe_watch.specs.Arguments.{command_in, limit_in, ready_in, is_option, option_in}
+use Rattle.spf_options.specs.Pairs.{option_in}
+use Rattle.spf_options.specs.Values.{limit_in, ready_in}
+use Rattle.spiffe_watch.specs.Arguments.{command_in, is_option}
 use Rattle.spiffe_watch.specs.Arguments.{x509_setting, make_arguments_in}
 
 zero : number_in (codes "0") ≡ Some 0

@@ -1,8 +1,7 @@
 //! The arguments of the command line.
 
-ghost use Rattle.std.specs.Prelude.{◌≡◌, None, Some, map, string_bytes};
-ghost use Rattle.std.specs.Option.{option_map, option_copied};
-ghost use Rattle.spf_program.specs.Numbers.{moment_in, number_in};
+ghost use Rattle.std.specs.Prelude.{◌≡◌, map, string_bytes};
+ghost use Rattle.spf_options.specs.Pairs.{are_pairs, option_in};
 ghost use Rattle.spiffe_watch.specs.Arguments.{
   command_in,
   make_arguments_in,
@@ -10,17 +9,14 @@ ghost use Rattle.spiffe_watch.specs.Arguments.{
   jwt_setting,
   not_there,
   is_option as is_option_name,
-  are_options as are_pairs,
-  values_of,
-  at_most_one,
-  option_in,
-  limit_in,
-  ready_in,
 };
 
 use spf_feed::{Ready, ResourceLimits};
 use spf_jwt::JwtResourceLimits;
-use spf_program::{MAX_NUMBER, moment, number_up_to};
+use spf_options::{
+    limit_option, moment_option, number_option, ready_option, text_option, value_of,
+};
+use spf_program::number_up_to;
 use std::marker::Model;
 
 /// The default of `--max-frames`.
@@ -131,7 +127,7 @@ fn x509_arguments(arguments: &[String]) -> Option<X509Arguments<'_>>
         ),
         deadline: moment_option(arguments, "--deadline")?,
         max_frames: number_option(arguments, "--max-frames", DEFAULT_MAX_FRAMES)?,
-        hint: hint_option(arguments, "--hint")?,
+        hint: text_option(arguments, "--hint")?,
         ready: ready_option(arguments, "--ready", Ready::Usable)?,
     })
 }
@@ -164,7 +160,7 @@ fn jwt_arguments(arguments: &[String]) -> Option<JwtArguments>
 }
 
 /// `None` where an option of `x509` alone is set.
-#[tactic(auto, unfolding(crate::specs::Arguments::option_in))]
+#[tactic(auto, unfolding(spf_options::specs::Pairs::option_in))]
 fn no_option(arguments: &[String], option: &str) -> Option<()>
     ensures { result ≡ option_in not_there tt option.now (map string_bytes arguments.now) }
 {
@@ -194,7 +190,7 @@ fn is_option(name: &str) -> bool
 
 /// Whether the arguments are pairs of an option and its value.
 fn are_options(arguments: &[String]) -> bool
-    ensures { result ≡ are_pairs (map string_bytes arguments.now) }
+    ensures { result ≡ are_pairs is_option_name (map string_bytes arguments.now) }
 {
     let mut rest = arguments;
     while let [name, _, after @ ..] = rest {
@@ -204,104 +200,4 @@ fn are_options(arguments: &[String]) -> bool
         rest = after;
     }
     rest.is_empty()
-}
-
-/// The value of an option, if it is set; `None` where it is set twice.
-fn value_of<'a>(arguments: &'a [String], option: &str) -> Option<Option<&'a str>>
-    ensures { option_map option_copied result
-        ≡ at_most_one (values_of option.now (map string_bytes arguments.now)) }
-{
-    let mut found = None;
-    let mut rest = arguments;
-    while let [name, value, after @ ..] = rest {
-        if name.as_str() == option {
-            if found.is_some() {
-                return None;
-            }
-            found = Some(value.as_str());
-        }
-        rest = after;
-    }
-    Some(found)
-}
-
-/// The limit that an option sets, by default `absent`.
-#[tactic(auto, unfolding(crate::specs::Arguments::option_in))]
-fn limit_option(arguments: &[String], option: &str, absent: Option<usize>) -> Option<Option<usize>>
-    ensures { result ≡ option_in limit_in absent option.now (map string_bytes arguments.now) }
-{
-    match value_of(arguments, option)? {
-        None => Some(absent),
-        Some(value) => limit(value),
-    }
-}
-
-/// The moment that an option sets, if it is set.
-#[tactic(auto, unfolding(crate::specs::Arguments::option_in))]
-fn moment_option(arguments: &[String], option: &str) -> Option<Option<i64>>
-    ensures { result
-        ≡ option_in (λ value. option_map Some (moment_in value)) None option.now
-        (map string_bytes arguments.now) }
-{
-    match value_of(arguments, option)? {
-        None => Some(None),
-        Some(value) => Some(Some(moment(value)?)),
-    }
-}
-
-/// The number that an option sets, by default `absent`.
-#[tactic(auto, unfolding(crate::specs::Arguments::option_in))]
-fn number_option(arguments: &[String], option: &str, absent: u64) -> Option<u64>
-    ensures { result ≡ option_in number_in absent option.now (map string_bytes arguments.now) }
-{
-    match value_of(arguments, option)? {
-        None => Some(absent),
-        Some(value) => number_up_to(MAX_NUMBER, value),
-    }
-}
-
-/// The text that an option sets, if it is set.
-#[tactic(auto, unfolding(crate::specs::Arguments::option_in))]
-fn hint_option<'a>(arguments: &'a [String], option: &str) -> Option<Option<&'a str>>
-    ensures { option_map option_copied result
-        ≡ option_in (λ value. Some (Some value)) None option.now (map string_bytes arguments.now) }
-{
-    match value_of(arguments, option)? {
-        None => Some(None),
-        Some(value) => Some(Some(value)),
-    }
-}
-
-/// What the first update must hold, by default `absent`.
-#[tactic(auto, unfolding(crate::specs::Arguments::option_in))]
-fn ready_option(arguments: &[String], option: &str, absent: Ready) -> Option<Ready>
-    ensures { result ≡ option_in ready_in absent option.now (map string_bytes arguments.now) }
-{
-    match value_of(arguments, option)? {
-        None => Some(absent),
-        Some(value) => ready(value),
-    }
-}
-
-/// A limit: a number, or `none`.
-#[tactic(auto, unfolding(crate::specs::Arguments::limit_in))]
-fn limit(text: &str) -> Option<Option<usize>>
-    ensures { result ≡ limit_in text.now }
-{
-    if text == "none" {
-        return Some(None);
-    }
-    Some(Some(number_up_to(MAX_NUMBER, text)? as usize))
-}
-
-/// What the first update must hold.
-#[tactic(auto, unfolding(crate::specs::Arguments::ready_in))]
-fn ready(text: &str) -> Option<Ready>
-    ensures { result ≡ ready_in text.now }
-{
-    match text {
-        "usable" => Some(Ready::Usable),
-        "any" => Some(Ready::Any),
-        _ => None,
-    }
 }

@@ -7,6 +7,7 @@ ghost use Rattle.spiffe_watch.specs.Causes.{frame_in, reason_line, reason_of_err
 
 use spf_feed::FollowError;
 use spf_io::{OutOfMemory, Sink};
+use spf_program::ArgumentsError;
 use std::alloc::{AllocError, AllocFailed};
 
 /// Why a run ended.
@@ -55,6 +56,15 @@ impl From<OutOfMemory> for ExitReason {
 
     fn from(_e: OutOfMemory) -> ExitReason {
         ExitReason::OutOfMemory
+    }
+}
+
+impl From<ArgumentsError> for ExitReason {
+    fn from(error: ArgumentsError) -> ExitReason {
+        match error {
+            ArgumentsError::NotText => ExitReason::BadArguments,
+            ArgumentsError::OutOfMemory => ExitReason::OutOfMemory,
+        }
     }
 }
 

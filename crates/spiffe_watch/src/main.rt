@@ -19,11 +19,10 @@ use exit_reason::{ExitReason, report};
 use help::{HELP, VERSION};
 use output::put;
 use spf_io::{Sink, StdSink, StdSource};
+use spf_program::program_arguments;
 use std::alloc::Global;
 use std::io::BufReader;
 use std::process::ExitCode;
-use std::rt::Env;
-use std::{env, io};
 pub use watch::watch;
 
 /// How many bytes of standard input are read at once.
@@ -40,7 +39,7 @@ fn main(rt: HostRuntime) -> ExitCode {
 /// Calls `watch` with the standard streams, and returns its exit
 /// status. `--help` and `--version`, alone, are answered here.
 fn run<E: Sink>(rt: &HostRuntime, errors: &mut E) -> Result<u8, ExitReason> {
-    let arguments = arguments_of(rt)?;
+    let arguments = program_arguments(rt)?;
     let mut out = StdSink::new(rt.stdout());
     if let [argument] = arguments.as_slice() {
         match argument.as_str() {
@@ -58,22 +57,6 @@ fn run<E: Sink>(rt: &HostRuntime, errors: &mut E) -> Result<u8, ExitReason> {
         &mut out,
         errors,
     ))
-}
-
-/// The arguments after the name of the program.
-fn arguments_of(rt: &(impl Env + AllocGlobal)) -> Result<Vec<String>, ExitReason> {
-    let all = match env::args(rt) {
-        Ok(all) => all,
-        Err(error) if error.kind() == io::ErrorKind::OutOfMemory => {
-            return Err(ExitReason::OutOfMemory);
-        }
-        Err(_) => return Err(ExitReason::BadArguments),
-    };
-    let mut arguments = Vec::new(rt.alloc());
-    for argument in all.skip(1) {
-        arguments.push(argument)?;
-    }
-    Ok(arguments)
 }
 
 fn put_text<K: Sink>(out: &mut K, text: &str) -> Result<u8, ExitReason> {

@@ -7,7 +7,7 @@ use Rattle.spf_options.proofs.live.are_options.Given as goal
 abbrev pub invariant-loop-rest : goal.invariant-loop-rest
 invariant-loop-rest l =
     are_pairs is_live_option (map string_bytes l.rest)
-    ≡ are_pairs is_live_option (map string_bytes l.words)
+    ≡ are_pairs is_live_option (map string_bytes l.arguments)
 
 abbrev pub decreases-loop-rest : goal.decreases-loop-rest
 decreases-loop-rest l = length l.rest

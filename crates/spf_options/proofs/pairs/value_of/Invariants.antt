@@ -7,7 +7,7 @@ use Rattle.spf_options.proofs.pairs.value_of.Given as goal
 
 abbrev pub invariant-loop-rest : goal.invariant-loop-rest
 invariant-loop-rest l =
-    values_of l.option (map string_bytes l.words)
+    values_of l.option (map string_bytes l.arguments)
     ≡ found_list (option_copied l.found) ++ values_of l.option (map string_bytes l.rest)
 
 abbrev pub decreases-loop-rest : goal.decreases-loop-rest

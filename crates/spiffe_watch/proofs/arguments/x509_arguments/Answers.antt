@@ -11,5 +11,5 @@ returns c =
     (sym c.if-not-are_options.ensures)
     (rw default at c.in_ok-limit_option.ensures) (rw default at c.in_ok-limit_option-2.ensures)
     (rw default at c.in_ok-limit_option-3.ensures) (rw default at c.in_ok-limit_option-4.ensures)
-    c.in_ok-moment_option.ensures c.in_ok-number_option.ensures c.in_ok-hint_option.ensures
+    c.in_ok-moment_option.ensures c.in_ok-number_option.ensures c.in_ok-text_option.ensures
     c.in_ok-ready_option.ensures)
