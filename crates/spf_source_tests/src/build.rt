@@ -14,7 +14,7 @@ use std::sync::Wait;
 use std::test::Fail;
 use std::time::Duration;
 
-type Builder = X509SourceBuilder<NoPicker, MemConnector, NoRecorder>;
+pub(crate) type Builder = X509SourceBuilder<NoPicker, MemConnector, NoRecorder>;
 
 /// A builder over one link with these answers.
 fn over(alloc: Global, answers: Vec<Answer>) -> Result<Builder, Fail> {
@@ -24,7 +24,7 @@ fn over(alloc: Global, answers: Vec<Answer>) -> Result<Builder, Fail> {
 }
 
 /// A link that gives the item I1.
-fn good(alloc: Global) -> Result<Builder, Fail> {
+pub(crate) fn good(alloc: Global) -> Result<Builder, Fail> {
     let item = Answer::Item(Response::Context(first_item(alloc)?));
     over(alloc, vec![in alloc; Answer::Started, item]?)
 }
@@ -59,7 +59,7 @@ fn error_of(e: X509SourceError) -> Outcome {
     }
 }
 
-fn clock(alloc: Global) -> Result<MemClock, Fail> {
+pub(crate) fn clock(alloc: Global) -> Result<MemClock, Fail> {
     Ok(MemClock::new(vec![in alloc; Some(999)]?))
 }
 

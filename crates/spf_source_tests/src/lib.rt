@@ -8,4 +8,8 @@ mod gate;
 #[cfg(test)]
 mod gate_serve;
 #[cfg(test)]
+mod record;
+#[cfg(test)]
+mod sockets;
+#[cfg(test)]
 mod source;

@@ -1,6 +1,8 @@
 -- What a builder makes of a source, and why it fails.
 use Rattle.std.specs.Prelude.{◌≡◌, ◌⊎◌, ℕ, ℤ, List, [], Option, None, Some, Result, Ok, Err}
 use Rattle.std.specs.Prelude.{reverse, if◌then◌else◌}
+use Rattle.std.specs.Duration.{as_nanos}
+use Rattle.std.specs.Option.{option_map}
 use Rattle.std.specs.declared.time.Duration.{Duration}
 use Rattle.spf_api.specs.declared.endpoint_error.EndpointError.{EndpointError}
 use Rattle.spf_api.specs.declared.error.WorkloadApiError.TheVariants as api
@@ -8,13 +10,13 @@ use Rattle.spf_board.specs.Passes.{Rose}
 use Rattle.spf_io.specs.Outside.{Rose as Refused}
 use Rattle.spf_endpoint.specs.Endpoint.{is_memory}
 use Rattle.spf_link.specs.Connecting.{Member}
-use Rattle.spf_pace.specs.declared.reconnect_config.ReconnectConfig.{ReconnectConfig}
+use Rattle.spf_pace.specs.Bounds.{IsDefault as HasDefaultBounds}
 use Rattle.spf_view.specs.Steps.{steps_of}
 use Rattle.spf_x509.specs.Svid.{Svid}
 use Rattle.spf_x509_board.specs.Passes.{PassView}
 use Rattle.spf_history.specs.Lists.{steps_of as board_steps}
-use Rattle.spf_feed.specs.declared.limits.ResourceLimits.{ResourceLimits}
-use Rattle.spf_feed.specs.declared.ready.Ready.{Ready}
+use Rattle.spf_feed.specs.Limits.{default_limits}
+use Rattle.spf_feed.specs.declared.ready.Ready.TheVariants as readiness
 use Rattle.spf_feed.specs.declared.state.X509SourceError.{X509SourceError}
 use Rattle.spf_feed.specs.declared.state.X509SourceError.TheVariants as errors
 use Rattle.spf_feed.specs.declared.turn.Terminal.{Terminal}
@@ -29,6 +31,15 @@ use Rattle.spf_feeder.specs.Times.{Gives}
 use Rattle.spiffe.specs.declared.builder.Settings.{Settings}
 use Rattle.spiffe.specs.Records.{Assigned}
 use Rattle.spiffe.specs.Sources.{Source}
+
+-- the settings of a builder on which nothing was set
+pub record IsDefault {K : Type 0} (set : Settings K) : Type 0 where
+  pub picker : set.picker ≡ None
+  pub bounds : HasDefaultBounds set.bounds
+  pub limits : set.limits ≡ default_limits
+  pub ready : set.ready ≡ readiness.Usable
+  pub timeout : set.timeout ≡ None
+  pub grace : option_map as_nanos set.grace ≡ Some 30_000_000_000
 
 -- the error of a refused endpoint
 abbrev pub refused_as : EndpointError → X509SourceError
@@ -98,3 +109,17 @@ pub record IsBuilt {S K : Type 0} (picks : K → List Svid → Option ℕ) (sour
   pub closing_cell : closing ≡ source.cell
   pub seen : board_steps pass.seen
       ≡ steps_of (subject (rules_by picks job.settings job.picker)) job.run
+
+-- ---- by a builder on which nothing was set
+
+-- what is left to the supervisor of a connector to sockets, of which nobody knows what it will give
+abbrev pub IsAssignedByDefault : {S K : Type 0} → (K → List Svid → Option ℕ)
+    → Option (List (Option ℤ)) → Option (List (Option ℤ)) → Assigned S K → Type 0
+IsAssignedByDefault {S} {K} picks clock clock' job =
+    (set : Settings K) × IsDefault set
+    × ((connector : S) × IsAssigned (λ _. None) picks set connector clock clock' job)
+
+abbrev pub FailsByDefault : {K : Type 0} → (K → List Svid → Option ℕ) → ℕ → ℕ → ℕ → ℕ
+    → X509SourceError → Type 0
+FailsByDefault {K} picks before now started starts e =
+    (set : Settings K) × IsDefault set × BuildFails picks set (Ok tt) before now started starts e

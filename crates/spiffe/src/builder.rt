@@ -2,9 +2,7 @@
 
 ghost use Rattle.std.specs.Prelude.{◌≡◌, ◌≤◌, Err, IfErr, IfOk, None, Ok, Some};
 ghost use Rattle.std.specs.Option.{ForSome};
-ghost use Rattle.spf_feed.specs.Limits.{default_limits};
-ghost use Rattle.spf_feed.specs.declared.ready.Ready.TheVariants as readiness;
-ghost use Rattle.spiffe.specs.Building.{BuildFails, IsAssigned, IsBuilt, PrepareFails};
+ghost use Rattle.spiffe.specs.Building.{BuildFails, IsAssigned, IsBuilt, IsDefault, PrepareFails};
 
 use crate::handle::{PendingHandle, SupervisorHandle};
 use crate::job::X509Job;
@@ -54,15 +52,12 @@ impl<C: Connector + Drop> X509SourceBuilder<NoPicker, C, NoRecorder> {
     /// shutdown that takes at most 30 s, and no limit of the initial synchronisation.
     pub fn new(connector: C) -> X509SourceBuilder<NoPicker, C, NoRecorder>
         ensures connector { result.connector ≡ connector }
-        ensures timeout { result.settings.timeout ≡ None }
-        ensures rules { (result.settings.picker ≡ None)
-            × (result.settings.limits ≡ default_limits)
-            × (result.settings.ready ≡ readiness.Usable) }
+        ensures settings { IsDefault result.settings }
     {
         X509SourceBuilder {
             settings: Settings {
                 picker: None,
-                bounds: ReconnectConfig::new(Duration::from_millis(200), Duration::from_secs(10)),
+                bounds: ReconnectConfig::default(),
                 limits: ResourceLimits::default_limits(),
                 ready: Ready::Usable,
                 timeout: None,

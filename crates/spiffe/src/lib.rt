@@ -9,6 +9,7 @@ mod job;
 mod opening;
 mod publishing;
 mod record;
+mod sockets;
 mod source;
 mod task;
 mod updates;

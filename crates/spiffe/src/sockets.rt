@@ -1,0 +1,107 @@
+//! Sources over the sockets of an endpoint.
+
+ghost use Rattle.std.specs.Prelude.{◌≡◌, IfErr, IfOk};
+ghost use Rattle.spf_endpoint.specs.Endpoint.{endpoint_rule};
+ghost use Rattle.spf_wire.specs.Endpoints.{kept};
+ghost use Rattle.spiffe.specs.Building.{FailsByDefault, IsAssignedByDefault, IsBuilt, IsDefault};
+
+use crate::builder::X509SourceBuilder;
+use crate::handle::SupervisorHandle;
+use crate::job::X509Job;
+use crate::source::X509Source;
+use rand_core::Rng;
+use spf_feed::{MetricsRecorder, NoPicker, NoRecorder, SvidPicker, X509SourceError};
+use spf_io::OutOfMemory;
+use spf_job::Spawner;
+use spf_link::Connector;
+use spf_system::{Clock, Environment, Pause};
+use spf_wire::{EndpointConnector, EnvConnector};
+use spf_x509_board::{Pass, Places};
+use std::alloc::Global;
+use std::net::{Net, TcpStream};
+use std::sync::Wait;
+
+impl<P: SvidPicker + Drop, C: Connector + Drop, M: MetricsRecorder + Drop> X509SourceBuilder<
+    P,
+    C,
+    M,
+>
+where
+    C::Link: Drop,
+{
+    /// Reads of the endpoint that a text names, as `unix:///run/agent.sock`. The text is parsed
+    /// when the source is built.
+    pub fn endpoint<N: Net<Stream = TcpStream> + Drop>(
+        self,
+        net: N,
+        alloc: Global,
+        endpoint: &str,
+    ) -> Result<X509SourceBuilder<P, EndpointConnector<N>, M>, OutOfMemory>
+        ensures endpoint { IfOk result (λ b.
+            ⟦<EndpointConnector<N> as Connector>⟧.validates b.connector
+            ≡ kept (endpoint_rule endpoint.now)) }
+        ensures settings { IfOk result (λ b. b.settings ≡ self.settings) }
+    {
+        let connector = EndpointConnector::new(net, alloc, endpoint)?;
+        Ok(self.client_factory(connector))
+    }
+}
+
+impl X509Source {
+    /// A builder over a connector, on which nothing is set.
+    pub fn builder<C: Connector + Drop>(connector: C) -> X509SourceBuilder<NoPicker, C, NoRecorder>
+        ensures connector { result.connector ≡ connector }
+        ensures settings { IsDefault result.settings }
+    {
+        X509SourceBuilder::new(connector)
+    }
+
+    /// A source of the endpoint that the environment names, by a builder on which nothing is set.
+    pub fn new<N, E, T, W, G, R, S, L>(
+        rt: R,
+        net: N,
+        alloc: Global,
+        environment: E,
+        clock: &mut T,
+        pause: W,
+        random: G,
+        spawner: &mut S,
+        places: &mut L,
+    ) -> Result<
+        (
+            X509Source,
+            Pass,
+            SupervisorHandle<X509Job<EnvConnector<N, E>, NoPicker, NoRecorder, W, G, R>, S::Handle>,
+        ),
+        X509SourceError,
+    >
+    where
+        N: Net<Stream = TcpStream> + Drop,
+        E: Environment + Drop,
+        T: Clock,
+        W: Pause + Drop,
+        G: Rng + Drop,
+        R: Wait + Copy + Drop,
+        S: Spawner<X509Job<EnvConnector<N, E>, NoPicker, NoRecorder, W, G, R>>,
+        S::Handle: Drop,
+        L: Places,
+        ensures built { IfOk result (λ r. IsBuilt (⟦<NoPicker as SvidPicker>⟧.picks) r.0 r.1
+            r.2.cell r.2.job) }
+        ensures assigned { IfOk result (λ r. IsAssignedByDefault
+            (⟦<NoPicker as SvidPicker>⟧.picks) (T.moments clock.old) (T.moments clock.new)
+            r.2.job) }
+        ensures environment { IfOk result (λ r. r.2.job.first.environment ≡ environment) }
+        ensures failed { IfErr result (FailsByDefault (⟦<NoPicker as SvidPicker>⟧.picks)
+            (L.refusals places.old) (L.refusals places.new) (S.refusals spawner.old)
+            (S.refusals spawner.new)) }
+    {
+        let connector = EnvConnector::new(net, alloc, environment);
+        let (source, pass, job, pending) = X509Source::builder(connector).prepare(
+            rt, alloc, clock, pause, random, places,
+        )?;
+        match spawner.start(job) {
+            Ok(handle) => Ok((source, pass, pending.started(handle))),
+            Err(_) => Err(X509SourceError::NoSupervisor),
+        }
+    }
+}
