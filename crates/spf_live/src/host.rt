@@ -1,6 +1,8 @@
 //! The sockets and the pauses of the process, as types without parameters: a job over them can be
 //! sent to a thread.
 
+ghost use Rattle.std.specs.Prelude.{◌≡◌};
+
 use spf_api::{ClientFault, EndpointError, LinkFault, Response};
 use spf_link::{Connector, Headers, Link, Request};
 use spf_system::{Pause, StdEnvironment, StdPause, StopFlag};
@@ -43,7 +45,10 @@ pub struct HostConnector {
 }
 
 impl HostConnector {
-    pub fn new(host: HostRuntime, alloc: Global) -> HostConnector {
+    /// A connector that has not refused yet.
+    pub fn new(host: HostRuntime, alloc: Global) -> HostConnector
+        ensures { ⟦<HostConnector as Connector>⟧.refusals result ≡ 0 }
+    {
         HostConnector {
             sockets: EnvConnector::new(host, alloc, StdEnvironment::new(host)),
         }

@@ -1,0 +1,50 @@
+//! A writer that publishes without pause.
+
+ghost use Rattle.std.specs.Prelude.{◌≢◌, [], IfOk, OnOk};
+ghost use Rattle.spf_history.specs.Lists.{steps_of};
+
+use crate::board::accepting;
+use crate::item::first_context;
+use spf_feed::{Denial, Publisher, Step};
+use spf_io::OutOfMemory;
+use spf_system::StopFlag;
+use spf_x509::X509Context;
+use spf_x509_board::Desk;
+use std::alloc::Global;
+use std::sync::{Arc, Wait};
+
+/// Publishes a denial, and then an update.
+fn publish_both<R: Wait + Drop>(
+    desk: &mut Desk<R>,
+    denial: &Arc<Denial>,
+    context: &Arc<X509Context>,
+) -> Result<(), OutOfMemory>
+    requires { steps_of desk.old.list ≢ [] }
+    ensures { OnOk result (steps_of desk.new.list ≢ []) }
+{
+    let reason = Arc::try_clone(denial)?;
+    desk.publish(Step::Deny { reason })?;
+    desk.publish(accepting(Arc::try_clone(context)?)?)
+}
+
+/// Publishes denials and updates in turn until the flag is set, and returns how many.
+pub(crate) fn publish_until<R: Wait + Copy + Drop>(
+    rt: &R,
+    alloc: Global,
+    mut desk: Desk<R>,
+    stop: &StopFlag,
+) -> Result<u64, OutOfMemory>
+    requires { steps_of desk.list ≢ [] }
+{
+    let denial = Arc::new(alloc, Denial::NoIdentityIssued)?;
+    let context = first_context(alloc)?;
+    let mut published = 0u64;
+    'publishing: for _ in rt.forever() {
+        if stop.is_set() {
+            break;
+        }
+        publish_both(&mut desk, &denial, &context)?;
+        published = published.wrapping_add(2);
+    }
+    Ok(published)
+}
