@@ -11,8 +11,6 @@ mod received;
 mod session;
 mod supervisor;
 mod synchronisation;
-#[cfg(test)]
-mod tests;
 
 pub use feeder::Feeder;
 pub use opening::{Opening, open_feeder};

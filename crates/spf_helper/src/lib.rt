@@ -15,6 +15,3 @@ pub use following::helper_follow;
 pub use helper_error::HelperError;
 pub use publisher::HelperPublisher;
 pub use watching::helper_watch;
-
-#[cfg(test)]
-mod tests;

@@ -26,6 +26,3 @@ pub use message::read_message;
 pub use proto_error::ProtoError;
 pub use watching::proto_watch;
 pub use wire::{Field, read_field};
-
-#[cfg(test)]
-mod tests;

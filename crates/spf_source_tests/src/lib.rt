@@ -4,6 +4,8 @@
 #[cfg(test)]
 mod build;
 #[cfg(test)]
+mod feeder;
+#[cfg(test)]
 mod gate;
 #[cfg(test)]
 mod gate_serve;

@@ -1,6 +1,8 @@
-use crate::Feeder;
+//! One turn of a feeder after another.
+
 use spf_api::{ClientFault, GrpcStatusCode, GrpcStatusError, LinkFault};
 use spf_feed::{MemPublisher, NoPicker, NoRecorder, Ready, ResourceLimits, SessionRules};
+use spf_feeder::Feeder;
 use spf_io::{OutOfMemory, Text};
 use spf_link::{Answer, MemConnector, MemLink};
 use spf_pace::AttemptEnd;

@@ -1,16 +1,15 @@
 //! Bodies of the program's sessions.
 
-mod watching;
-
-use super::*;
 use spf_feed::{FollowError, MemPublisher, MemRecorder, NoPicker, Ready, ResourceLimits};
 use spf_fixtures::octets;
 use spf_io::{MemSink, MemSource};
+use spf_proto::{ProtoError, follow_proto};
 use std::alloc::Global;
-use std::test::*;
+use std::test::Fail;
 
 /// One message: the item I1.
-const Q: &str = "0000000106 0a8302 0a16 7370696666653a2f2f6578616d706c652e6f72672f77 128d01 LEAF1 \
+pub(crate) const Q: &str =
+    "0000000106 0a8302 0a16 7370696666653a2f2f6578616d706c652e6f72672f77 128d01 LEAF1 \
                   1a0f KEY1 2248 ROOT1";
 
 /// Follows a body from the moment 999 on, with reads of one octet, and returns what was written.

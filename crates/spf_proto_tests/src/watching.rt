@@ -1,9 +1,9 @@
 //! Runs of the program: the arguments, the status, the lines, and what the error output says.
 
-use super::Q;
-use crate::proto_watch;
+use crate::bodies::Q;
 use spf_fixtures::{octets, written_out};
 use spf_io::{MemSink, MemSource};
+use spf_proto::proto_watch;
 use std::alloc::Global;
 use std::test::Fail;
 

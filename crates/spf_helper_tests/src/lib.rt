@@ -1,0 +1,5 @@
+//! Tests of the file helper, which need only public calls.
+#![tactic(auto)]
+
+#[cfg(test)]
+mod sessions;
