@@ -16,24 +16,32 @@ use std::time::Duration;
 
 pub(crate) type Builder = X509SourceBuilder<NoPicker, MemConnector, NoRecorder>;
 
-/// A builder over one link with these answers.
-fn over(alloc: Global, answers: Vec<Answer>) -> Result<Builder, Fail> {
-    let link = MemLink::new(alloc, answers);
+/// A builder over one link.
+fn over(alloc: Global, link: MemLink) -> Result<Builder, Fail> {
     let connector = MemConnector::new(alloc, vec![in alloc; Ok(link)]?);
     Ok(X509SourceBuilder::new(connector))
 }
 
 /// A link that gives the item I1.
-pub(crate) fn good(alloc: Global) -> Result<Builder, Fail> {
+pub(crate) fn good_link(alloc: Global) -> Result<MemLink, Fail> {
     let item = Answer::Item(Response::Context(first_item(alloc)?));
-    over(alloc, vec![in alloc; Answer::Started, item]?)
+    Ok(MemLink::new(alloc, vec![in alloc; Answer::Started, item]?))
 }
 
 /// A link that refuses its start with this status.
-fn refusing(alloc: Global, code: GrpcStatusCode) -> Result<Builder, Fail> {
+pub(crate) fn refusing_link(alloc: Global, code: GrpcStatusCode) -> Result<MemLink, Fail> {
     let message = Text::copy_of(alloc, "no")?;
     let fault = LinkFault::Status(GrpcStatusError::new(code, message));
-    over(alloc, vec![in alloc; Answer::Refused(fault)]?)
+    Ok(MemLink::new(alloc, vec![in alloc; Answer::Refused(fault)]?))
+}
+
+/// A builder over a link that gives the item I1.
+pub(crate) fn good(alloc: Global) -> Result<Builder, Fail> {
+    over(alloc, good_link(alloc)?)
+}
+
+fn refusing(alloc: Global, code: GrpcStatusCode) -> Result<Builder, Fail> {
+    over(alloc, refusing_link(alloc, code)?)
 }
 
 /// What a build gave.

@@ -4,11 +4,11 @@
 #[cfg(test)]
 mod build;
 #[cfg(test)]
-mod feeder;
-#[cfg(test)]
 mod gate;
 #[cfg(test)]
 mod gate_serve;
+#[cfg(test)]
+mod pauses;
 #[cfg(test)]
 mod record;
 #[cfg(test)]
