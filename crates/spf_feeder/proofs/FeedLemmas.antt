@@ -1,6 +1,6 @@
 -- What one turn of a feeder does.
 use Rattle.std.proofs.Common.{◌≡◌, Bool, true, false, List, [], ◌∷◌, ◌++◌, reverse, Option, None}
-use Rattle.std.proofs.Common.{Some, Result, Ok, Err, inl, inr, refl, sym, ap, ◌∙◌, subst, ℕ}
+use Rattle.std.proofs.Common.{Some, Result, Ok, Err, inl, inr, refl, sym, ◌∙◌, subst, ℕ}
 use Rattle.std.specs.Prelude.{IfErr, IfSome, ℤ, ◌⊎◌}
 use Rattle.spf_io.specs.declared.memory.OutOfMemory.{OutOfMemory}
 use Rattle.spf_x509.specs.Svid.{Svid}
@@ -20,7 +20,7 @@ use Rattle.spf_feeder.specs.declared.session.Stop.{Stop}
 use Rattle.spf_feeder.specs.declared.session.Stop.TheVariants as stops
 use Rattle.spf_feeder.specs.Asking.{Asked, Asks, AsksOnce}
 use Rattle.spf_feeder.specs.Coming.{AllTold, Holds, left_after}
-use Rattle.spf_feeder.specs.Fed.{Fed, IsIdle, IsReady, StopsBy, Tells, TurnedAway, Turns}
+use Rattle.spf_feeder.specs.Fed.{Fed, IsReady, StopsBy, Tells, TurnedAway, Turns}
 use Rattle.spf_feeder.specs.Kept.{Advances, Core, rules_by}
 use Rattle.spf_feeder.proofs.TellLemmas.{ready_more, tells_more}
 

@@ -3,10 +3,9 @@ use Rattle.std.proofs.Common.{◌≡◌, Bool, true, false, List, [], ◌∷◌,
 use Rattle.std.proofs.Common.{Some, Result, Ok, Err, inl, inr, refl, sym, ap, ◌∙◌, subst}
 use Rattle.std.specs.Prelude.{not, ◌||◌, ◌⊎◌}
 use Rattle.std.specs.Prelude.{ℤ, is_some}
-use Rattle.std.specs.Option.{option_map, option_map_or, option_to_list}
+use Rattle.std.specs.Option.{option_map_or, option_to_list}
 use Rattle.std.proofs.lemmas.List.{append-nil, append_assoc}
 use Rattle.spf_io.specs.declared.memory.OutOfMemory.{OutOfMemory}
-use Rattle.spf_api.specs.Refused.{Refused}
 use Rattle.spf_api.specs.declared.link.ClientFault.{ClientFault}
 use Rattle.spf_api.specs.declared.link.ClientFault.TheVariants as client
 use Rattle.spf_api.specs.declared.link.LinkFault.{LinkFault}
@@ -25,16 +24,16 @@ use Rattle.spf_feed.specs.declared.phase.Phase.{Phase}
 use Rattle.spf_feed.specs.declared.phase.Phase.TheVariants as phases
 use Rattle.spf_feed.specs.declared.record.MetricsRecord.{MetricsRecord}
 use Rattle.spf_feed.specs.Items.{Event, Rules, context_in, subject}
-use Rattle.spf_feed.specs.Steps.{Accept, Material, PlainStep, fits}
+use Rattle.spf_feed.specs.Steps.{Accept, Material, fits}
 use Rattle.spf_feed.specs.Run.{ask_of, stream}
 use Rattle.spf_pace.specs.declared.pacer.AttemptEnd.{AttemptEnd}
-use Rattle.spf_feeder.specs.Asking.{Asked, Asks, AsksOnce, refused_as}
+use Rattle.spf_feeder.specs.Asking.{Asked, Asks, AsksOnce}
 use Rattle.spf_feeder.specs.Asking.{told_by_connect, told_by_next, told_by_start}
-use Rattle.spf_feeder.specs.Fed.{AsksInVain, Fed, IsIdle, TurnedAway, TurnedOnce, Turns}
+use Rattle.spf_feeder.specs.Fed.{AsksInVain, Fed, IsIdle, Turns}
 use Rattle.spf_feeder.specs.Asking.{is_client}
 use Rattle.spf_feeder.specs.Orderly.{AddsAnswer, IsAboutToAsk, IsOneStep, IsOpening, IsTimed}
-use Rattle.spf_feeder.specs.Orderly.{IsSynced, ends_with_moment, is_of_client, is_timed}
-use Rattle.spf_feeder.specs.Orderly.{GoesOn, IsOrderly, MayStand, does_answer, has_moment}
+use Rattle.spf_feeder.specs.Orderly.{IsSynced, ends_with_moment, is_timed}
+use Rattle.spf_feeder.specs.Orderly.{GoesOn, IsOrderly, does_answer, has_moment}
 use Rattle.spf_feeder.specs.Orderly.{is_moment}
 
 -- ---- what is told answers the ask

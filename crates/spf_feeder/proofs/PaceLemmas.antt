@@ -8,9 +8,9 @@ use Rattle.std.specs.declared.time.Duration.{Duration}
 use Rattle.spf_pace.specs.declared.pacer.AttemptEnd.{AttemptEnd}
 use Rattle.spf_pace.specs.declared.pacer.Pacer.{Pacer}
 use Rattle.spf_pace.specs.declared.reconnect_config.ReconnectConfig.{ReconnectConfig}
-use Rattle.spf_pace.specs.Delays.{PaceStep, Synchronised, Ended, StandsAfter, delays_of, does_grow}
+use Rattle.spf_pace.specs.Delays.{PaceStep, Ended, StandsAfter, delays_of, does_grow}
 use Rattle.spf_pace.specs.Delays.{is_synchronised}
-use Rattle.spf_view.specs.Views.{Accepted, Denied, Passed, brings, denied_or_passed, has_synced}
+use Rattle.spf_view.specs.Views.{Accepted, brings, denied_or_passed, has_synced}
 use Rattle.spf_view.specs.Views.{last_moment, outcome}
 use Rattle.spf_view.proofs.ViewLemmas.{last_first}
 use Rattle.spf_feed.specs.Items.{Event, Rules, context_in, subject}

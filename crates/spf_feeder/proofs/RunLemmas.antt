@@ -5,11 +5,11 @@ use Rattle.std.specs.Prelude.{ℤ, is_some, IsTrue, IfSome}
 use Rattle.std.specs.Borrow.{Bor}
 use Rattle.std.specs.Option.{option_or, option_map, option_to_list}
 use Rattle.std.proofs.lemmas.List.{append-nil}
-use Rattle.spf_view.specs.Views.{has_synced, outcome, outcome_with, Accepted, Denied, Passed}
+use Rattle.spf_view.specs.Views.{has_synced, outcome, Accepted, Denied, Passed}
 use Rattle.spf_view.specs.Keeping.{IsAt, kept_with_any}
 use Rattle.spf_view.specs.Sessions.{Grows}
 use Rattle.spf_view.specs.Standing.{Kept}
-use Rattle.spf_view.specs.Steps.{steps_of, step_in}
+use Rattle.spf_view.specs.Steps.{steps_of}
 use Rattle.spf_view.proofs.KeepingLemmas.{synced_at, at_start}
 use Rattle.spf_view.proofs.ViewLemmas.{last_first, steps_more}
 use Rattle.spf_pace.specs.declared.pacer.AttemptEnd.{AttemptEnd}

@@ -1,6 +1,6 @@
 -- What a clock gave, and the moments of a run.
 use Rattle.std.proofs.Common.{◌≡◌, false, List, [], ◌∷◌, ◌++◌, Option, None, Some, refl, sym, ap}
-use Rattle.std.proofs.Common.{◌∙◌, subst}
+use Rattle.std.proofs.Common.{◌∙◌}
 use Rattle.std.specs.Prelude.{ℤ}
 use Rattle.std.proofs.lemmas.List.{append-nil, append_assoc}
 use Rattle.spf_feed.specs.declared.event.SessionEvent.TheVariants as events

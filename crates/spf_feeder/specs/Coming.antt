@@ -1,7 +1,6 @@
 -- What is still to come from a connector, where that is known, and from its link, and what the asks
 -- take of it.
-use Rattle.std.specs.Prelude.{◌≡◌, List, [], ◌∷◌, Option, None, Some, Result, Ok, Err}
-use Rattle.spf_api.specs.declared.link.ClientFault.{ClientFault}
+use Rattle.std.specs.Prelude.{◌≡◌, List, [], ◌∷◌, Option, None, Some, Ok, Err}
 use Rattle.spf_api.specs.declared.response.ResponseKind.TheVariants as kind
 use Rattle.spf_link.specs.Connecting.{Member, connected_by}
 use Rattle.spf_link.specs.Links.{rest_of, started_by, next_by}

@@ -1,7 +1,6 @@
 -- A feeder: a connector and its link, and the run of what they tell.
-use Rattle.std.specs.Prelude.{◌≡◌, Bool, true, false, List, ◌∷◌, [], ◌++◌, reverse, Option, None}
-use Rattle.std.specs.Prelude.{Some, Result, Ok, Err, ◌⊎◌, IfSome, IsErr}
-use Rattle.std.specs.Option.{ForSome}
+use Rattle.std.specs.Prelude.{◌≡◌, true, List, ◌∷◌, [], ◌++◌, reverse, Option, None}
+use Rattle.std.specs.Prelude.{Some, Result, Ok, Err, ◌⊎◌}
 use Rattle.spf_io.specs.declared.memory.OutOfMemory.{OutOfMemory}
 use Rattle.spf_api.specs.declared.response.ResponseKind.{ResponseKind}
 use Rattle.spf_api.specs.declared.response.ResponseKind.TheVariants as kind
@@ -18,9 +17,8 @@ use Rattle.spf_feed.specs.Run.{ask_of, stream}
 use Rattle.spf_feeder.specs.declared.session.Stop.{Stop}
 use Rattle.spf_feeder.specs.declared.session.Stop.TheVariants as stops
 use Rattle.spf_feeder.specs.Asking.{Asked, AsksOnce}
-use Rattle.spf_feeder.specs.Attempts.{attempt_end}
 use Rattle.spf_feeder.specs.Coming.{AllTold, Holds, left_after}
-use Rattle.spf_feeder.specs.Kept.{Advanced, Core, Stopped}
+use Rattle.spf_feeder.specs.Kept.{Advanced, Core}
 
 -- What contracts see of a feeder.
 pub record Fed (S L P M K : Type 0) : Type 0 where

@@ -1,5 +1,5 @@
 -- How an initial synchronisation may end.
-use Rattle.std.specs.Prelude.{◌≡◌, ℕ, ℤ, ◌≤ℤ◌, pos, List, Option, None, Some}
+use Rattle.std.specs.Prelude.{◌≡◌, ℕ, ℤ, ◌≤ℤ◌, pos, List, Option}
 use Rattle.std.specs.Option.{option_map}
 use Rattle.std.specs.declared.time.Duration.{Duration}
 use Rattle.spf_x509.specs.Svid.{Svid}

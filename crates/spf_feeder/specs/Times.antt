@@ -1,7 +1,6 @@
 -- The moments of an initial synchronisation, and its deadline.
 use Rattle.std.specs.Prelude.{◌≡◌, ℕ, ◌+◌, ◌-◌, ◌/◌, ◌^◌, min, ℤ, pos, nat_abs, List, [], ◌∷◌}
 use Rattle.std.specs.Prelude.{Option, None, Some, ◌++◌}
-use Rattle.std.specs.Option.{option_map}
 use Rattle.std.specs.Duration.{as_nanos}
 use Rattle.std.specs.declared.time.Duration.{Duration}
 use Rattle.spf_feed.specs.declared.event.SessionEvent.TheVariants as events

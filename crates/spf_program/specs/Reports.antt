@@ -1,5 +1,5 @@
 -- The exit status of a failure, and its line on the error output.
-use Rattle.std.specs.Prelude.{◌≡◌, ℕ, List, [], ◌∷◌, ◌++◌, codes, decimal, Option, None, Some}
+use Rattle.std.specs.Prelude.{ℕ, List, [], ◌∷◌, ◌++◌, codes, decimal, Option, None, Some}
 use Rattle.std.specs.Prelude.{Result}
 use Rattle.spf_io.specs.declared.memory.Failed.{Failed}
 use Rattle.spf_io.specs.Outside.{HasCause, PutAppends}

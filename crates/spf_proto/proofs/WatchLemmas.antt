@@ -4,7 +4,6 @@ use Rattle.std.proofs.Common.{[], ◌∷◌, length}
 use Rattle.std.proofs.Common.{Option, Some, None, Result, Ok, Err, inl, inr, refl, sym, ap, subst}
 use Rattle.std.proofs.Common.{arith}
 use Rattle.std.specs.Prelude.{ℤ, codes, ◌⊎◌, ◌↔◌, ◌==◌, IfSome}
-use Rattle.std.specs.Io.KnownBytes.{Appends}
 use Rattle.std.proofs.KnownBytes.{Appends-nil}
 use Rattle.spf_io.specs.declared.memory.Failed.{Failed}
 use Rattle.spf_io.specs.Outside.{HasCause, PutAppends, Rose}

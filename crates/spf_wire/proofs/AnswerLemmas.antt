@@ -1,7 +1,7 @@
 -- From the frame that was read, or the lack of one, to the answer.
-use Rattle.std.proofs.Common.{◌≡◌, ℕ, Bool, true, false, List, [], ◌∷◌, ◌++◌, Option, None, Some}
+use Rattle.std.proofs.Common.{◌≡◌, ℕ, Bool, true, false, List, [], ◌++◌, Option, None, Some}
 use Rattle.std.proofs.Common.{refl, sym, ap, ◌∙◌, subst}
-use Rattle.std.specs.Prelude.{IsTrue, IfSome}
+use Rattle.std.specs.Prelude.{IsTrue}
 use Rattle.std.proofs.lemmas.List.{append-nil}
 use Rattle.std.specs.Io.KnownBytes.{Consumes, IsAtEnd}
 use Rattle.spf_view.specs.Frames.{FitsFrame, raw_text, frame_front}
@@ -12,7 +12,7 @@ use Rattle.spf_frame.specs.declared.error.FrameError.TheVariants as errors
 use Rattle.spf_frame.specs.Parts.{NoPart}
 use Rattle.spf_frame.specs.Frames.{NoFrame, IsRead, IsUnread, Unread}
 use Rattle.spf_frame.proofs.Parts.{none_from_front, unread_as}
-use Rattle.spf_wire.specs.Answers.{Said, said_text, IsSaid, IsAnswered, IsMissed}
+use Rattle.spf_wire.specs.Answers.{said_text, IsSaid, IsAnswered, IsMissed}
 
 -- what a frame says, it says only by a kind that may stand
 abbrev pub Covers : {A : Type 0} → (ℕ → List ℕ → A → Type 0) → (ℕ → Bool) → Type 0

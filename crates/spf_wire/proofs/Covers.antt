@@ -1,7 +1,7 @@
 -- Answers are said by the kinds that may stand, and a
 -- payload of a kind lays out responses of that kind.
 use Rattle.std.proofs.Common.{◌≡◌, ℕ, Bool, true, false, List, Option, None, Some, refl, sym, ap}
-use Rattle.std.proofs.Common.{◌∙◌, subst}
+use Rattle.std.proofs.Common.{subst}
 use Rattle.std.specs.Prelude.{IsTrue, Result, Ok, Err, IfOk, IfSome, ◌||◌, ◌&&◌}
 use Rattle.spf_api.specs.Payload.{Payload, kind_of}
 use Rattle.spf_api.specs.declared.response.Response.{Response}

@@ -2,7 +2,7 @@
 use Rattle.std.proofs.Common.{◌≡◌, ℕ, Bool, List, [], ◌∷◌, ◌++◌, Option, None, Some, refl, sym, ap}
 use Rattle.std.proofs.Common.{◌∙◌, subst}
 use Rattle.std.specs.Prelude.{IsTrue, Result, Ok, Err}
-use Rattle.std.specs.List.{flat_map, AllByRecursion}
+use Rattle.std.specs.List.{AllByRecursion}
 use Rattle.std.proofs.lemmas.List.{append-nil}
 use Rattle.std.proofs.lemmas.List.Concat.{flat_map-cons, flat_map-append}
 use Rattle.std.specs.Io.KnownBytes.{Consumes}
@@ -12,7 +12,7 @@ use Rattle.spf_frame.specs.declared.error.FrameError.{FrameError}
 use Rattle.spf_frame.specs.declared.error.FrameError.TheVariants as errors
 use Rattle.spf_api.specs.Refused.{Refused}
 use Rattle.spf_wire.specs.Answers.{SaysAtStart, may_start, streams, IsAnswered, IsMissed}
-use Rattle.spf_wire.specs.Answers.{AnswerRead, IsPassed, passed_text, StartRead}
+use Rattle.spf_wire.specs.Answers.{IsPassed, passed_text, StartRead}
 
 -- what was taken so far are frames that are passed over
 pub record SoFar (again : Bool) (old now : Option (List ℕ)) : Type 0 where

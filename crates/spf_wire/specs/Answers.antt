@@ -1,6 +1,6 @@
 -- Answers of the wire: which frame says what, and what was taken where there is none.
-use Rattle.std.specs.Prelude.{◌≡◌, ℕ, Bool, true, false, ◌==◌, ◌||◌, ◌&&◌, IsTrue, List, [], ◌++◌}
-use Rattle.std.specs.Prelude.{length, Option, None, Some, IfSome, Result, Ok, Err}
+use Rattle.std.specs.Prelude.{◌≡◌, ℕ, Bool, ◌==◌, ◌||◌, ◌&&◌, IsTrue, List, []}
+use Rattle.std.specs.Prelude.{Option, None, Some, Result, Ok, Err}
 use Rattle.std.specs.List.{flat_map, AllByRecursion}
 use Rattle.std.specs.Io.KnownBytes.{Consumes}
 use Rattle.spf_view.specs.Frames.{FitsFrame, raw_text, frame_front}
@@ -8,7 +8,7 @@ use Rattle.spf_frame.specs.declared.frame_kind.TheConstants.{CONNECTED, CONNECT_
 use Rattle.spf_frame.specs.declared.frame_kind.TheConstants.{ITEM_STATUS, STREAM_END}
 use Rattle.spf_frame.specs.declared.error.FrameError.{FrameError}
 use Rattle.spf_frame.specs.declared.error.FrameError.TheVariants as errors
-use Rattle.spf_frame.specs.Parts.{PartFails, NoPart}
+use Rattle.spf_frame.specs.Parts.{PartFails}
 use Rattle.spf_frame.specs.Status.{status_at}
 use Rattle.spf_api.specs.Payload.{Payload}
 use Rattle.spf_api.specs.Refused.{Refused}

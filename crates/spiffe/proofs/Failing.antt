@@ -1,5 +1,5 @@
 -- Why an initial synchronisation fails.
-use Rattle.std.proofs.Common.{◌≡◌, Bool, true, false, List, Option, Result, Ok, Err, inl, refl, ℕ}
+use Rattle.std.proofs.Common.{◌≡◌, Bool, true, false, List, Option, Result, Err, inl, refl, ℕ}
 use Rattle.std.specs.Prelude.{MatchBool, if◌then◌else◌}
 use Rattle.spf_api.specs.declared.endpoint_error.EndpointError.{EndpointError}
 use Rattle.spf_api.specs.declared.error.WorkloadApiError.TheVariants as api

@@ -1,5 +1,5 @@
 -- What a supervisor leaves.
-use Rattle.std.proofs.Common.{◌≡◌, ℕ, List, [], ◌∷◌, ◌++◌, inl, inr, refl, sym, ap, ◌∙◌, subst}
+use Rattle.std.proofs.Common.{◌≡◌, inl, inr, ap, ◌∙◌}
 use Rattle.std.specs.Prelude.{◌⊎◌}
 use Rattle.logbook.specs.Pages.{Book}
 use Rattle.spf_feed.specs.Steps.{PlainStep}

@@ -1,5 +1,5 @@
 -- Handles of supervisors, and what a shutdown with a grace returns.
-use Rattle.std.specs.Prelude.{◌≡◌, ℕ, ℤ, ◌*◌, ◌-ℤ◌, Bool, true, false, nat_lt, int_lt, nat_abs}
+use Rattle.std.specs.Prelude.{◌≡◌, ℕ, ℤ, ◌*◌, ◌-ℤ◌, Bool, nat_lt, int_lt, nat_abs}
 use Rattle.std.specs.Prelude.{◌&&◌}
 use Rattle.std.specs.Prelude.{pos, List, Option, None, Some, Result, Ok, Err, if◌then◌else◌}
 use Rattle.std.specs.Duration.{as_nanos}

@@ -4,9 +4,7 @@ use Rattle.spf_feeder.specs.Kept.{rules_by}
 use Rattle.spf_feeder.specs.Pacing.{opens}
 use Rattle.spf_feeder.proofs.PaceLemmas.{paces_ended, paces_opened, paces_passed, shut_after}
 use Rattle.spf_feeder.proofs.PaceLemmas.{unopened}
-use Rattle.spf_feeder.proofs.supervisor.paced_ask.Goals.{}
 use Rattle.spf_feeder.proofs.supervisor.paced_ask.Goals.{else-not-was_synced-via-then-not-was_synced+else-is_synced}
-use Rattle.spf_feeder.proofs.supervisor.paced_ask.Goals.{}
 use Rattle.spf_feeder.proofs.supervisor.paced_ask.Goals.{else-not-was_synced-via-else-not-was_synced}
 use Rattle.spf_io.specs.declared.memory.OutOfMemory.{OutOfMemory}
 use Rattle.spf_feeder.proofs.OrderLemmas.{once_answers}

@@ -1,4 +1,4 @@
-use Rattle.std.proofs.Common.{rules, ◌≡◌, ◌∙◌, sym, subst}
+use Rattle.std.proofs.Common.{rules, ◌≡◌, ◌∙◌, sym}
 use Rattle.spf_feeder.specs.Kept.{rules_by}
 use Rattle.spf_feeder.proofs.PaceLemmas.{keeps_as}
 use Rattle.spf_feeder.proofs.OrderLemmas.{goes_further}

@@ -1,7 +1,5 @@
-use Rattle.std.proofs.Common.{sym, ◌∙◌, subst}
 use Rattle.std.proofs.lemmas.Result.{err_from_is_err_and}
 use Rattle.spf_wire.specs.Answers.{SaysAtStart, may_start}
-use Rattle.spf_wire.specs.Laid.{IsLaid}
 use Rattle.spf_wire.proofs.AnswerLemmas.{unread, ended, nothing, stopped, answered}
 use Rattle.spf_wire.proofs.Covers.{start_covers}
 use Rattle.spf_wire.proofs.answers.read_at_start.Goals as goal

@@ -1,7 +1,5 @@
-use Rattle.std.proofs.Common.{sym, ◌∙◌, subst}
 use Rattle.std.proofs.lemmas.Result.{err_from_is_err_and}
 use Rattle.spf_wire.specs.Answers.{SaysInStream, streams}
-use Rattle.spf_wire.specs.Laid.{IsLaid}
 use Rattle.spf_wire.proofs.AnswerLemmas.{unread, ended, nothing, stopped, answered}
 use Rattle.spf_wire.proofs.Covers.{stream_covers}
 use Rattle.spf_wire.proofs.answers.read_in_stream.Goals as goal

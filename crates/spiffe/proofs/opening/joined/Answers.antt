@@ -1,4 +1,4 @@
-use Rattle.std.proofs.Common.{◌≡◌, sym, ap, ◌∙◌}
+use Rattle.std.proofs.Common.{sym, ap, ◌∙◌}
 use Rattle.std.proofs.lemmas.Result.{err_from_is_err_and}
 use Rattle.spf_history.specs.Lists.{steps_of as board_steps}
 use Rattle.spiffe.proofs.Joining.{paces_as, steps_as, synced_as}

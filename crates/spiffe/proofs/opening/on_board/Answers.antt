@@ -1,4 +1,4 @@
-use Rattle.std.proofs.Common.{◌≡◌, [], ◌∷◌, sym, ap, ◌∙◌}
+use Rattle.std.proofs.Common.{sym, ap, ◌∙◌}
 use Rattle.spf_history.specs.Lists.{steps_of as board_steps}
 use Rattle.spiffe.proofs.opening.on_board.Goals as goal
 

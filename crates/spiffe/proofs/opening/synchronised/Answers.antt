@@ -1,4 +1,4 @@
-use Rattle.std.proofs.Common.{◌≡◌, sym, subst}
+use Rattle.std.proofs.Common.{sym, subst}
 use Rattle.spiffe.specs.Building.{SyncFails}
 use Rattle.spiffe.proofs.Failing.{refused_fails}
 use Rattle.spiffe.proofs.opening.synchronised.Goals as goal

@@ -1,4 +1,4 @@
-use Rattle.std.proofs.Common.{rules, ◌≡◌, false, refl, sym, ap, ◌∙◌, subst}
+use Rattle.std.proofs.Common.{◌≡◌, false, sym, ap, ◌∙◌}
 use Rattle.spf_feed.specs.Items.{Rules}
 use Rattle.spf_feeder.specs.Kept.{rules_by}
 use Rattle.spf_feeder.proofs.FeedLemmas.{stops_by, ready_of, stays_idle, tells_of}

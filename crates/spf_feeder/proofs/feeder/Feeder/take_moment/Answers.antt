@@ -1,4 +1,4 @@
-use Rattle.std.proofs.Common.{rules, ◌≡◌, false, sym, ap, ◌∙◌}
+use Rattle.std.proofs.Common.{◌≡◌, false, ap, ◌∙◌}
 use Rattle.spf_feed.specs.Items.{Rules}
 use Rattle.spf_feeder.specs.Kept.{rules_by}
 use Rattle.spf_feeder.proofs.FeedLemmas.{ready_still, stops_by, tells_still}

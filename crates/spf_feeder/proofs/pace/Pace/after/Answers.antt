@@ -1,4 +1,4 @@
-use Rattle.std.proofs.Common.{rules, refl, sym, ap, ◌∙◌}
+use Rattle.std.proofs.Common.{rules, refl, sym, ◌∙◌}
 use Rattle.spf_feeder.proofs.PaceLemmas.{after_growth, after_none}
 use Rattle.spf_feeder.proofs.pace.Pace.after.Goals as goal
 

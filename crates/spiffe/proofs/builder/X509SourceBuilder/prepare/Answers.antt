@@ -1,4 +1,4 @@
-use Rattle.std.proofs.Common.{◌≡◌, [], sym, ap, ◌∙◌, subst}
+use Rattle.std.proofs.Common.{[], sym, ap, ◌∙◌, subst}
 use Rattle.spf_feeder.specs.Opened.{HasDeadline}
 use Rattle.spf_feeder.specs.Times.{Gives}
 use Rattle.spiffe.specs.Building.{IsBuilt}
