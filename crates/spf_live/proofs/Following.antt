@@ -1,5 +1,6 @@
 -- A source is followed, closed and joined.
 use Rattle.std.proofs.Common.{◌≡◌, refl, subst, ℕ, true, List, Option, None, Some, Result, Ok}
+use Rattle.std.proofs.Common.{Err}
 use Rattle.std.specs.Prelude.{IfSome, IfOk}
 use mathlib.Core.List.{IsPrefix}
 use Rattle.spf_history.specs.Lists.{is_ended, steps_of}
@@ -13,7 +14,9 @@ use Rattle.spf_options.specs.Live.{LiveSetting}
 use Rattle.spf_live.specs.Printing.{Moments, PrintsTo, Seen}
 use Rattle.spf_live.specs.Runs.{Follows, IsSetTo, Runs}
 use Rattle.spf_live.specs.declared.error.LiveError.{LiveError}
-use Rattle.spf_live.proofs.Followed.{prints_until}
+use Rattle.spf_live.specs.declared.error.LiveError.TheVariants as errors
+use Rattle.spf_live.proofs.Followed.{prints_unrecorded, prints_until}
+use Rattle.spf_live.proofs.Printed.{prefix_self}
 use Rattle.spf_live.proofs.Recorded.{runs_by}
 
 -- of a connector of which nothing is known
@@ -46,7 +49,7 @@ untold_assigned members picks set connector clock clock' job is = record {
 }
 
 -- all lines are printed, and there is a record
-pub followed : {S K : Type 0} (members : S → Option (List Member))
+pub followed_by : {S K : Type 0} (members : S → Option (List Member))
     (picks : K → List Svid → Option ℕ) (job : Assigned S K) (count : ℕ)
     (clock clock' : Moments) (held held' : Option (List ℕ)) (r : Result (Unit {0}) LiveError)
     (done : Unit {0}) (seen last : Seen) (record' : Result (Recorded K) OutOfMemory)
@@ -55,8 +58,8 @@ pub followed : {S K : Type 0} (members : S → Option (List Member))
     → IsLeftBy members picks job left → IfOk record' (λ x. left.recorded ≡ Some x)
     → IfOk record' (IsRecord picks)
     → IfOk record' (λ x. (x.steps ≡ steps_of last) × (is_ended last ≡ true))
-    → Follows (λ connector. None) picks job count clock clock' held held' (Ok tt)
-followed {S} {K} members picks job count clock clock' held held' r done seen last record' found
+    → Follows members picks job count clock clock' held held' (Ok tt)
+followed_by {S} {K} members picks job count clock clock' held held' r done seen last record' found
     left is is' prints grows from recorded kept settled =
     let so = subst (λ (x : Result (Unit {0}) LiveError).
     PrintsTo seen count clock clock' held held' x) is prints in
@@ -70,7 +73,29 @@ followed {S} {K} members picks job count clock clock' held held' r done seen las
       first = so.0;
       last = last;
       prints = prints_until so.0 seen last count clock clock' held held' (Ok tt) so.1 grows;
-      recorded = (found, keeps, untold_of members picks job found of, ends.0);
+      recorded = (found, keeps, of, ends.0);
+    }
+
+-- the same over a connector of which nothing is known
+pub followed : {S K : Type 0} (members : S → Option (List Member))
+    (picks : K → List Svid → Option ℕ) (job : Assigned S K) (count : ℕ)
+    (clock clock' : Moments) (held held' : Option (List ℕ)) (r : Result (Unit {0}) LiveError)
+    (done : Unit {0}) (seen last : Seen) (record' : Result (Recorded K) OutOfMemory)
+    (found : Recorded K) (left : Left K) → r ≡ Ok done → record' ≡ Ok found
+    → PrintsTo seen count clock clock' held held' r → IsPrefix seen last
+    → IsLeftBy members picks job left → IfOk record' (λ x. left.recorded ≡ Some x)
+    → IfOk record' (IsRecord picks)
+    → IfOk record' (λ x. (x.steps ≡ steps_of last) × (is_ended last ≡ true))
+    → Follows (λ connector. None) picks job count clock clock' held held' (Ok tt)
+followed {S} {K} members picks job count clock clock' held held' r done seen last record' found
+    left is is' prints grows from recorded kept settled =
+    let f = followed_by members picks job count clock clock' held held' r done seen last record'
+    found left is is' prints grows from recorded kept settled in
+    let r = f.recorded in record {
+      first = f.first;
+      last = f.last;
+      prints = f.prints;
+      recorded = (r.0, r.1, untold_of members picks job r.0 r.2, r.3);
     }
 
 -- a source that was built by these arguments was followed by the handle of its job
@@ -89,3 +114,34 @@ runs_untold {S} {K} members picks setting set connector clock clock' held held' 
     runs_by (λ connector. None) picks setting set connector None None None held held' job r is
     (untold_assigned members picks set connector clock clock' job assigned)
     (subst (λ (n : ℕ). Follows (λ connector. None) picks job n None None held held' r) lines of_job)
+
+-- printing failed, whatever was recorded
+pub failed_follows : {S K : Type 0} (members : S → Option (List Member))
+    (picks : K → List Svid → Option ℕ) (job : Assigned S K) (count : ℕ)
+    (clock clock' : Moments) (held held' : Option (List ℕ)) (r : Result (Unit {0}) LiveError)
+    (e : LiveError) (seen : Seen) → r ≡ Err e → PrintsTo seen count clock clock' held held' r
+    → Follows members picks job count clock clock' held held' (Err e)
+failed_follows members picks job count clock clock' held held' r e seen is prints =
+    let so = subst (λ (x : Result (Unit {0}) LiveError).
+    PrintsTo seen count clock clock' held held' x) is prints in record {
+      first = so.0;
+      last = seen;
+      prints = so.1;
+      recorded = tt;
+    }
+
+-- all lines are printed, and then memory runs out
+pub unrecorded_follows : {S K : Type 0} (members : S → Option (List Member))
+    (picks : K → List Svid → Option ℕ) (job : Assigned S K) (count : ℕ)
+    (clock clock' : Moments) (held held' : Option (List ℕ)) (r : Result (Unit {0}) LiveError)
+    (done : Unit {0}) (seen : Seen) → r ≡ Ok done → PrintsTo seen count clock clock' held held' r
+    → Follows members picks job count clock clock' held held' (Err errors.OutOfMemory)
+unrecorded_follows members picks job count clock clock' held held' r done seen is prints =
+    let so = subst (λ (x : Result (Unit {0}) LiveError).
+    PrintsTo seen count clock clock' held held' x) is prints in record {
+      first = so.0;
+      last = seen;
+      prints = prints_unrecorded so.0 seen seen count clock clock' held held' so.1
+          (prefix_self seen);
+      recorded = tt;
+    }

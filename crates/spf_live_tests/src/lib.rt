@@ -1,0 +1,5 @@
+//! Tests of live runs over doubles.
+#![tactic(auto)]
+
+#[cfg(test)]
+mod live;
