@@ -111,12 +111,12 @@ pub record IsBuilt {S K : Type 0} (picks : K → List Svid → Option ℕ) (sour
 
 -- ---- by a builder on which nothing was set
 
--- what is left to the supervisor of a connector to sockets, of which nobody knows what it will give
-abbrev pub IsAssignedByDefault : {S K : Type 0} → (K → List Svid → Option ℕ)
+-- what is left to the supervisor of such a connector, of which nobody knows what it will give
+abbrev pub IsAssignedByDefault : {S K : Type 0} → (S → Type 0) → (K → List Svid → Option ℕ)
     → Option (List (Option ℤ)) → Option (List (Option ℤ)) → Assigned S K → Type 0
-IsAssignedByDefault {S} {K} picks clock clock' job =
-    (set : Settings K) × IsDefault set
-    × ((connector : S) × IsAssigned (λ _. None) picks set connector clock clock' job)
+IsAssignedByDefault {S} {K} is_connector picks clock clock' job =
+    (set : Settings K) × (connector : S) × IsDefault set × is_connector connector
+    × IsAssigned (λ _. None) picks set connector clock clock' job
 
 abbrev pub FailsByDefault : {K : Type 0} → (K → List Svid → Option ℕ) → ℕ → ℕ → ℕ → ℕ
     → X509SourceError → Type 0

@@ -88,9 +88,8 @@ impl X509Source {
         ensures built { IfOk result (λ r. IsBuilt (⟦<NoPicker as SvidPicker>⟧.picks) r.0 r.1
             r.2.cell r.2.job) }
         ensures assigned { IfOk result (λ r. IsAssignedByDefault
-            (⟦<NoPicker as SvidPicker>⟧.picks) (T.moments clock.old) (T.moments clock.new)
-            r.2.job) }
-        ensures environment { IfOk result (λ r. r.2.job.first.environment ≡ environment) }
+            (λ c. c.environment ≡ environment) (⟦<NoPicker as SvidPicker>⟧.picks)
+            (T.moments clock.old) (T.moments clock.new) r.2.job) }
         ensures failed { IfErr result (FailsByDefault (⟦<NoPicker as SvidPicker>⟧.picks)
             (L.refusals places.old) (L.refusals places.new) (S.refusals spawner.old)
             (S.refusals spawner.new)) }
