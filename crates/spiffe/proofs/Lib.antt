@@ -1,6 +1,6 @@
+mod Reading
 pub mod Failing
 pub mod Joining
 pub mod Leaving
-mod Reading
-pub mod Sockets
 pub mod Tasks
+pub mod Untold
