@@ -11,5 +11,5 @@ pub returns-in-Ok-clause-assigned : goal.returns-in-Ok-clause-assigned
 returns-in-Ok-clause-assigned g c =
     assigned_as _ _ _ _ _ _ _ _ _ (c.started.ensures.0 ∙ c.in-Ok.ensures.1)
     c.builder.ensures.settings
-    (ap (λ x. x.environment) c.builder.ensures.connector ∙ c.new.ensures.environment)
+    (ap (λ x. x.environment) c.builder.ensures.connector ∙ c.new-connector.ensures.environment)
     c.in_ok-source.ensures.assigned
