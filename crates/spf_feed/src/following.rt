@@ -271,6 +271,7 @@ fn deny<P: Publisher, M: MetricsRecorder>(
 }
 
 /// Does what an event does, and says whether the snapshot changed.
+#[inline(always)]
 fn take<P: Publisher, M: MetricsRecorder>(
     alloc: Global,
     publisher: &mut P,

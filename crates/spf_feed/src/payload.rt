@@ -2,7 +2,8 @@
 
 ghost use Rattle.std.specs.Prelude.{◌≡◌, IfOk};
 ghost use Rattle.std.specs.Option.{option_map};
-ghost use Rattle.spf_feed.specs.Events.{failure_at, moment_at, event_at};
+ghost use Rattle.spf_feed.specs.declared.event.SessionEvent.TheVariants as events;
+ghost use Rattle.spf_feed.specs.Events.{failure_at, moment_at, status_at, event_at};
 ghost use Rattle.spf_feed.specs.Items.{item_at, IsReceived};
 ghost use Rattle.spf_feed.specs.Events as spec;
 
@@ -81,6 +82,42 @@ fn item_in(
     Ok(Some(received(context)?))
 }
 
+/// The event of an item.
+#[inline(never)]
+fn item_event(
+    alloc: Global,
+    payload: &[u8],
+    held: Option<&X509Context>,
+) -> Result<Option<Received>, OutOfMemory>
+    ensures { IfOk result (λ o. o ≡ option_map events.Item (item_at payload.now)) }
+{
+    Ok(item_in(alloc, payload, held)?.map(Received::Item))
+}
+
+/// The event of a client that failed.
+#[inline(never)]
+fn client_failure(alloc: Global, payload: &[u8]) -> Result<Option<Received>, OutOfMemory>
+    ensures { IfOk result (λ o. o ≡ option_map events.ClientFailed (failure_at payload.now)) }
+{
+    Ok(failure_in(alloc, payload)?.map(Received::ClientFailed))
+}
+
+/// The event of a connection's status.
+#[inline(never)]
+fn connect_status(alloc: Global, payload: &[u8]) -> Result<Option<Received>, OutOfMemory>
+    ensures { IfOk result (λ o. o ≡ option_map events.ConnectStatus (status_at payload.now)) }
+{
+    Ok(read_status(alloc, payload)?.map(Received::ConnectStatus))
+}
+
+/// The event of an item's status.
+#[inline(never)]
+fn item_status(alloc: Global, payload: &[u8]) -> Result<Option<Received>, OutOfMemory>
+    ensures { IfOk result (λ o. o ≡ option_map events.ItemStatus (status_at payload.now)) }
+{
+    Ok(read_status(alloc, payload)?.map(Received::ItemStatus))
+}
+
 /// The event, where the payload is empty.
 fn when_empty(payload: &[u8], event: Received) -> Option<Received>
     ensures { result ≡ spec.when_empty payload.now event }
@@ -93,6 +130,7 @@ fn when_empty(payload: &[u8], event: Received) -> Option<Received>
 }
 
 /// The event that a frame lays out, where `held` is the context that is held.
+#[inline(always)]
 #[tactic(auto, unfolding(crate::specs::Events::event_at))]
 pub(crate) fn event_in(
     alloc: Global,
@@ -104,11 +142,11 @@ pub(crate) fn event_in(
 {
     match kind {
         CLIENT_MADE => Ok(when_empty(payload, Received::ClientMade)),
-        CLIENT_FAILED => Ok(failure_in(alloc, payload)?.map(Received::ClientFailed)),
+        CLIENT_FAILED => client_failure(alloc, payload),
         CONNECTED => Ok(when_empty(payload, Received::Connected)),
-        CONNECT_STATUS => Ok(read_status(alloc, payload)?.map(Received::ConnectStatus)),
-        ITEM => Ok(item_in(alloc, payload, held)?.map(Received::Item)),
-        ITEM_STATUS => Ok(read_status(alloc, payload)?.map(Received::ItemStatus)),
+        CONNECT_STATUS => connect_status(alloc, payload),
+        ITEM => item_event(alloc, payload, held),
+        ITEM_STATUS => item_status(alloc, payload),
         STREAM_END => Ok(when_empty(payload, Received::StreamEnd)),
         MOMENT => Ok(moment_in(payload).map(Received::Moment)),
         CLOSE => Ok(when_empty(payload, Received::Close)),
