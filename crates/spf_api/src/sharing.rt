@@ -70,6 +70,7 @@ fn parse_shared(
 }
 
 /// Whether the SVID was read from the bytes of the entry.
+#[inline(always)]
 #[tactic(auto, unfolding(crate::specs::Parsed::svid_of_entry))]
 fn is_svid_of(svid: &X509Svid, entry: &SvidEntryView<'_>) -> bool
     ensures { IsTrue result → svid_of_entry (svid_entry_of entry.now) ≡ Ok svid.now }

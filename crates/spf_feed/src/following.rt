@@ -331,6 +331,7 @@ fn at_end(snapshot: &Option<Snapshot>, count: u64) -> Result<u64, FollowError>
 }
 
 /// Shows the snapshot in the line, where there is one.
+#[inline(always)]
 fn show(
     line: &mut NumberedLine,
     snapshot: &Option<Snapshot>,

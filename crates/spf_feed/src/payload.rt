@@ -5,7 +5,6 @@ ghost use Rattle.std.specs.Option.{option_map};
 ghost use Rattle.spf_feed.specs.declared.event.SessionEvent.TheVariants as events;
 ghost use Rattle.spf_feed.specs.Events.{failure_at, moment_at, status_at, event_at};
 ghost use Rattle.spf_feed.specs.Items.{item_at, IsReceived};
-ghost use Rattle.spf_feed.specs.Events as spec;
 
 use crate::event::SessionEvent;
 use spf_api::{ClientFault, WorkloadApiError, context_from_view_sharing, read_context_view};
@@ -118,17 +117,6 @@ fn item_status(alloc: Global, payload: &[u8]) -> Result<Option<Received>, OutOfM
     Ok(read_status(alloc, payload)?.map(Received::ItemStatus))
 }
 
-/// The event, where the payload is empty.
-fn when_empty(payload: &[u8], event: Received) -> Option<Received>
-    ensures { result ≡ spec.when_empty payload.now event }
-{
-    if payload.is_empty() {
-        Some(event)
-    } else {
-        None
-    }
-}
-
 /// The event that a frame lays out, where `held` is the context that is held.
 #[inline(always)]
 #[tactic(auto, unfolding(crate::specs::Events::event_at))]
@@ -141,15 +129,15 @@ pub(crate) fn event_in(
     ensures { IfOk result (λ o. o ≡ event_at item_at kind payload.now) }
 {
     match kind {
-        CLIENT_MADE => Ok(when_empty(payload, Received::ClientMade)),
+        CLIENT_MADE if payload.is_empty() => Ok(Some(Received::ClientMade)),
         CLIENT_FAILED => client_failure(alloc, payload),
-        CONNECTED => Ok(when_empty(payload, Received::Connected)),
+        CONNECTED if payload.is_empty() => Ok(Some(Received::Connected)),
         CONNECT_STATUS => connect_status(alloc, payload),
         ITEM => item_event(alloc, payload, held),
         ITEM_STATUS => item_status(alloc, payload),
-        STREAM_END => Ok(when_empty(payload, Received::StreamEnd)),
+        STREAM_END if payload.is_empty() => Ok(Some(Received::StreamEnd)),
         MOMENT => Ok(moment_in(payload).map(Received::Moment)),
-        CLOSE => Ok(when_empty(payload, Received::Close)),
+        CLOSE if payload.is_empty() => Ok(Some(Received::Close)),
         _ => Ok(None),
     }
 }
