@@ -67,7 +67,8 @@ svid_of chain key hint = do
   parts ← broken_as svid_of_certificate (chain_rule chain)
   svid_of_parts key hint parts
 
--- certificates that may stand after a leaf: as they are read, each keeps the rule of an intermediate
+-- certificates that may stand after a leaf: they are read, and each keeps
+-- the rule of an intermediate
 pub record MayFollowLeaf (certificates : List (List ℕ)) : Type 0 where
   pub parts : List (Parts × List ℕ)
   pub are : texts parts ≡ certificates

@@ -14,6 +14,8 @@ returns c =
     let decides =
     leaf_decides c.in-Some.leaf.now c.in-Ok.scan c.intermediates-others.result.now key c.args.hint
     c.in-Ok.ensures.text c.intermediates-others.ensures in
-    subst (λ (rule : Result Svid X509SvidError). Gives is_memory_svid arc_value c.with_leaf.result rule)
+    subst
+    (λ (rule : Result Svid X509SvidError).
+    Gives is_memory_svid arc_value c.with_leaf.result rule)
     (sym (ap (λ (z : List ℕ). svid_of z key c.args.hint) c.in-Some.ensures ∙ decides))
     c.with_leaf.ensures
