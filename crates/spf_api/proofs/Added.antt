@@ -140,10 +140,16 @@ placed_all rule xs i svids old now placed le =
     ∙ (λ k. Ok (sym placed.brought.are k, sym placed.stand k))
 
 -- what was read, where it was
-read_ok : {A B E : Type 0} (f : A → B) (r : Result A E) (y : B) → read_as f r ≡ Ok y
+pub read_ok : {A B E : Type 0} (f : A → B) (r : Result A E) (y : B) → read_as f r ≡ Ok y
     → (x : A) × (r ≡ Ok x) × (f x ≡ y)
 read_ok f (Ok x) y is = (x, refl, cc)
 read_ok f (Err e) y is = absurd cc
+
+-- why nothing was read
+pub read_err : {A B E : Type 0} (f : A → B) (r : Result A E) (e : E) → read_as f r ≡ Err e
+    → r ≡ Err e
+read_err f (Ok x) e is = absurd cc
+read_err f (Err d) e is = let same : d ≡ e = cc in ap Err same
 
 -- the context of a response
 pub parsed_is : (r : ContextResponse) (svids : List Svid) (own all : Set)

@@ -5,7 +5,7 @@ use Rattle.std.specs.Str.{bytes_eq}
 use Rattle.spf_io.specs.Rule.{◌>>=◌, broken_as, each}
 use Rattle.spf_id.specs.Rule.{name_rule}
 use Rattle.spf_x509.specs.Svid.{Svid}
-use Rattle.spf_x509.specs.Bundle.{Bundle, with_bundles}
+use Rattle.spf_x509.specs.Bundle.{Bundle, with_bundles, with_entry}
 use Rattle.spf_x509.specs.Context.{Context}
 use Rattle.spf_x509.specs.Chain.{authorities_rule, svid_of}
 use Rattle.spf_x509.specs.BundleRule.{bundle_of}
@@ -92,6 +92,14 @@ bundles_in materials = map (λ (m : Svid × Bundle). m.1) materials
 abbrev pub brought_to : List (List ℕ × Bundle) → List (Svid × Bundle)
     → List Svid × List (List ℕ × Bundle)
 brought_to set materials = (svids_in materials, with_bundles set (bundles_in materials))
+
+-- the set with one more bundle
+abbrev pub with_bundle : List (List ℕ × Bundle) → Bundle → List (List ℕ × Bundle)
+with_bundle set bundle = with_entry set bundle.domain bundle
+
+-- an SVID that was brought, and the set with its bundle added
+abbrev pub with_material : List (List ℕ × Bundle) → Svid × Bundle → Svid × List (List ℕ × Bundle)
+with_material set material = (material.0, with_bundle set material.1)
 
 -- the last of the bundles of that trust domain
 abbrev pub last_for : List ℕ → List Bundle → Option Bundle

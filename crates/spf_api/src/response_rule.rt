@@ -9,6 +9,7 @@ ghost use Rattle.spf_api.specs.Views.{svid_entry_of, bundle_entry_of, context_of
 ghost use Rattle.spf_api.specs.Parsed.{required, bundle_required, fields_required, kept_by_each};
 ghost use Rattle.spf_api.specs.Parsed.{entries_rule};
 ghost use Rattle.spf_api.specs.Parsed.{svid_and_bundle_of, named_bundle_of, svids_in, brought_to};
+ghost use Rattle.spf_api.specs.Parsed.{bundle_for, with_bundle, with_material};
 ghost use Rattle.spf_api.specs.Parsed.{read_as, parsed_of, svids_of, first_svid_of, bundle_set_of};
 
 use crate::entry::{to_entries, views_of};
@@ -16,7 +17,9 @@ use crate::error::WorkloadApiError;
 use crate::response::{
     BundleEntryView, BundlesResponse, ContextResponse, ContextView, SvidEntry, SvidEntryView,
 };
-use crate::sharing::{held_svid, parse_bundle, parse_svid, shared_bundle, shared_svid};
+use crate::sharing::{
+    held_svid, known_svid, near_svid, parse_bundle, parse_svid, shared_bundle, shared_svid,
+};
 use crate::views::context_view;
 use spf_id::TrustDomain;
 use spf_io::{OutOfMemory, Text};
@@ -100,25 +103,44 @@ fn held_bundle<'a>(
     held?.bundle_set().get_ref(trust_domain)
 }
 
-/// The SVID of an entry, and the bundle of its trust domain.
-/// The entries before it most often have the same bundle.
-#[tactic(auto, unfolding(crate::specs::Parsed::svid_and_bundle_of))]
+/// Adds the bundle of a trust domain to the set. The
+/// entries before most often have the same bundle.
+fn add_bundle(
+    alloc: Global,
+    trust_domain: &TrustDomain,
+    der: &[u8],
+    bundles: &mut X509BundleSet,
+    held: Option<&X509Context>,
+) -> Result<(), WorkloadApiError>
+    ensures { Gives is_memory_api (λ _. bundles.new) result
+        (read_as (with_bundle bundles.old) (bundle_for trust_domain.now der.now)) }
+{
+    if bundles.holds_parsed(trust_domain, der) {
+        return Ok(());
+    }
+    let held = held_bundle(held, trust_domain);
+    let bundle = shared_bundle(alloc, trust_domain, der, held)?;
+    bundles.add_shared(bundle)?;
+    Ok(())
+}
+
+/// The SVID of an entry. The bundle of its trust domain is added to the set.
 fn shared_material(
     alloc: Global,
     entry: &SvidEntryView<'_>,
-    index: usize,
-    bundles: &X509BundleSet,
+    svids: &[Arc<X509Svid>],
+    bundles: &mut X509BundleSet,
     held: Option<&X509Context>,
-) -> Result<(Arc<X509Svid>, Arc<X509Bundle>), WorkloadApiError>
-    ensures { Gives is_memory_api (λ m. (arc_value m.0, arc_value m.1)) result
-        (svid_and_bundle_of (svid_entry_of entry.now)) }
+) -> Result<Arc<X509Svid>, WorkloadApiError>
+    ensures { Gives is_memory_api (λ svid. (arc_value svid, bundles.new)) result
+        (read_as (with_material bundles.old) (svid_and_bundle_of (svid_entry_of entry.now))) }
 {
-    let svid = shared_svid(alloc, entry, held_svid(held, index, entry))?;
+    let same = held_svid(held, svids.len(), entry);
+    let (near, known) = (near_svid(svids, held), known_svid(held, svids.len()));
+    let svid = shared_svid(alloc, entry, same, near, known)?;
     let trust_domain = svid.spiffe_id().trust_domain();
-    let near = bundles.get_ref(trust_domain);
-    let held = held_bundle(held, trust_domain);
-    let bundle = shared_bundle(alloc, trust_domain, entry.bundle, near, held)?;
-    Ok((svid, bundle))
+    add_bundle(alloc, trust_domain, entry.bundle, bundles, held)?;
+    Ok(svid)
 }
 
 /// The SVIDs in order. Their bundles are added to the set.
@@ -134,8 +156,7 @@ fn shared_svids(
 {
     let mut svids = Vec::new(alloc);
     for entry in entries {
-        let (svid, bundle) = shared_material(alloc, entry, svids.len(), bundles, held)?;
-        bundles.add_shared(bundle)?;
+        let svid = shared_material(alloc, entry, svids.as_slice(), bundles, held)?;
         svids.push(svid)?;
     }
     Ok(svids)
@@ -152,7 +173,7 @@ fn named_bundle(
 {
     let trust_domain = TrustDomain::new(alloc, entry.name)?;
     let held = held_bundle(held, &trust_domain);
-    shared_bundle(alloc, &trust_domain, entry.bundle, None, held)
+    shared_bundle(alloc, &trust_domain, entry.bundle, held)
 }
 
 fn add_named(

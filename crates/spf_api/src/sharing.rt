@@ -47,7 +47,30 @@ pub(crate) fn parse_svid(
     Ok(X509Svid::parse_from_der_with_hint(alloc, entry.x509_svid, entry.x509_svid_key, hint)?)
 }
 
+/// Reads the SVID of an entry. Certificates after the leaf that
+/// are those of `near`, and the ID of `known`, are not read again.
+#[tactic(auto, unfolding(crate::specs::Parsed::svid_of_entry))]
+fn parse_shared(
+    alloc: Global,
+    entry: &SvidEntryView<'_>,
+    near: Option<&X509Svid>,
+    known: Option<&X509Svid>,
+) -> Result<Arc<X509Svid>, WorkloadApiError>
+    ensures { Gives is_memory_api arc_value result (svid_of_entry (svid_entry_of entry.now)) }
+{
+    let hint = owned_hint(alloc, hint_of(entry.hint))?;
+    Ok(X509Svid::parse_shared(
+        alloc,
+        entry.x509_svid,
+        entry.x509_svid_key,
+        hint,
+        near,
+        known,
+    )?)
+}
+
 /// Whether the SVID was read from the bytes of the entry.
+#[inline(always)]
 #[tactic(auto, unfolding(crate::specs::Parsed::svid_of_entry))]
 fn is_svid_of(svid: &X509Svid, entry: &SvidEntryView<'_>) -> bool
     ensures { IsTrue result → svid_of_entry (svid_entry_of entry.now) ≡ Ok svid.now }
@@ -56,6 +79,7 @@ fn is_svid_of(svid: &X509Svid, entry: &SvidEntryView<'_>) -> bool
 }
 
 /// Returns the SVID, where it was read from the bytes of the entry.
+#[inline(always)]
 fn read_from<'a>(
     svid: Option<&'a Arc<X509Svid>>,
     entry: &SvidEntryView<'_>,
@@ -93,21 +117,44 @@ pub(crate) fn held_svid<'a>(
     read_from(svids.get(index.saturating_sub(1)), entry)
 }
 
-/// Returns the SVID of an entry, which is `held` where that is given.
+/// Returns the last of the SVIDs, or else the first of the held context. What
+/// stands after its leaf stands after the leaf of the next SVID most often too.
+pub(crate) fn near_svid<'a>(
+    svids: &'a [Arc<X509Svid>],
+    held: Option<&'a X509Context>,
+) -> Option<&'a X509Svid> {
+    match svids.last() {
+        Some(svid) => Some(svid),
+        None => match held?.svids().first() {
+            Some(svid) => Some(svid),
+            None => None,
+        },
+    }
+}
+
+/// Returns the SVID of the held context at that index, which most often has the same ID.
+pub(crate) fn known_svid<'a>(held: Option<&'a X509Context>, index: usize) -> Option<&'a X509Svid> {
+    match held?.svids().get(index) {
+        Some(svid) => Some(svid),
+        None => None,
+    }
+}
+
+/// Returns the SVID of an entry, which is `held` where that is given. Certificates
+/// after its leaf that are those of `near`, and the ID of `known`, are not read again.
 pub(crate) fn shared_svid(
     alloc: Global,
     entry: &SvidEntryView<'_>,
     held: Option<&Arc<X509Svid>>,
+    near: Option<&X509Svid>,
+    known: Option<&X509Svid>,
 ) -> Result<Arc<X509Svid>, WorkloadApiError>
     requires { IfSome held (λ s. svid_of_entry (svid_entry_of entry.now) ≡ Ok (arc_value s.now)) }
     ensures { Gives is_memory_api arc_value result (svid_of_entry (svid_entry_of entry.now)) }
 {
     match held {
         Some(held) => Ok(Arc::try_clone(held)?),
-        None => {
-            let svid = parse_svid(alloc, entry)?;
-            Ok(Arc::new(alloc, svid)?)
-        }
+        None => parse_shared(alloc, entry, near, known),
     }
 }
 
@@ -143,21 +190,17 @@ fn share_of(
     Ok(Some(Arc::try_clone(bundle)?))
 }
 
-/// Returns the bundle of a trust domain, which is one of
-/// the two others where that was read from the same bytes.
+/// Returns the bundle of a trust domain, which is
+/// the held one where that was read from the same bytes.
 #[tactic(auto, unfolding(crate::specs::Parsed::bundle_for))]
 pub(crate) fn shared_bundle(
     alloc: Global,
     trust_domain: &TrustDomain,
     der: &[u8],
-    near: Option<&Arc<X509Bundle>>,
     held: Option<&Arc<X509Bundle>>,
 ) -> Result<Arc<X509Bundle>, WorkloadApiError>
     ensures { Gives is_memory_api arc_value result (bundle_for trust_domain.now der.now) }
 {
-    if let Some(bundle) = share_of(near, trust_domain, der)? {
-        return Ok(bundle);
-    }
     if let Some(bundle) = share_of(held, trust_domain, der)? {
         return Ok(bundle);
     }

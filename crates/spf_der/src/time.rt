@@ -94,7 +94,7 @@ fn clock(year: u16, bytes: &[u8]) -> Option<DateTime>
 }
 
 /// UTCTime (section 4.1.2.5.1): a year of two digits, from 1950 to 2049.
-#[inline(never)]
+#[inline(always)]
 #[tactic(auto, unfolding(crate::specs::Time::utc_time))]
 fn utc_time(contents: &[u8]) -> Option<DateTime>
     ensures { option_map unix_second result ≡ spec.utc_time contents.now }

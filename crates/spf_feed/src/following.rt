@@ -271,6 +271,7 @@ fn deny<P: Publisher, M: MetricsRecorder>(
 }
 
 /// Does what an event does, and says whether the snapshot changed.
+#[inline(always)]
 fn take<P: Publisher, M: MetricsRecorder>(
     alloc: Global,
     publisher: &mut P,
@@ -330,6 +331,7 @@ fn at_end(snapshot: &Option<Snapshot>, count: u64) -> Result<u64, FollowError>
 }
 
 /// Shows the snapshot in the line, where there is one.
+#[inline(always)]
 fn show(
     line: &mut NumberedLine,
     snapshot: &Option<Snapshot>,

@@ -2,9 +2,9 @@
 
 ghost use Rattle.std.specs.Prelude.{◌≡◌, IfOk};
 ghost use Rattle.std.specs.Option.{option_map};
-ghost use Rattle.spf_feed.specs.Events.{failure_at, moment_at, event_at};
+ghost use Rattle.spf_feed.specs.declared.event.SessionEvent.TheVariants as events;
+ghost use Rattle.spf_feed.specs.Events.{failure_at, moment_at, status_at, event_at};
 ghost use Rattle.spf_feed.specs.Items.{item_at, IsReceived};
-ghost use Rattle.spf_feed.specs.Events as spec;
 
 use crate::event::SessionEvent;
 use spf_api::{ClientFault, WorkloadApiError, context_from_view_sharing, read_context_view};
@@ -81,18 +81,44 @@ fn item_in(
     Ok(Some(received(context)?))
 }
 
-/// The event, where the payload is empty.
-fn when_empty(payload: &[u8], event: Received) -> Option<Received>
-    ensures { result ≡ spec.when_empty payload.now event }
+/// The event of an item.
+#[inline(never)]
+fn item_event(
+    alloc: Global,
+    payload: &[u8],
+    held: Option<&X509Context>,
+) -> Result<Option<Received>, OutOfMemory>
+    ensures { IfOk result (λ o. o ≡ option_map events.Item (item_at payload.now)) }
 {
-    if payload.is_empty() {
-        Some(event)
-    } else {
-        None
-    }
+    Ok(item_in(alloc, payload, held)?.map(Received::Item))
+}
+
+/// The event of a client that failed.
+#[inline(never)]
+fn client_failure(alloc: Global, payload: &[u8]) -> Result<Option<Received>, OutOfMemory>
+    ensures { IfOk result (λ o. o ≡ option_map events.ClientFailed (failure_at payload.now)) }
+{
+    Ok(failure_in(alloc, payload)?.map(Received::ClientFailed))
+}
+
+/// The event of a connection's status.
+#[inline(never)]
+fn connect_status(alloc: Global, payload: &[u8]) -> Result<Option<Received>, OutOfMemory>
+    ensures { IfOk result (λ o. o ≡ option_map events.ConnectStatus (status_at payload.now)) }
+{
+    Ok(read_status(alloc, payload)?.map(Received::ConnectStatus))
+}
+
+/// The event of an item's status.
+#[inline(never)]
+fn item_status(alloc: Global, payload: &[u8]) -> Result<Option<Received>, OutOfMemory>
+    ensures { IfOk result (λ o. o ≡ option_map events.ItemStatus (status_at payload.now)) }
+{
+    Ok(read_status(alloc, payload)?.map(Received::ItemStatus))
 }
 
 /// The event that a frame lays out, where `held` is the context that is held.
+#[inline(always)]
 #[tactic(auto, unfolding(crate::specs::Events::event_at))]
 pub(crate) fn event_in(
     alloc: Global,
@@ -103,15 +129,15 @@ pub(crate) fn event_in(
     ensures { IfOk result (λ o. o ≡ event_at item_at kind payload.now) }
 {
     match kind {
-        CLIENT_MADE => Ok(when_empty(payload, Received::ClientMade)),
-        CLIENT_FAILED => Ok(failure_in(alloc, payload)?.map(Received::ClientFailed)),
-        CONNECTED => Ok(when_empty(payload, Received::Connected)),
-        CONNECT_STATUS => Ok(read_status(alloc, payload)?.map(Received::ConnectStatus)),
-        ITEM => Ok(item_in(alloc, payload, held)?.map(Received::Item)),
-        ITEM_STATUS => Ok(read_status(alloc, payload)?.map(Received::ItemStatus)),
-        STREAM_END => Ok(when_empty(payload, Received::StreamEnd)),
+        CLIENT_MADE if payload.is_empty() => Ok(Some(Received::ClientMade)),
+        CLIENT_FAILED => client_failure(alloc, payload),
+        CONNECTED if payload.is_empty() => Ok(Some(Received::Connected)),
+        CONNECT_STATUS => connect_status(alloc, payload),
+        ITEM => item_event(alloc, payload, held),
+        ITEM_STATUS => item_status(alloc, payload),
+        STREAM_END if payload.is_empty() => Ok(Some(Received::StreamEnd)),
         MOMENT => Ok(moment_in(payload).map(Received::Moment)),
-        CLOSE => Ok(when_empty(payload, Received::Close)),
+        CLOSE if payload.is_empty() => Ok(Some(Received::Close)),
         _ => Ok(None),
     }
 }

@@ -1,4 +1,4 @@
-ghost use Rattle.std.specs.Prelude.{◌≡◌, IfOk};
+ghost use Rattle.std.specs.Prelude.{◌≡◌, IfOk, IsTrue, codes};
 ghost use Rattle.spf_io.specs.Rule.{Gives};
 ghost use Rattle.spf_id.specs.Id.{id_text};
 ghost use Rattle.spf_id.specs.Rule.{is_memory, id_rule, has_spiffe_scheme};
@@ -40,12 +40,24 @@ impl Model for SpiffeId {
     ghost inverse_ok = { λ a h. (λ i. record { text = sym h.text i; domain = a.domain }) };
 }
 
+/// Whether the octets are `spiffe:`, as they most often are.
+#[inline(always)]
+fn is_lower_case_scheme(octets: &[u8]) -> bool
+    ensures { IsTrue result → octets.now ≡ codes "spiffe:" }
+{
+    matches!(octets, [b's', b'p', b'i', b'f', b'f', b'e', b':'])
+}
+
 /// Whether a URI begins with `spiffe:`, ASCII case apart.
 #[tactic(auto, unfolding(crate::specs::Rule::has_spiffe_scheme))]
 pub fn uri_has_spiffe_scheme(uri: &str) -> bool
     ensures { result ≡ has_spiffe_scheme uri.now }
 {
-    uri.len() >= 7 && uri.as_bytes()[..7].eq_ignore_ascii_case(b"spiffe:")
+    if uri.len() < 7 {
+        return false;
+    }
+    let scheme = &uri.as_bytes()[..7];
+    is_lower_case_scheme(scheme) || scheme.eq_ignore_ascii_case(b"spiffe:")
 }
 
 impl SpiffeId {

@@ -145,7 +145,7 @@ certs_count (x ∷ xs) b (parts, others, cut, text, rest) =
       certs_count xs others rest,
     )
 
-step : {A E : Type 0} (one : List ℕ → Result (A × List ℕ) E) (spent : E) (n : ℕ) (b : List ℕ)
+pub step : {A E : Type 0} (one : List ℕ → Result (A × List ℕ) E) (spent : E) (n : ℕ) (b : List ℕ)
     (x : A) (after : List ℕ) (ys : List A)
     → 0 < length b → one b ≡ Ok (x, after) → many one spent n after ≡ Ok ys
     → many one spent (suc n) b ≡ Ok (x ∷ ys)
@@ -301,7 +301,7 @@ pub record Kept (key : List ℕ) (hint : Option (List ℕ)) (parts : List (Parts
   pub key_is : key ≡ svid.key
   pub hint_is : hint ≡ svid.hint
 
-kept_of : (key : List ℕ) (hint : Option (List ℕ)) (parts : List (Parts × List ℕ)) (svid : Svid)
+pub kept_of : (key : List ℕ) (hint : Option (List ℕ)) (parts : List (Parts × List ℕ)) (svid : Svid)
     → svid_of_parts key hint parts ≡ Ok svid → Kept key hint parts svid
 kept_of key hint [] svid is = absurd (cc)
 kept_of key hint (leaf ∷ others) svid is =

@@ -17,7 +17,7 @@ use Rattle.std.proofs.lemmas.Map.Keys.{sorted_head, sorted_tail}
 use Rattle.spf_x509.specs.Bundle.{Bundle, plain_entry, with_entry, with_entries}
 use Rattle.spf_x509.proofs.Entries.{insert_plain}
 
-abbrev name_cmp : List ℕ → List ℕ → Ordering
+abbrev pub name_cmp : List ℕ → List ℕ → Ordering
 name_cmp = slice_cmp nat_cmp
 
 -- each trust domain stands before those after it

@@ -1,10 +1,11 @@
 -- How a bundle comes from certificates (SPIFFE Trust Domain and Bundle section 4).
-use Rattle.std.specs.Prelude.{ℕ, List, [], ◌∷◌, ◌++◌, Result, Ok}
+use Rattle.std.specs.Prelude.{◌≡◌, ℕ, List, [], ◌∷◌, ◌++◌, Result, Ok}
 use Rattle.spf_io.specs.Rule.{◌>>=◌, broken_as}
 use Rattle.spf_x509.specs.declared.error.CertificateError.{CertificateError}
 use Rattle.spf_x509.specs.declared.error.X509BundleError.{X509BundleError}
 use Rattle.spf_x509.specs.Errors.{bundle_of_certificate}
-use Rattle.spf_x509.specs.Bundle.{Bundle}
+use Rattle.spf_x509.specs.Bundle.{Bundle, with_entry}
+use Rattle.spf_x509.specs.Chain.{authorities_rule}
 
 -- the bundle of a trust domain and the certificates that were read, or why they were not
 abbrev pub bundle_of : List ℕ → Result (List (List ℕ)) CertificateError
@@ -19,3 +20,9 @@ added_to bundle read =
     broken_as bundle_of_certificate read
     >>= λ authority.
     Ok (record { domain = bundle.domain; authorities = bundle.authorities ++ authority ∷ [] })
+
+-- the bundle of a trust domain that the bytes are is in a set: to add it changes nothing
+pub record IsIn (set : List (List ℕ × Bundle)) (domain der : List ℕ) : Type 0 where
+  pub bundle : Bundle
+  pub read : bundle_of domain (authorities_rule der) ≡ Ok bundle
+  pub stays : with_entry set bundle.domain bundle ≡ set

@@ -67,6 +67,28 @@ svid_of chain key hint = do
   parts ← broken_as svid_of_certificate (chain_rule chain)
   svid_of_parts key hint parts
 
+-- certificates that may stand after a leaf: they are read, and each keeps
+-- the rule of an intermediate
+pub record MayFollowLeaf (certificates : List (List ℕ)) : Type 0 where
+  pub parts : List (Parts × List ℕ)
+  pub are : texts parts ≡ certificates
+  pub read : many certificate_text_at (TooManyCertificates 16) 15 (joined certificates) ≡ Ok parts
+  pub keep : intermediates_rule parts ≡ Ok tt
+
+-- the rules of the leaf and of the key, where the certificates after the leaf keep theirs
+unfoldable pub svid_with_leaf : Parts → List ℕ → List (List ℕ) → List ℕ → Option (List ℕ)
+    → Result Svid X509SvidError
+svid_with_leaf parts leaf others key hint = do
+  found ← leaf_rule parts
+  kept ← broken_as svid_of_key (key_rule key)
+  Ok (record {
+    id = found.0;
+    hint = hint;
+    chain = leaf ∷ others;
+    key = kept;
+    expiry = found.1;
+  })
+
 -- an SVID that its own chain, key and hint give
 abbrev pub IsSvid : Svid → Type 0
 IsSvid svid = svid_of (joined svid.chain) svid.key svid.hint ≡ Ok svid

@@ -1,10 +1,11 @@
 //! The bundles of several trust domains.
 
-ghost use Rattle.std.specs.Prelude.{◌≡◌, ◌==◌, [], IfOk, Some, OnErr, OnOk, length};
+ghost use Rattle.std.specs.Prelude.{◌≡◌, ◌==◌, [], IfOk, IsTrue, Some, OnErr, OnOk, length};
 ghost use Rattle.std.specs.Option.{option_map};
 ghost use Rattle.std.specs.Arc.{arc_value};
 ghost use Rattle.spf_x509.specs.Bundle.{HoldsFront, IsInDomainOrder, KeepsOthers, find_entry};
 ghost use Rattle.spf_x509.specs.Bundle.{with_bundles, with_entry};
+ghost use Rattle.spf_x509.specs.BundleRule.{IsIn};
 
 use crate::bundle::X509Bundle;
 use crate::source::BundleSource;
@@ -65,6 +66,21 @@ impl X509BundleSet {
         let trust_domain = bundle.trust_domain().try_clone(self.alloc)?;
         self.bundles.insert(trust_domain, bundle)?;
         Ok(())
+    }
+
+    /// Whether the bundle of that trust domain and those bytes stands in the set already. Then to
+    /// add it would change nothing. It takes no memory.
+    pub fn holds_parsed(&self, trust_domain: &TrustDomain, der: &[u8]) -> bool
+        ensures { IsTrue result → IsIn self.now trust_domain.now der.now }
+    {
+        match self.get_ref(trust_domain) {
+            Some(bundle) => {
+                // The order of the pairs is what iterating says.
+                let _pairs = self.iter();
+                bundle.is_parsed_from(trust_domain, der)
+            }
+            None => false,
+        }
     }
 
     /// Adds each bundle in order. After a refusal the set holds those before the refused one.

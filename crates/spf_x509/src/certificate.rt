@@ -6,6 +6,7 @@ ghost use Rattle.spf_der.specs.Part.{Parts};
 ghost use Rattle.spf_der.specs.Read.{never, unique_rule};
 ghost use Rattle.spf_der.specs.Value.{seen};
 ghost use Rattle.spf_io.specs.Rule.{Gives};
+ghost use Rattle.spf_id.specs.Rule.{id_rule, is_memory};
 ghost use Rattle.spf_x509.specs.Certificate.{IsCertificate, certificate_of, extension_rule, oid_of};
 ghost use Rattle.spf_x509.specs.Certificate.{san_rule, spiffe_id_rule, uri_rule, uris_rule};
 ghost use Rattle.spf_x509.specs.Certificate.{whole_rule};
@@ -16,7 +17,7 @@ use crate::extension::X509ExtensionId;
 use spf_der::{
     CertScan, SanUris, X509ParseError, X509ParseKind, read_san_uri_views, scan_certificate,
 };
-use spf_id::{SpiffeId, uri_has_spiffe_scheme};
+use spf_id::{SpiffeId, SpiffeIdError, uri_has_spiffe_scheme};
 use spf_io::{Bytes, OutOfMemory, Text};
 use std::alloc::Global;
 use std::marker::Model;
@@ -120,12 +121,12 @@ pub fn spiffe_id_from_der(alloc: Global, der: &[u8]) -> Result<SpiffeId, Certifi
     ensures { Gives is_memory_certificate (λ id. id) result (spiffe_id_rule der.now) }
 {
     let certificate = read_whole(der)?;
-    subject_id(alloc, &certificate)
+    subject_id(alloc, &certificate, None)
 }
 
 /// The view of the certificate that the bytes are, with nothing after it.
 #[tactic(auto, unfolding(crate::specs::Certificate::whole_rule))]
-fn read_whole<'a>(der: &'a [u8]) -> Result<CertScan<'a>, CertificateError>
+pub(crate) fn read_whole<'a>(der: &'a [u8]) -> Result<CertScan<'a>, CertificateError>
     ensures gives { Gives is_memory_certificate (λ c. c) result (whole_rule der.now) }
     ensures text { IfOk result (λ c. CertText der.now c) }
 {
@@ -175,9 +176,23 @@ fn unexpected_names(alloc: Global) -> Result<CertificateError, OutOfMemory>
     Ok(CertificateError::UnexpectedExtension(extension))
 }
 
+/// The ID that a text is, which is copied from a known one where that has the same text.
+fn id_from(alloc: Global, text: &str, known: Option<&SpiffeId>) -> Result<SpiffeId, SpiffeIdError>
+    ensures { Gives is_memory (λ id. id) result (id_rule text.now) }
+{
+    match known {
+        Some(known) if known.as_str() == text => Ok(known.try_clone(alloc)?),
+        _ => SpiffeId::new(alloc, text),
+    }
+}
+
 /// The ID that a URI name is, where it is meant as one.
 #[tactic(auto, unfolding(crate::specs::Certificate::uri_rule))]
-fn id_of_uri(alloc: Global, uri: &str) -> Result<Option<SpiffeId>, CertificateError>
+fn id_of_uri(
+    alloc: Global,
+    uri: &str,
+    known: Option<&SpiffeId>,
+) -> Result<Option<SpiffeId>, CertificateError>
     ensures { Gives is_memory_certificate (λ id. id) result (uri_rule uri.now) }
 {
     if uri.len() > MAX_URI_BYTES {
@@ -186,17 +201,21 @@ fn id_of_uri(alloc: Global, uri: &str) -> Result<Option<SpiffeId>, CertificateEr
     if !uri_has_spiffe_scheme(uri) {
         return Ok(None);
     }
-    Ok(Some(SpiffeId::new(alloc, uri)?))
+    Ok(Some(id_from(alloc, uri, known)?))
 }
 
 /// The one SPIFFE ID of the URIs, taken in order.
-fn id_of_uris(alloc: Global, mut uris: SanUris<'_>) -> Result<SpiffeId, CertificateError>
+fn id_of_uris(
+    alloc: Global,
+    mut uris: SanUris<'_>,
+    known: Option<&SpiffeId>,
+) -> Result<SpiffeId, CertificateError>
     ensures { Gives is_memory_certificate (λ id. id) result (uris_rule uris.entry) }
 {
     let Some(first) = uris.next_uri() else {
         return Err(CertificateError::MissingSpiffeId);
     };
-    let id = id_of_uri(alloc, first)?;
+    let id = id_of_uri(alloc, first, known)?;
     if uris.next_uri().is_some() {
         return Err(CertificateError::MultipleUriSanEntries);
     }
@@ -206,18 +225,19 @@ fn id_of_uris(alloc: Global, mut uris: SanUris<'_>) -> Result<SpiffeId, Certific
     }
 }
 
-/// The SAN rule: the names can be read, and of their
-/// URIs, taken in order, the only one is a SPIFFE ID.
+/// The SAN rule: the names can be read, and of their URIs, taken in order,
+/// the only one is a SPIFFE ID. A known ID of the same text is copied.
 #[tactic(auto, unfolding(crate::specs::Certificate::san_rule))]
 pub(crate) fn subject_id(
     alloc: Global,
     certificate: &CertScan<'_>,
+    known: Option<&SpiffeId>,
 ) -> Result<SpiffeId, CertificateError>
     ensures { Gives is_memory_certificate (λ id. id) result (san_rule certificate.now) }
 {
     let contents = extension_contents(certificate, X509ExtensionId::SubjectAlternativeName)?;
     match read_san_uri_views(contents) {
         None => Err(unexpected_names(alloc)?),
-        Some(uris) => id_of_uris(alloc, uris),
+        Some(uris) => id_of_uris(alloc, uris, known),
     }
 }

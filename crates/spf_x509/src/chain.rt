@@ -1,8 +1,9 @@
 //! Concatenated certificates: how a chain is cut.
 
-ghost use Rattle.std.specs.Prelude.{◌≡◌, ◌↔◌, ◌<◌, length, IfOk, IsTrue};
-ghost use Rattle.spf_der.specs.Grammar.{CertsOf};
+ghost use Rattle.std.specs.Prelude.{◌≡◌, ◌↔◌, ◌<◌, ◌++◌, ◌∷◌, length, IfOk, IfSome, IsTrue};
+ghost use Rattle.spf_der.specs.Grammar.{CertsOf, joined};
 ghost use Rattle.spf_io.specs.Rule.{Gives};
+ghost use Rattle.spf_x509.specs.Certificate.{IsCertificate};
 ghost use Rattle.spf_x509.specs.Chain.{certificate_text_at, chain_rule};
 ghost use Rattle.spf_x509.specs.Errors.{is_memory_certificate};
 
@@ -94,4 +95,46 @@ pub(crate) fn is_concatenation(certificates: &[Certificate], der: &[u8]) -> bool
         }
     }
     rest.is_empty()
+}
+
+/// The octets of the certificates, as many as there can be.
+fn length_of(certificates: &[Certificate]) -> usize {
+    let mut length = 0_usize;
+    for certificate in certificates {
+        length = length.saturating_add(certificate.as_bytes().len());
+    }
+    length
+}
+
+/// The bytes before these certificates, where a chain ends with them.
+pub(crate) fn bytes_before<'a>(chain: &'a [u8], certificates: &[Certificate]) -> Option<&'a [u8]>
+    ensures { IfSome result (λ front. chain.now ≡ front.now ++ joined certificates.now) }
+{
+    let length = length_of(certificates);
+    if chain.len() < length {
+        return None;
+    }
+    let (front, others) = chain.split_at(chain.len() - length);
+    if is_concatenation(certificates, others) {
+        Some(front)
+    } else {
+        None
+    }
+}
+
+/// A copy of a leaf, and copies of the certificates after it.
+pub(crate) fn chain_with_leaf(
+    alloc: Global,
+    leaf: &[u8],
+    others: &[Certificate],
+) -> Result<Vec<Certificate>, OutOfMemory>
+    requires { IsCertificate leaf.now }
+    ensures { IfOk result (λ v. v.items ≡ leaf.now ∷ others.now) }
+{
+    let mut certificates = Vec::with_capacity(alloc, others.len() + 1)?;
+    certificates.push(Certificate::of_text(alloc, leaf)?)?;
+    for certificate in others {
+        certificates.push(certificate.try_clone(alloc)?)?;
+    }
+    Ok(certificates)
 }

@@ -2,19 +2,23 @@
 
 ghost use Rattle.std.specs.Prelude.{◌≡◌, ◌↔◌, IfOk, IsTrue, None, Ok, Some, slice_get};
 ghost use Rattle.std.specs.Option.{option_map};
+ghost use Rattle.std.specs.Arc.{arc_value};
 ghost use Rattle.spf_io.specs.Rule.{Gives};
-ghost use Rattle.spf_x509.specs.Chain.{IsSvid, svid_of, texts};
+ghost use Rattle.spf_der.specs.Grammar.{CertText};
+ghost use Rattle.spf_x509.specs.Chain.{IsSvid, MayFollowLeaf, svid_of, svid_with_leaf, texts};
 ghost use Rattle.spf_x509.specs.Errors.{is_memory_svid};
 
-use crate::certificate::{Certificate, copies};
-use crate::chain::{ChainPart, cut_chain, is_concatenation};
+use crate::certificate::{Certificate, copies, read_whole};
+use crate::chain::{ChainPart, bytes_before, chain_with_leaf, cut_chain, is_concatenation};
 use crate::private_key::PrivateKey;
 use crate::svid_error::X509SvidError;
 use crate::svid_rule::{intermediate_rules, leaf_rule};
+use spf_der::CertScan;
 use spf_id::SpiffeId;
 use spf_io::{List, OutOfMemory, Text};
 use std::alloc::Global;
 use std::marker::Model;
+use std::sync::Arc;
 
 /// An X.509 SVID (SPIFFE X.509-SVID section 2). Its
 /// expiry follows from its chain, so it is not compared.
@@ -73,6 +77,14 @@ fn certificates_of(alloc: Global, parts: &[ChainPart<'_>]) -> Result<Vec<Certifi
     Ok(certificates)
 }
 
+/// The ID of an SVID, if there is one.
+fn id_of(svid: Option<&X509Svid>) -> Option<&SpiffeId> {
+    match svid {
+        Some(svid) => Some(&svid.spiffe_id),
+        None => None,
+    }
+}
+
 /// Whether two hints are the same text, or both are left out.
 fn is_same_hint(a: Option<&str>, b: Option<&str>) -> bool
     ensures { IsTrue result ↔ (option_map (λ t. t.now) a.entry ≡ option_map (λ t. t.now) b.entry) }
@@ -98,7 +110,6 @@ impl X509Svid {
     }
 
     /// The same with a hint.
-    #[tactic(auto, unfolding(crate::specs::Chain::svid_of))]
     pub fn parse_from_der_with_hint(
         alloc: Global,
         chain: &[u8],
@@ -107,11 +118,25 @@ impl X509Svid {
     ) -> Result<X509Svid, X509SvidError>
         ensures { Gives is_memory_svid (λ s. s) result (svid_of chain.now key.now hint) }
     {
+        X509Svid::parse_whole(alloc, chain, key, hint, None)
+    }
+
+    /// The same, where an SVID may be given whose ID is most often that of the leaf.
+    #[tactic(auto, unfolding(crate::specs::Chain::svid_of))]
+    fn parse_whole(
+        alloc: Global,
+        chain: &[u8],
+        key: &[u8],
+        hint: Option<Text>,
+        known: Option<&X509Svid>,
+    ) -> Result<X509Svid, X509SvidError>
+        ensures { Gives is_memory_svid (λ s. s) result (svid_of chain.now key.now hint) }
+    {
         let parts = cut_chain(alloc, chain)?;
         let Some((leaf, intermediates)) = parts.split_first() else {
             return Err(X509SvidError::EmptyChain);
         };
-        let (spiffe_id, expiry) = leaf_rule(alloc, leaf.scan())?;
+        let (spiffe_id, expiry) = leaf_rule(alloc, leaf.scan(), id_of(known))?;
         intermediate_rules(alloc, intermediates)?;
         let private_key = PrivateKey::try_from(alloc, key)?;
         let certificates = certificates_of(alloc, parts.as_slice())?;
@@ -122,6 +147,100 @@ impl X509Svid {
             private_key,
             expiry,
         })
+    }
+
+    /// The same, shared, where SVIDs may be given that were read before: certificates after the
+    /// leaf that are those of the chain of `near`, and the ID where it is that of `known`, are
+    /// copied and not read again.
+    pub fn parse_shared(
+        alloc: Global,
+        chain: &[u8],
+        key: &[u8],
+        hint: Option<Text>,
+        near: Option<&X509Svid>,
+        known: Option<&X509Svid>,
+    ) -> Result<Arc<X509Svid>, X509SvidError>
+        ensures { Gives is_memory_svid arc_value result (svid_of chain.now key.now hint) }
+    {
+        match near {
+            None => X509Svid::parse_alone(alloc, chain, key, hint, known),
+            Some(near) => near.parse_beside(alloc, chain, key, hint, known),
+        }
+    }
+
+    /// The SVID of a chain all of whose certificates are read.
+    #[inline(never)]
+    fn parse_alone(
+        alloc: Global,
+        chain: &[u8],
+        key: &[u8],
+        hint: Option<Text>,
+        known: Option<&X509Svid>,
+    ) -> Result<Arc<X509Svid>, X509SvidError>
+        ensures { Gives is_memory_svid arc_value result (svid_of chain.now key.now hint) }
+    {
+        let svid = X509Svid::parse_whole(alloc, chain, key, hint, known)?;
+        Ok(Arc::new(alloc, svid)?)
+    }
+
+    /// The SVID of a chain which may have the certificates after its leaf from this one.
+    fn parse_beside(
+        &self,
+        alloc: Global,
+        chain: &[u8],
+        key: &[u8],
+        hint: Option<Text>,
+        known: Option<&X509Svid>,
+    ) -> Result<Arc<X509Svid>, X509SvidError>
+        ensures { Gives is_memory_svid arc_value result (svid_of chain.now key.now hint) }
+    {
+        let others = self.intermediates();
+        let Some(leaf) = bytes_before(chain, others) else {
+            return X509Svid::parse_alone(alloc, chain, key, hint, known);
+        };
+        let Ok(scan) = read_whole(leaf) else {
+            return X509Svid::parse_alone(alloc, chain, key, hint, known);
+        };
+        X509Svid::with_leaf(alloc, leaf, &scan, others, key, hint, id_of(known))
+    }
+
+    /// The SVID of a leaf, and of certificates after it that keep their rule.
+    #[tactic(auto, unfolding(crate::specs::Chain::svid_with_leaf))]
+    fn with_leaf(
+        alloc: Global,
+        leaf: &[u8],
+        scan: &CertScan<'_>,
+        others: &[Certificate],
+        key: &[u8],
+        hint: Option<Text>,
+        known: Option<&SpiffeId>,
+    ) -> Result<Arc<X509Svid>, X509SvidError>
+        requires leaf { CertText leaf.now scan.now }
+        requires others { MayFollowLeaf others.now }
+        ensures { Gives is_memory_svid arc_value result
+            (svid_with_leaf scan.now leaf.now others.now key.now hint) }
+    {
+        let (spiffe_id, expiry) = leaf_rule(alloc, scan, known)?;
+        let kept_key = PrivateKey::try_from(alloc, key)?;
+        let certificates = chain_with_leaf(alloc, leaf, others)?;
+        let svid = X509Svid {
+            spiffe_id,
+            hint,
+            cert_chain: List::new(certificates),
+            private_key: kept_key,
+            expiry,
+        };
+        Ok(Arc::new(alloc, svid)?)
+    }
+
+    /// The certificates after the leaf.
+    fn intermediates(&self) -> &[Certificate]
+        ensures { MayFollowLeaf result.now }
+    {
+        match self.cert_chain().split_first() {
+            Some((_, others)) => others,
+            None => &[],
+        }
     }
 
     /// A copy of the SVID.

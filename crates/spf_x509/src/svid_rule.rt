@@ -24,6 +24,7 @@ fn unparseable(alloc: Global, extension: &str) -> Result<X509SvidError, OutOfMem
 }
 
 /// The key usage of a certificate (RFC 5280 section 4.2.1.3).
+#[inline(always)]
 #[tactic(auto, unfolding(crate::specs::Rule::usage_rule))]
 fn key_usage_of(alloc: Global, certificate: &CertScan<'_>) -> Result<KeyUsageBits, X509SvidError>
     ensures { Gives is_memory_svid (λ usage. usage) result (usage_rule certificate.now) }
@@ -36,6 +37,7 @@ fn key_usage_of(alloc: Global, certificate: &CertScan<'_>) -> Result<KeyUsageBit
 }
 
 /// The CA flag of a certificate (RFC 5280 section 4.2.1.9).
+#[inline(always)]
 #[tactic(auto, unfolding(crate::specs::Rule::ca_rule))]
 fn ca_flag_of(alloc: Global, certificate: &CertScan<'_>) -> Result<bool, X509SvidError>
     ensures { Gives is_memory_svid (λ flag. flag) result (ca_rule certificate.now) }
@@ -63,11 +65,14 @@ fn leaf_usage_rule(usage: KeyUsageBits) -> Result<(), X509SvidError>
     Ok(())
 }
 
-/// The rule of the leaf (SPIFFE X.509-SVID section 4): its one ID, and its expiry in Unix seconds.
+/// The rule of the leaf (SPIFFE X.509-SVID section 4): its one ID, which
+/// may be a known one, and its expiry in Unix seconds.
+#[inline(always)]
 #[tactic(auto, unfolding(crate::specs::Rule::leaf_rule))]
 pub(crate) fn leaf_rule(
     alloc: Global,
     leaf: &CertScan<'_>,
+    known: Option<&SpiffeId>,
 ) -> Result<(SpiffeId, i64), X509SvidError>
     ensures { Gives is_memory_svid (λ x. (x.0, x.1)) result (leaf_rule leaf.now) }
 {
@@ -76,7 +81,7 @@ pub(crate) fn leaf_rule(
     if ca_flag_of(alloc, leaf)? {
         return Err(X509SvidError::LeafCertificateHasCaFlag);
     }
-    let id = subject_id(alloc, leaf)?;
+    let id = subject_id(alloc, leaf, known)?;
     if id.path().is_empty() {
         return Err(X509SvidError::LeafSpiffeIdMissingPath);
     }

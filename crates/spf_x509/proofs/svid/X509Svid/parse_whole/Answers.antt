@@ -2,7 +2,7 @@ use Rattle.std.proofs.Common.{ℕ, ◌<◌, rules, arith}
 use Rattle.std.proofs.lemmas.List.Elements.{All-from_get_or}
 use Rattle.spf_x509.specs.Chain.{svid_of}
 use Rattle.spf_x509.proofs.Cuts.{svid_again}
-use Rattle.spf_x509.proofs.svid.X509Svid.parse_from_der_with_hint.Goals as goal
+use Rattle.spf_x509.proofs.svid.X509Svid.parse_whole.Goals as goal
 
 pub invariant_of-result : goal.invariant_of-result
 unfolding svid_of
