@@ -1,0 +1,3 @@
+mod Caused
+mod Kinds
+mod Never

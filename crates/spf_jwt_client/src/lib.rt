@@ -6,6 +6,7 @@ mod client;
 mod fault;
 mod fetcher;
 mod first;
+pub mod laws;
 mod request;
 mod stream;
 
