@@ -1,3 +1,4 @@
 mod Caused
-mod Kinds
 mod Never
+mod Plain
+mod Unsent
