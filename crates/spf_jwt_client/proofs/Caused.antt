@@ -27,8 +27,7 @@ err_same : {T : Type 0} (d e : WorkloadApiError) (r s : Result T WorkloadApiErro
 err_same d e r s is are same = cc
 
 -- an error of an ask that had a client is not of the connector
-not_of_connector : {T : Type 0} (e : WorkloadApiError)
-    → IsOfConnector {T = T} (Err (fetch_error e)) → ⊥
+not_of_connector : (e : WorkloadApiError) → IsOfConnector {T = Svid} (Err (fetch_error e)) → ⊥
 not_of_connector api.OutOfMemory is = is
 not_of_connector _ is = is
 

@@ -1,6 +1,6 @@
 -- No rule of a response of JWT identities is broken by an error that a link refuses with.
 use Rattle.std.proofs.Common.{◌≡◌, ℕ, true, false, Bool, List, [], ◌∷◌, Option, Some, None}
-use Rattle.std.proofs.Common.{Result, Ok, Err, refl, sym, ap, codes, find}
+use Rattle.std.proofs.Common.{Result, Ok, Err, refl, is_ok}
 use Rattle.spf_io.specs.Rule.{◌>>=◌, broken_as, each}
 use Rattle.spf_api.specs.Errors.{api_of_id, api_of_jwt_svid, api_of_jwt_bundle}
 use Rattle.spf_api.specs.declared.jwt_error.JwtBundleError.{JwtBundleError}
@@ -12,20 +12,24 @@ use Rattle.spf_api.specs.declared.error.WorkloadApiError.TheVariants as api
 use Rattle.spf_api.specs.declared.response.BundleEntry.{BundleEntry}
 use Rattle.spf_api.specs.declared.response.BundlesResponse.{BundlesResponse}
 use Rattle.spf_api.specs.declared.response.Claim.{Claim}
+use Rattle.spf_api.specs.declared.response.ClaimValue.{ClaimValue, ClaimValue-F, out-ClaimValue}
 use Rattle.spf_api.specs.declared.response.JwtSvidEntry.{JwtSvidEntry}
 use Rattle.spf_api.specs.declared.response.JwtSvidsResponse.{JwtSvidsResponse}
 use Rattle.spf_api.specs.declared.response.ValidationResponse.{ValidationResponse}
+use Rattle.spf_id.specs.Rule.{id_rule, name_rule}
 use Rattle.spf_client.specs.Causes.{is_refusal}
 use Rattle.spf_client.proofs.Never.{Never, never_ok, never_err, never_then, never_if, never_each}
 use Rattle.spf_client.proofs.Never.{never_as, never_read, of_id, required_never}
+use Rattle.spf_jwt.specs.Authority.{key_set_of}
+use Rattle.spf_jwt.specs.Bundle.{bundle_of}
 use Rattle.spf_jwt.specs.Responses.{named_bundle_of, jwt_bundle_set_of, entry_required}
 use Rattle.spf_jwt.specs.Responses.{entries_required, svid_of_entry, jwt_svids_of}
-use Rattle.spf_jwt.specs.Selected.{first_of, first_jwt_svid_of, first_token_of, found_by, has_hint}
+use Rattle.spf_jwt.specs.Selected.{first_of, first_jwt_svid_of, first_token_of, found_by}
 use Rattle.spf_jwt.specs.Selected.{hinted_jwt_svid_of, validated_svid_of}
 use Rattle.spf_jwt.specs.Token.{Svid, token_rule}
 use Rattle.spf_jwt.specs.Validation.{validation_rule, given_claims, claims_rule, state_rule}
-use Rattle.spf_jwt.specs.declared.validation.ClaimState.{ClaimState}
-use Rattle.spf_jwt.specs.declared.validation.ClaimState.TheVariants.{Missing, Invalid, Valid}
+use Rattle.spf_jwt.specs.Validation.{state_of, sub_layer, aud_layer, exp_layer, sub_state}
+use Rattle.spf_jwt.specs.Validation.{aud_state, exp_state, are_words}
 
 of_token : (e : JwtSvidError) → is_refusal (api_of_jwt_svid e) ≡ false
 of_token svid.OutOfMemory = refl
@@ -74,14 +78,47 @@ pub hinted_never : (hint : List ℕ) (r : JwtSvidsResponse) → Never (hinted_jw
 unfolding hinted_jwt_svid_of
 hinted_never hint r = never_then _ _ (svids_never r) (λ svids. found_never hint _)
 
-state_never : (field : List ℕ) (state : ClaimState) → Never (state_rule field state)
-state_never field Missing = never_err (api.MissingRequiredField field) refl
-state_never field Invalid = never_err (api.InvalidResponseField field) refl
-state_never field Valid = never_ok tt
+known_never : (field : List ℕ) (valid : Bool) → Never (state_rule field (state_of valid))
+known_never field true = never_ok tt
+known_never field false = never_err (api.InvalidResponseField field) refl
+
+sub_never : (field : List ℕ) (layer : ClaimValue-F ClaimValue Claim)
+    → Never (state_rule field (sub_layer layer))
+sub_never field ClaimValue-F.Unset = never_err (api.MissingRequiredField field) refl
+sub_never field (ClaimValue-F.Words text) = known_never field (is_ok (id_rule text))
+sub_never field _ = never_err (api.InvalidResponseField field) refl
+
+aud_never : (field : List ℕ) (layer : ClaimValue-F ClaimValue Claim)
+    → Never (state_rule field (aud_layer layer))
+aud_never field ClaimValue-F.Unset = never_err (api.MissingRequiredField field) refl
+aud_never field (ClaimValue-F.Words text) = never_ok tt
+aud_never field (ClaimValue-F.Items values) = known_never field (are_words values)
+aud_never field _ = never_err (api.InvalidResponseField field) refl
+
+exp_never : (field : List ℕ) (layer : ClaimValue-F ClaimValue Claim)
+    → Never (state_rule field (exp_layer layer))
+exp_never field ClaimValue-F.Unset = never_err (api.MissingRequiredField field) refl
+exp_never field (ClaimValue-F.Whole number) = never_ok tt
+exp_never field _ = never_err (api.InvalidResponseField field) refl
+
+sub_is_never : (field : List ℕ) (value : Option ClaimValue)
+    → Never (state_rule field (sub_state value))
+sub_is_never field None = never_err (api.MissingRequiredField field) refl
+sub_is_never field (Some v) = sub_never field (out-ClaimValue v)
+
+aud_is_never : (field : List ℕ) (value : Option ClaimValue)
+    → Never (state_rule field (aud_state value))
+aud_is_never field None = never_err (api.MissingRequiredField field) refl
+aud_is_never field (Some v) = aud_never field (out-ClaimValue v)
+
+exp_is_never : (field : List ℕ) (value : Option ClaimValue)
+    → Never (state_rule field (exp_state value))
+exp_is_never field None = never_err (api.MissingRequiredField field) refl
+exp_is_never field (Some v) = exp_never field (out-ClaimValue v)
 
 claims_never : (claims : List Claim) → Never (claims_rule claims)
-claims_never claims = never_then _ _ (state_never _ _)
-    (λ s. never_then _ _ (state_never _ _) (λ a. state_never _ _))
+claims_never claims = never_then _ _ (sub_is_never _ _)
+    (λ s. never_then _ _ (aud_is_never _ _) (λ a. exp_is_never _ _))
 
 given_never : (claims : Option (List Claim)) → Never (given_claims claims)
 given_never None = never_err (api.MissingRequiredField _) refl
@@ -98,8 +135,11 @@ validated_never token r = never_then _ _ (validation_never r)
 
 named_never : (e : BundleEntry) → Never (named_bundle_of e)
 unfolding named_bundle_of
-named_never e = never_then _ _ (never_as api_of_id of_id _)
-    (λ domain. never_as api_of_jwt_bundle of_keys _)
+named_never e =
+    never_then (broken_as api_of_id (name_rule e.name))
+    (λ domain. broken_as api_of_jwt_bundle (bundle_of domain (key_set_of e.bundle)))
+    (never_as api_of_id of_id (name_rule e.name))
+    (λ domain. never_as api_of_jwt_bundle of_keys (bundle_of domain (key_set_of e.bundle)))
 
 pub bundles_never : (r : BundlesResponse) → Never (jwt_bundle_set_of r)
 unfolding jwt_bundle_set_of

@@ -1,20 +1,21 @@
--- An error by which a link, an interceptor or a stream refuses holds no error of a key set.
-use Rattle.std.proofs.Common.{◌≡◌, ◌⊎◌, Bool, true, false, cond, Option, Some, None, Result, Ok, Err}
+-- An error by which a link or an interceptor refuses holds no error of a key set.
+use Rattle.std.proofs.Common.{◌≡◌, ◌⊎◌, Bool, true, false, cond, codes, Option, Some, None, Result, Ok, Err}
 use Rattle.std.proofs.Common.{refl, sym, ap, ◌∙◌, subst, inl, inr}
 use Rattle.spf_io.specs.Rule.{broken_as}
-use Rattle.spf_api.specs.Errors.{status_reading}
+use Rattle.spf_api.specs.Errors.{is_denied, status_reading}
+use Rattle.spf_api.specs.Status.{holds}
 use Rattle.spf_api.specs.Refused.{Refused}
 use Rattle.spf_api.specs.declared.error.WorkloadApiError.{WorkloadApiError}
 use Rattle.spf_api.specs.declared.error.WorkloadApiError.TheVariants as api
+use Rattle.spf_api.specs.declared.status.TransportError.TheVariants as transport
 use Rattle.spf_api.specs.declared.link.LinkFault.{LinkFault}
 use Rattle.spf_api.specs.declared.link.LinkFault.TheVariants as fault
 use Rattle.spf_api.specs.declared.response.Response.{Response}
 use Rattle.spf_link.specs.Interceptor.{Intercepted}
 use Rattle.spf_link.specs.declared.link.Link as links
 use Rattle.spf_link.specs.declared.request.Request.{Request}
-use Rattle.spf_client.specs.Asking.{Asks, Begins, IsUnsentBy, TakesFirst}
+use Rattle.spf_client.specs.Asking.{Asks, Begins, Fetches, IsUnsentBy, TakesFirst}
 use Rattle.spf_client.specs.Reading.{fault_reading, first_response_of}
-use Rattle.spf_client.specs.Streams.{Brings, brought_by}
 use Rattle.spf_jwt.specs.Errors.{api_of_any_kind}
 
 abbrev pub IsPlain : WorkloadApiError → Type 0
@@ -29,7 +30,11 @@ plain_if true x y first second = first
 plain_if false x y first second = second
 
 plain_status : (s : Refused) → IsPlain (status_reading s)
-plain_status s = plain_if _ _ _ (plain_if _ _ _ refl refl) refl
+plain_status s =
+    plain_if (is_denied s.code) _ (api.Transport (transport.Status s))
+    (plain_if (holds (codes "no identity issued") s.message) api.NoIdentityIssued
+    (api.PermissionDenied s.message) refl refl)
+    refl
 
 plain_fault : (f : LinkFault) → IsPlain (fault_reading f)
 plain_fault (fault.Status s) = plain_status s
@@ -69,23 +74,15 @@ module _ {S : Type 0} (link : links.Ghosts S) (made : Intercepted) (request : Re
       subst IsPlain (sym (err_same e d _ _ refl refl takes.0)) (plain_begun old mid d begins)
   plain_taken old mid new e (Ok x) begins takes = plain_next takes.0 e takes.2
 
-  pub plain_asked : (old new : S) (e : WorkloadApiError)
+  plain_asked : (old new : S) (e : WorkloadApiError)
       → Asks link made request old (Err e) new → IsPlain e
   plain_asked old new e asks = plain_taken old asks.mid new e asks.begun asks.begins asks.takes
 
-some_same : {T : Type 0} (d e : WorkloadApiError) (r s : Option (Result T WorkloadApiError))
-    → r ≡ Some (Err d) → s ≡ Some (Err e) → r ≡ s → d ≡ e
-some_same d e r s is are same = cc
-
-plain_answer : (answer : Result (Option Response) LinkFault) (e : WorkloadApiError)
-    → Some (Err e) ≡ brought_by answer → IsPlain e
-plain_answer (Ok None) e brought = absurd cc
-plain_answer (Ok (Some r)) e brought = absurd cc
-plain_answer (Err f) e brought =
-    subst IsPlain (sym (some_same e (fault_reading f) _ _ refl refl brought)) (plain_fault f)
-
-pub plain_brought : {S : Type 0} (link : links.Ghosts S) (ended : Bool) (old new : S) (after : Bool)
-    (e : WorkloadApiError) → Brings link ended old (Some (Err e)) new after → IsPlain e
-plain_brought link true old new after e brings =
-    let none : Some (Err e) ≡ None = brings.nothing in absurd cc
-plain_brought link false old new after e brings = plain_answer brings.answer e brings.brought
+  -- a fetch of key sets that was refused
+  pub refused_fetch : {R X Y : Type 0} (of_kind : R → Response)
+      (rule : R → Result Y WorkloadApiError) (view : X → Y) (old new : S) (e : WorkloadApiError)
+      → Asks link made request old (Err e) new
+      → Fetches link made request of_kind rule view old
+      (broken_as {A = X} api_of_any_kind (Err e)) new
+  refused_fetch of_kind rule view old new e asks =
+      record { first = Err e; asks = asks; reads = ap Err (plain_asked old new e asks) }

@@ -109,6 +109,11 @@ abbrev pub fault_error : AskFault → JwtSourceError
 fault_error (NoClient e) = source_of_api e
 fault_error (Failed e) = fetch_error e
 
+-- the result of a fetch by its first ask, where there is no second one
+abbrev pub settled_by : Bool → Result Svid JwtSourceError → Option (Result Svid JwtSourceError)
+settled_by true told = None
+settled_by false told = Some told
+
 -- the same with no client kept
 abbrev pub forgotten : {S L : Type 0} → Held S L → Held S L
 forgotten held = record held { client = None }

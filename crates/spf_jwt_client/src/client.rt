@@ -6,6 +6,7 @@ ghost use Rattle.std.specs.Option.{option_map};
 ghost use Rattle.spf_io.specs.Rule.{broken_as};
 ghost use Rattle.spf_client.specs.Asking.{Begins, Fetches};
 ghost use Rattle.spf_client.specs.Lending.{LendsClient, OpensStream};
+ghost use Rattle.spf_client.specs.declared.client.WorkloadApiClient.{WorkloadApiClient as Client};
 ghost use Rattle.spf_jwt.specs.Errors.{api_of_any_kind};
 ghost use Rattle.spf_jwt.specs.Responses.{jwt_bundle_set_of, jwt_svids_of};
 ghost use Rattle.spf_jwt.specs.Selected.{first_jwt_svid_of, first_token_of, hinted_jwt_svid_of};
@@ -14,7 +15,7 @@ ghost use Rattle.spf_jwt_client.specs.Requests.{jwt_request, validation_request}
 
 use crate::first::{first_bundles, first_svids, first_validation};
 use crate::stream::JwtBundleStream;
-use spf_api::WorkloadApiError;
+use spf_api::{Response, WorkloadApiError};
 use spf_client::WorkloadApiClient;
 use spf_id::SpiffeId;
 use spf_io::Text;
@@ -32,7 +33,7 @@ pub trait JwtClient {
     type Interceptor: Interceptor;
 
     // The client that makes the requests.
-    ghost client: { Self → WorkloadApiClient Self.Link Self.Interceptor };
+    ghost client: { Self → Client Self.Link Self.Interceptor };
 
     /// Fetches the JWT bundles of the workload's trust domain and of federated ones.
     fn fetch_jwt_bundles(&mut self, alloc: Global) -> Result<JwtBundleSet, WorkloadApiError>

@@ -4,7 +4,8 @@ ghost use Rattle.std.specs.Prelude.{◌≡◌, None};
 ghost use Rattle.std.specs.Option.{option_map};
 ghost use Rattle.spf_io.specs.Rule.{broken_as};
 ghost use Rattle.spf_jwt_client.specs.Fetching.{AsksClient, AsksOnce, FetchesJwt, HasFetchCause};
-ghost use Rattle.spf_jwt_client.specs.Fetching.{Obtains, fault_error};
+ghost use Rattle.spf_jwt_client.specs.Fetching.{Obtains, fault_error, settled_by};
+ghost use Rattle.spf_jwt_client.specs.Fetching as spec;
 ghost use Rattle.spf_jwt_client.specs.Requests.{jwt_request};
 
 use crate::client::JwtClient;
@@ -43,6 +44,16 @@ fn told(last: Result<JwtSvid, AskFault>) -> Result<JwtSvid, JwtSourceError>
         Ok(svid) => Ok(svid),
         Err(fault) => Err(fault.into_error()),
     }
+}
+
+/// The result of a fetch whose first ask is its last.
+fn settled(first: Result<JwtSvid, AskFault>) -> Option<Result<JwtSvid, JwtSourceError>>
+    ensures { result ≡ settled_by (spec.is_asked_again first) (broken_as fault_error first) }
+{
+    if is_asked_again(&first) {
+        return None;
+    }
+    Some(told(first))
 }
 
 impl<C: Connector> JwtFetcher<C>
@@ -85,12 +96,13 @@ where
         ensures cause { HasFetchCause (C.refusals self.old.connector)
             (C.refusals self.new.connector) result }
     {
-        let first = self.ask(alloc, audience, id);
-        if !is_asked_again(&first) {
-            return told(first);
+        match settled(self.ask(alloc, audience, id)) {
+            Some(fetched) => fetched,
+            None => {
+                self.client = None;
+                told(self.ask(alloc, audience, id))
+            }
         }
-        self.client = None;
-        told(self.ask(alloc, audience, id))
     }
 
     /// Asks over the client that is kept, or over a new one where none is.
