@@ -1,5 +1,5 @@
 -- The count of a connector never falls in a fetch, and it rose where no client could be made.
-use Rattle.std.proofs.Common.{◌≡◌, ◌≤◌, ℕ, true, false, Bool, List, Option, Some, None}
+use Rattle.std.proofs.Common.{◌≡◌, ◌≤◌, ℕ, true, false, Bool, Option, Some, None}
 use Rattle.std.proofs.Common.{Result, Ok, Err, refl, sym, ap, subst, arith, inl, inr}
 use Rattle.spf_io.specs.Outside.{Rose}
 use Rattle.spf_io.specs.Rule.{broken_as}
@@ -12,7 +12,6 @@ use Rattle.spf_link.specs.declared.connector.Connector as connectors
 use Rattle.spf_link.specs.declared.link.Link as links
 use Rattle.spf_link.specs.declared.request.Request.{Request}
 use Rattle.spf_client.specs.Connecting.{client_of}
-use Rattle.spf_client.specs.Reading.{client_fault_reading}
 use Rattle.spf_jwt.specs.Token.{Svid}
 use Rattle.spf_jwt_feed.specs.States.{source_of_api}
 use Rattle.spf_jwt_feed.specs.declared.state.JwtSourceError.{JwtSourceError}
@@ -20,7 +19,7 @@ use Rattle.spf_jwt_client.specs.Fetching.{Held, Client, Obtains, AsksOnce, AsksO
 use Rattle.spf_jwt_client.specs.Fetching.{IsOfConnector, HasFetchCause, Ends, fault_error}
 use Rattle.spf_jwt_client.specs.Fetching.{fetch_error, is_asked_again}
 use Rattle.spf_jwt_client.specs.declared.fault.AskFault.{AskFault}
-use Rattle.spf_jwt_client.specs.declared.fault.AskFault.TheVariants.{NoClient, Failed}
+use Rattle.spf_jwt_client.specs.declared.fault.AskFault.TheVariants.{Failed}
 
 err_same : {T : Type 0} (d e : WorkloadApiError) (r s : Result T WorkloadApiError) → r ≡ Err d
     → s ≡ Err e → r ≡ s → d ≡ e
@@ -36,8 +35,9 @@ later_rose a b c le (inl lt) = inl (omega arith)
 later_rose a b c le (inr max) = inr max
 
 module _ {S L : Type 0} (connector : connectors.Ghosts S L) (link : links.Ghosts L) where
-  obtained_later : (old : S) (kept : Option (Client L)) (client : Result (Client L) WorkloadApiError)
-      (behind : S) → Obtains connector link old kept client behind
+  obtained_later : (old : S) (kept : Option (Client L))
+      (client : Result (Client L) WorkloadApiError) (behind : S)
+      → Obtains connector link old kept client behind
       → connector.refusals old ≤ connector.refusals behind
   obtained_later old (Some k) client behind obtains =
       let same : connector.refusals behind ≡ connector.refusals old =

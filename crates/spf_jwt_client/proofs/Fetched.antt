@@ -1,6 +1,6 @@
 -- A fetch whose first ask is its last, and one of two asks.
-use Rattle.std.proofs.Common.{◌≡◌, Bool, true, false, Option, Some, None, Result, refl, sym, ap}
-use Rattle.std.proofs.Common.{subst, ◌∙◌}
+use Rattle.std.proofs.Common.{◌≡◌, Bool, true, false, Some, None, Result, refl, sym}
+use Rattle.std.proofs.Common.{subst}
 use Rattle.spf_io.specs.Rule.{broken_as}
 use Rattle.spf_link.specs.declared.connector.Connector as connectors
 use Rattle.spf_link.specs.declared.link.Link as links

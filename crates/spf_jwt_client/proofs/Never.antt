@@ -1,13 +1,12 @@
 -- No rule of a response of JWT identities is broken by an error that a link refuses with.
 use Rattle.std.proofs.Common.{◌≡◌, ℕ, true, false, Bool, List, [], ◌∷◌, Option, Some, None}
-use Rattle.std.proofs.Common.{Result, Ok, Err, refl, is_ok}
-use Rattle.spf_io.specs.Rule.{◌>>=◌, broken_as, each}
+use Rattle.std.proofs.Common.{refl, is_ok}
+use Rattle.spf_io.specs.Rule.{broken_as}
 use Rattle.spf_api.specs.Errors.{api_of_id, api_of_jwt_svid, api_of_jwt_bundle}
 use Rattle.spf_api.specs.declared.jwt_error.JwtBundleError.{JwtBundleError}
 use Rattle.spf_api.specs.declared.jwt_error.JwtBundleError.TheVariants as bundle
 use Rattle.spf_api.specs.declared.jwt_error.JwtSvidError.{JwtSvidError}
 use Rattle.spf_api.specs.declared.jwt_error.JwtSvidError.TheVariants as svid
-use Rattle.spf_api.specs.declared.error.WorkloadApiError.{WorkloadApiError}
 use Rattle.spf_api.specs.declared.error.WorkloadApiError.TheVariants as api
 use Rattle.spf_api.specs.declared.response.BundleEntry.{BundleEntry}
 use Rattle.spf_api.specs.declared.response.BundlesResponse.{BundlesResponse}
@@ -19,14 +18,14 @@ use Rattle.spf_api.specs.declared.response.ValidationResponse.{ValidationRespons
 use Rattle.spf_id.specs.Rule.{id_rule, name_rule}
 use Rattle.spf_client.specs.Causes.{is_refusal}
 use Rattle.spf_client.proofs.Never.{Never, never_ok, never_err, never_then, never_if, never_each}
-use Rattle.spf_client.proofs.Never.{never_as, never_read, of_id, required_never}
+use Rattle.spf_client.proofs.Never.{never_as, of_id, required_never}
 use Rattle.spf_jwt.specs.Authority.{key_set_of}
 use Rattle.spf_jwt.specs.Bundle.{bundle_of}
 use Rattle.spf_jwt.specs.Responses.{named_bundle_of, jwt_bundle_set_of, entry_required}
 use Rattle.spf_jwt.specs.Responses.{entries_required, svid_of_entry, jwt_svids_of}
 use Rattle.spf_jwt.specs.Selected.{first_of, first_jwt_svid_of, first_token_of, found_by}
 use Rattle.spf_jwt.specs.Selected.{hinted_jwt_svid_of, validated_svid_of}
-use Rattle.spf_jwt.specs.Token.{Svid, token_rule}
+use Rattle.spf_jwt.specs.Token.{Svid}
 use Rattle.spf_jwt.specs.Validation.{validation_rule, given_claims, claims_rule, state_rule}
 use Rattle.spf_jwt.specs.Validation.{state_of, sub_layer, aud_layer, exp_layer, sub_state}
 use Rattle.spf_jwt.specs.Validation.{aud_state, exp_state, are_words}

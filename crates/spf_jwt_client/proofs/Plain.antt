@@ -1,6 +1,7 @@
 -- An error by which a link or an interceptor refuses holds no error of a key set.
-use Rattle.std.proofs.Common.{◌≡◌, ◌⊎◌, Bool, true, false, cond, codes, Option, Some, None, Result, Ok, Err}
-use Rattle.std.proofs.Common.{refl, sym, ap, ◌∙◌, subst, inl, inr}
+use Rattle.std.proofs.Common.{◌≡◌, Bool, true, false, cond, codes, Option, Some, None, Result}
+use Rattle.std.proofs.Common.{Ok, Err}
+use Rattle.std.proofs.Common.{refl, sym, ap, subst, inl, inr}
 use Rattle.spf_io.specs.Rule.{broken_as}
 use Rattle.spf_api.specs.Errors.{is_denied, status_reading}
 use Rattle.spf_api.specs.Status.{holds}

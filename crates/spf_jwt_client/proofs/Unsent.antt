@@ -1,5 +1,5 @@
 -- A request that is not made, since memory ran out, is not sent.
-use Rattle.std.proofs.Common.{◌≡◌, Option, Some, None, Result, Err, refl, inl}
+use Rattle.std.proofs.Common.{Option, Some, None, Err, refl, inl}
 use Rattle.spf_api.specs.Refused.{Refused}
 use Rattle.spf_api.specs.declared.error.WorkloadApiError.TheVariants as api
 use Rattle.spf_link.specs.Interceptor.{Intercepted}

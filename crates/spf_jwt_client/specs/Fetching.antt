@@ -1,7 +1,7 @@
 -- What a fetcher of JWT-SVIDs asks, and what it returns. It keeps a client. An ask goes over the
 -- kept client, or over a new one where none is kept. After an ask that failed for a reason of the
 -- connection the client is dropped, and there is one more ask.
-use Rattle.std.specs.Prelude.{◌≡◌, ℕ, ◌≤◌, List, [], Bool, true, false, Option, None, Some}
+use Rattle.std.specs.Prelude.{◌≡◌, ℕ, ◌≤◌, [], Bool, true, false, Option, None, Some}
 use Rattle.std.specs.Prelude.{Result, Ok, Err}
 use Rattle.spf_io.specs.Outside.{Rose}
 use Rattle.spf_io.specs.Rule.{broken_as}

@@ -20,9 +20,9 @@ use spf_link::{Connector, NoInterceptor};
 use std::alloc::Global;
 use std::fmt;
 
-/// Fetches JWT-SVIDs over one client, which is made at the first fetch and kept. Where a fetch fails
-/// for a reason of the connection, the client is dropped, and the fetcher asks once more over a new
-/// one: after an error of the connection itself, and after the statuses CANCELLED,
+/// Fetches JWT-SVIDs over one client, which is made at the first fetch and kept. Where a fetch
+/// fails for a reason of the connection, the client is dropped, and the fetcher asks once more over
+/// a new one: after an error of the connection itself, and after the statuses CANCELLED,
 /// DEADLINE_EXCEEDED and UNAVAILABLE.
 #[derive(Drop)]
 pub struct JwtFetcher<C: Connector> {

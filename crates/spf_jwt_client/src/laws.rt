@@ -15,7 +15,8 @@ use spf_link::Link;
 /// interceptor refused with the status that the error stands for, or where the count of refusals of
 /// the link rose.
 pub fn jwt_refusals_have_causes<L: Link>()
-    ensures svids { RefusalsHaveCauses L.Link Response.JwtSvids first_jwt_svid_of (λ (s : Svid). s) }
+    ensures svids { RefusalsHaveCauses L.Link Response.JwtSvids first_jwt_svid_of
+        (λ (s : Svid). s) }
     ensures all_svids { RefusalsHaveCauses L.Link Response.JwtSvids jwt_svids_of vec_items }
     ensures hinted { (hint : List ℕ) → RefusalsHaveCauses L.Link Response.JwtSvids
         (hinted_jwt_svid_of hint) (λ (s : Svid). s) }
