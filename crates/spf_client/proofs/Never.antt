@@ -25,34 +25,34 @@ use Rattle.spf_client.specs.Causes.{is_refusal}
 abbrev pub Never : {A : Type 0} → Result A WorkloadApiError → Type 0
 Never rule = (e : WorkloadApiError) → rule ≡ Err e → is_refusal e ≡ false
 
-never_ok : {A : Type 0} (x : A) → Never (Ok x)
+pub never_ok : {A : Type 0} (x : A) → Never (Ok x)
 never_ok x e is = absurd cc
 
-never_err : {A : Type 0} (f : WorkloadApiError) → is_refusal f ≡ false → Never {A = A} (Err f)
+pub never_err : {A : Type 0} (f : WorkloadApiError) → is_refusal f ≡ false → Never {A = A} (Err f)
 never_err f no_refusal e is = let same : f ≡ e = cc in sym (ap is_refusal same) ∙ no_refusal
 
-never_then : {A B : Type 0} (m : Result A WorkloadApiError) (f : A → Result B WorkloadApiError)
+pub never_then : {A B : Type 0} (m : Result A WorkloadApiError) (f : A → Result B WorkloadApiError)
     → Never m → ((x : A) → Never (f x)) → Never (m >>= f)
 never_then (Ok x) f first after = after x
 never_then (Err d) f first after = never_err d (first d refl)
 
-never_if : {A : Type 0} (b : Bool) (x y : Result A WorkloadApiError) → Never x → Never y
+pub never_if : {A : Type 0} (b : Bool) (x y : Result A WorkloadApiError) → Never x → Never y
     → Never (cond b x y)
 never_if true x y first second = first
 never_if false x y first second = second
 
-never_each : {A B : Type 0} (f : A → Result B WorkloadApiError) → ((x : A) → Never (f x))
+pub never_each : {A B : Type 0} (f : A → Result B WorkloadApiError) → ((x : A) → Never (f x))
     → (xs : List A) → Never (each f xs)
 never_each f one [] = never_ok []
 never_each f one (x ∷ xs) = never_then (f x) _ (one x)
     (λ y. never_then (each f xs) _ (never_each f one xs) (λ ys. never_ok (y ∷ ys)))
 
-never_as : {A E : Type 0} (f : E → WorkloadApiError) → ((d : E) → is_refusal (f d) ≡ false)
+pub never_as : {A E : Type 0} (f : E → WorkloadApiError) → ((d : E) → is_refusal (f d) ≡ false)
     → (rule : Result A E) → Never (broken_as f rule)
 never_as f none (Ok x) = never_ok x
 never_as f none (Err d) = never_err (f d) (none d)
 
-never_read : {A B : Type 0} (f : A → B) (rule : Result A WorkloadApiError) → Never rule
+pub never_read : {A B : Type 0} (f : A → B) (rule : Result A WorkloadApiError) → Never rule
     → Never (read_as f rule)
 never_read f (Ok x) never = never_ok (f x)
 never_read f (Err d) never = never_err d (never d refl)
@@ -65,11 +65,11 @@ of_bundle : (e : X509BundleError) → is_refusal (api_of_bundle e) ≡ false
 of_bundle bundle.OutOfMemory = refl
 of_bundle _ = refl
 
-of_id : (e : SpiffeIdError) → is_refusal (api_of_id e) ≡ false
+pub of_id : (e : SpiffeIdError) → is_refusal (api_of_id e) ≡ false
 of_id id.OutOfMemory = refl
 of_id _ = refl
 
-required_never : (octets field : List ℕ) → Never (required octets field)
+pub required_never : (octets field : List ℕ) → Never (required octets field)
 unfolding required
 required_never octets field = never_if _ _ _ (never_err (api.MissingRequiredField field) refl)
     (never_ok tt)

@@ -68,7 +68,7 @@ impl<L: Link, I: Interceptor> WorkloadApiClient<L, I> {
     }
 
     /// Begins a request.
-    pub(crate) fn begin(&mut self, alloc: Global, request: &Request) -> Result<(), WorkloadApiError>
+    pub fn begin(&mut self, alloc: Global, request: &Request) -> Result<(), WorkloadApiError>
         requires { I.can_intercept self.old.metadata.extra }
         ensures begins { Begins L.Link (I.intercepts self.old.metadata.extra []) request.now
             self.old.link result self.new.link }
@@ -84,11 +84,7 @@ impl<L: Link, I: Interceptor> WorkloadApiClient<L, I> {
     }
 
     /// Begins a request, and takes the first response to it.
-    pub(crate) fn ask(
-        &mut self,
-        alloc: Global,
-        request: &Request,
-    ) -> Result<Response, WorkloadApiError>
+    pub fn ask(&mut self, alloc: Global, request: &Request) -> Result<Response, WorkloadApiError>
         requires { I.can_intercept self.old.metadata.extra }
         ensures asks { Asks L.Link (I.intercepts self.old.metadata.extra []) request.now
             self.old.link result self.new.link }

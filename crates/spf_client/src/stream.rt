@@ -43,6 +43,20 @@ fn next_response<L: Link>(
     }
 }
 
+impl<L: Link, I> WorkloadApiClient<L, I> {
+    /// The next response to the request that was begun last: none at the end of the stream, and
+    /// where it has ended. Whether it has ended is kept by the caller.
+    pub fn next_response(&mut self, ended: &mut bool) -> Option<Result<Response, WorkloadApiError>>
+        ensures brings { Brings L.Link ended.old self.old.link result self.new.link ended.new }
+        ensures kind { IfSome result (λ r. IfOk r
+            (λ response. L.kind self.old.link ≡ Some (kind_of response))) }
+        ensures same_kind { L.kind self.new.link ≡ L.kind self.old.link }
+        ensures kept { self.new ≡ record self.old { link = self.new.link } }
+    {
+        next_response(&mut self.link, ended)
+    }
+}
+
 /// The contexts that an agent sends.
 #[derive(Drop)]
 pub struct X509ContextStream<'a, L: Link, I = NoInterceptor> {

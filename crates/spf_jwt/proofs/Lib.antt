@@ -1,9 +1,10 @@
 pub mod Entries
 pub mod Floats
-pub mod Texts
-pub mod Keys
-pub mod Signature
+mod Found
 pub mod Kept
+pub mod Keys
+pub mod Later
 pub mod Octets
 pub mod Required
-pub mod Later
+pub mod Signature
+pub mod Texts

@@ -1,10 +1,11 @@
+pub mod Authority
+pub mod Bundle
+pub mod Entries
 pub mod Errors
 pub mod Json
-pub mod Authority
-pub mod Entries
-pub mod Bundle
 pub mod Laws
-pub mod Token
 pub mod Limits
 pub mod Responses
+pub mod Selected
+pub mod Token
 pub mod Validation

@@ -48,9 +48,13 @@ unfoldable pub svid_of_entry : JwtSvidEntry → Result Svid WorkloadApiError
 svid_of_entry e =
     broken_as api_of_jwt_svid (token_rule e.svid) >>= λ svid. Ok (hinted e.hint svid)
 
--- the SVIDs of a response in order, or the first broken rule
-unfoldable pub jwt_svids_of : JwtSvidsResponse → Result (List Svid) WorkloadApiError
-jwt_svids_of r =
+-- there is an entry, and no field that must be there is empty
+unfoldable pub entries_required : JwtSvidsResponse → Result (Unit {0}) WorkloadApiError
+entries_required r =
     if length r.svids == 0
     then Err (api.MissingRequiredField (codes "JWTSVIDResponse.svids"))
-    else (kept_by_each entry_required r.svids >>= λ _. each svid_of_entry r.svids)
+    else kept_by_each entry_required r.svids
+
+-- the SVIDs of a response in order, or the first broken rule
+unfoldable pub jwt_svids_of : JwtSvidsResponse → Result (List Svid) WorkloadApiError
+jwt_svids_of r = entries_required r >>= λ _. each svid_of_entry r.svids

@@ -6,8 +6,8 @@ ghost use Rattle.spf_api.specs.Errors.{is_memory_api};
 ghost use Rattle.spf_api.specs.Parsed.{hint_rule, kept_by_each, required};
 ghost use Rattle.spf_api.specs.declared.error.WorkloadApiError.TheVariants.{MissingRequiredField};
 ghost use Rattle.spf_jwt.specs.Errors.{api_of_any_kind};
-ghost use Rattle.spf_jwt.specs.Responses.{entry_required, jwt_bundle_set_of, jwt_svids_of};
-ghost use Rattle.spf_jwt.specs.Responses.{named_bundle_of, svid_of_entry};
+ghost use Rattle.spf_jwt.specs.Responses.{entries_required, entry_required, jwt_bundle_set_of};
+ghost use Rattle.spf_jwt.specs.Responses.{jwt_svids_of, named_bundle_of, svid_of_entry};
 
 use crate::bundle::JwtBundle;
 use crate::bundle_set::JwtBundleSet;
@@ -92,6 +92,17 @@ fn check_entries(alloc: Global, entries: &[JwtSvidEntry]) -> Result<(), Workload
     Ok(())
 }
 
+/// Checks that there is an entry, and that no field that must be there is empty.
+#[tactic(auto, unfolding(crate::specs::Responses::entries_required))]
+pub(crate) fn require_entries(alloc: Global, r: &JwtSvidsResponse) -> Result<(), WorkloadApiError>
+    ensures { Gives is_memory_api (λ _. tt) result (entries_required r.now) }
+{
+    if r.svids.as_slice().is_empty() {
+        return Err(missing(alloc, "JWTSVIDResponse.svids"));
+    }
+    check_entries(alloc, r.svids.as_slice())
+}
+
 /// A hint, which is none where it is empty.
 fn hint_of(alloc: Global, hint: &str) -> Result<Option<Text>, OutOfMemory>
     ensures { IfOk result (λ t. t ≡ hint_rule hint.now) }
@@ -127,9 +138,6 @@ fn entry_svids(alloc: Global, entries: &[JwtSvidEntry]) -> Result<Vec<JwtSvid>, 
 pub fn jwt_svids_from(alloc: Global, r: &JwtSvidsResponse) -> Result<Vec<JwtSvid>, WorkloadApiError>
     ensures { Gives is_memory_api (λ v. v.items) result (jwt_svids_of r.now) }
 {
-    if r.svids.as_slice().is_empty() {
-        return Err(missing(alloc, "JWTSVIDResponse.svids"));
-    }
-    check_entries(alloc, r.svids.as_slice())?;
+    require_entries(alloc, r)?;
     entry_svids(alloc, r.svids.as_slice())
 }

@@ -1,0 +1,5 @@
+mod Caused
+mod Fetched
+mod Never
+mod Plain
+mod Unsent
