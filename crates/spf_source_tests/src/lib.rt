@@ -6,6 +6,10 @@ mod build;
 #[cfg(test)]
 mod gate;
 #[cfg(test)]
+mod gate_late;
+#[cfg(test)]
+mod gate_live;
+#[cfg(test)]
 mod gate_serve;
 #[cfg(test)]
 mod source;
