@@ -83,10 +83,11 @@ abbrev pub SyncFailsBy : {K : Type 0} → (K → List Svid → Option ℕ)
 SyncFailsBy {K} picks valid e = (set : Settings K) × IsDefault set × SyncFails picks set valid e
 
 -- Why a run fails, by what the refusal of a supervisor and of a place, and a failure of the input
--- and of the output come from. The other errors of answering are those of the input's bytes.
+-- and of the output come from. The other errors of answering come from the input's bytes, as `Runs`
+-- says.
 abbrev pub FailsBy : {K : Type 0} → (K → List Svid → Option ℕ) → Result (Unit {0}) EndpointError
     → Type 0 → Type 0 → Type 0 → Type 0 → LiveGateError → Type 0
-FailsBy picks valid supervisor place input output errors.BadArguments = ⊥
+FailsBy picks valid supervisor place input output errors.BadArguments = Unit {0}
 FailsBy picks valid supervisor place input output (errors.Gate gate.ReadFault) = input
 FailsBy picks valid supervisor place input output (errors.Gate gate.WriteFault) = output
 FailsBy picks valid supervisor place input output (errors.Gate e) = Unit {0}
@@ -99,19 +100,12 @@ FailsBy picks valid supervisor place input output errors.NoPlace = place
 
 -- ---- the whole
 
--- why a run without arguments fails
-abbrev pub HasCause : {K : Type 0} → (K → List Svid → Option ℕ) → Result (Unit {0}) EndpointError
-    → Type 0 → Type 0 → Type 0 → Type 0 → Result (Unit {0}) LiveGateError → Type 0
-HasCause picks valid supervisor place input output (Err errors.BadArguments) = Unit {0}
-HasCause picks valid supervisor place input output r =
-    IfErr r (FailsBy picks valid supervisor place input output)
-
 -- A run did this, ended with this status, and reported it.
 pub record Ended {K : Type 0} (members : Option (List Member)) (picks : K → List Svid → Option ℕ)
     (valid : Result (Unit {0}) EndpointError) (supervisor place input output : Type 0)
     (left held held' : Option (List ℕ)) (before after : Side) (status : ℕ) : Type 0 where
   pub end : Result (Unit {0}) LiveGateError
   pub runs : Runs members picks left held held' end
-  pub cause : HasCause picks valid supervisor place input output end
+  pub cause : IfErr end (FailsBy picks valid supervisor place input output)
   pub status_is : status ≡ end_status end
   pub reported : Reports before after end

@@ -1,6 +1,6 @@
 //! Asks that are answered from a source of their own.
 
-ghost use Rattle.std.specs.Prelude.{◌≡◌, ◌≢◌, ◌↔◌, []};
+ghost use Rattle.std.specs.Prelude.{◌≡◌, ◌≢◌, ◌↔◌, length};
 ghost use Rattle.spf_board.specs.Passes.{Rose as Refused};
 ghost use Rattle.spf_io.specs.Outside.{Rose};
 ghost use Rattle.spf_program.specs.Streams.{side};
@@ -54,7 +54,7 @@ where
     E: Sink,
     R: Wait + Copy + Drop,
     // Status 9 comes exactly where there are arguments.
-    ensures arguments { (result ≡ 9) ↔ (arguments.now ≢ []) }
+    ensures arguments { (result ≡ 9) ↔ (length arguments.now ≢ 0) }
     // Where all asks were answered, each line is that of what was read of a beginning of the steps
     // in the supervisor's record, whose events are what the connector told. Where they were not, the
     // status and the line on `errors` say why.

@@ -1,9 +1,10 @@
 //! A live run of the gate over real threads.
 
-ghost use Rattle.std.specs.Prelude.{◌≡◌, ◌≢◌, ◌↔◌, [], None, Ok, IfErr};
+ghost use Rattle.std.specs.Prelude.{◌≡◌, ◌≢◌, ◌↔◌, length, None, Ok, IfErr, IsErrOf};
 ghost use Rattle.spf_io.specs.Outside.{Rose};
 ghost use Rattle.spf_program.specs.Streams.{side};
 ghost use Rattle.spf_gate_live.specs.Runs.{Ended, FailsBy, Runs};
+ghost use Rattle.spf_gate_live.specs.declared.live_error.LiveGateError.TheVariants as kinds;
 
 use crate::ending::report;
 use crate::live::MAX_LINES;
@@ -35,7 +36,7 @@ where
     K: Sink,
     E: Sink,
     // Status 9 comes exactly where there are arguments.
-    ensures arguments { (result ≡ 9) ↔ (arguments.now ≢ []) }
+    ensures arguments { (result ≡ 9) ↔ (length arguments.now ≢ 0) }
     // As `gate_live` over the endpoint, the clock and the threads of the process: no clause says
     // when a thread or a place is not to be had.
     ensures ended { Ended None (⟦<HintPicker as SvidPicker>⟧.picks) (Ok tt) (Unit {0}) (Unit {0})
@@ -69,6 +70,7 @@ where
     ensures cause { IfErr result (FailsBy (⟦<HintPicker as SvidPicker>⟧.picks) (Ok tt) (Unit {0})
         (Unit {0}) (Rose (I.failures input.old) (I.failures input.new))
         (Rose (K.failures out.old) (K.failures out.new))) }
+    ensures arguments { IsErrOf result kinds.BadArguments → ⊥ }
 {
     let alloc = host.alloc();
     let builder = X509SourceBuilder::new(HostConnector::new(host, alloc))
