@@ -3,7 +3,7 @@ use Rattle.std.proofs.Common.{◌≡◌, ◌∙◌, refl, sym, ap, ℕ, ◌+◌,
 use Rattle.std.proofs.Common.{◌++◌}
 use Rattle.std.proofs.Common.{Option, Some, None, IfSome, Result, Ok, Err, append_assoc, arith}
 use Rattle.std.proofs.Common.{◌-◌, ◌<◌, ◌≤◌, nat_lt}
-use Rattle.std.specs.Prelude.{if◌then◌else◌}
+use Rattle.std.specs.Prelude.{◌≢◌, if◌then◌else◌}
 use Rattle.std.specs.Bool.{MatchBool}
 use Rattle.std.specs.Option.{option_to_list}
 use Rattle.std.proofs.lemmas.List.{append-nil}
@@ -100,27 +100,28 @@ map_broken (errors.NotText line) p f = f p
 map_broken errors.TooManyLines p f = f p
 
 broken_here : (max before after : ℕ) (a b : List ℕ) (e : GateError)
+    → e ≢ errors.ReadFault
     → MatchBool (is_memory_gate e) (Unit {0}) (policy_of max (before + 1) (lines_of a) ≡ Err e)
     → ReadsPolicy max before after (Some a) (Some b) (Err e)
-broken_here max before after a b errors.ReadFault h = tt
-broken_here max before after a b errors.OutOfMemory h = tt
-broken_here max before after a b errors.WriteFault h = h
-broken_here max before after a b (errors.BadRule line) h = h
-broken_here max before after a b errors.NoPolicyEnd h = h
-broken_here max before after a b (errors.LineTooLong line) h = h
-broken_here max before after a b (errors.NotText line) h = h
-broken_here max before after a b errors.TooManyLines h = h
+broken_here max before after a b errors.ReadFault calm h = absurd (calm refl)
+broken_here max before after a b errors.OutOfMemory calm h = tt
+broken_here max before after a b errors.WriteFault calm h = h
+broken_here max before after a b (errors.BadRule line) calm h = h
+broken_here max before after a b errors.NoPolicyEnd calm h = h
+broken_here max before after a b (errors.LineTooLong line) calm h = h
+broken_here max before after a b (errors.NotText line) calm h = h
+broken_here max before after a b errors.TooManyLines calm h = h
 
 -- the line breaks a rule
 pub bad_rule : (max before : ℕ) (old new : Option (List ℕ)) (number : ℕ) (rules : List Rule)
     (line : List ℕ) (e : GateError) → Stepped max (before + 1) old new number rules line
-    → is_policy_end line ≡ false
+    → is_policy_end line ≡ false → e ≢ errors.ReadFault
     → MatchBool (is_memory_gate e) (Unit {0}) (rule_at number line ≡ Err e)
     → ReadsPolicy max before number old new (Err e)
-bad_rule max before None new number rules line e so is says = tt
-bad_rule max before (Some a) None number rules line e so is says = absurd so
-bad_rule max before (Some a) (Some c) number rules line e so is says =
-    broken_here max before number a c e
+bad_rule max before None new number rules line e so is calm says = tt
+bad_rule max before (Some a) None number rules line e so is calm says = absurd so
+bad_rule max before (Some a) (Some c) number rules line e so is calm says =
+    broken_here max before number a c e calm
     (map_broken e says (λ bad. so ∙ rw (is, bad) refl))
 
 -- memory ran out
@@ -160,8 +161,11 @@ bad_line max before after None mid new number rules line e so takes = tt
 bad_line max before after (Some a) None new number rules line e so takes = absurd so
 bad_line max before after (Some a) (Some b) None number rules line errors.ReadFault so takes =
     absurd takes
-bad_line max before after (Some a) (Some b) (Some c) number rules line errors.ReadFault so takes =
-    tt
+bad_line max before after (Some a) (Some b) (Some c) number rules line errors.ReadFault so takes = (
+  rules,
+  number + 1,
+  so ∙ ap (λ (l : List (List ℕ)). after_rules rules (policy_of max (number + 1) l)) takes,
+)
 bad_line max before after (Some a) (Some b) None number rules line errors.OutOfMemory so takes =
     absurd takes
 bad_line max before after (Some a) (Some b) (Some c) number rules line errors.OutOfMemory so takes =

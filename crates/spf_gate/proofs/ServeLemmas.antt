@@ -21,7 +21,7 @@ use Rattle.spf_gate.specs.declared.gate_error.GateError.TheVariants as errors
 use Rattle.spf_gate.specs.Answers.{answer_line}
 use Rattle.spf_gate.specs.Lines.{lines_of, line_rule}
 use Rattle.spf_gate.specs.Policies.{ReadsPolicy, asks_rule, asks_before}
-use Rattle.spf_gate.specs.Reading.{Breaks, TakesLine, number_after}
+use Rattle.spf_gate.specs.Reading.{Breaks, HasNoFeed, TakesLine, number_after}
 use Rattle.spf_gate.specs.Serving.{AnswersAsk, AreAnswers, AreAsks, AreRead, Seen, Serves}
 use Rattle.spf_gate.specs.Serving.{ServesAsks, is_cut}
 
@@ -272,27 +272,35 @@ asked_until max first old mid new rules seen seen' held held' number ask e uncut
 
 -- ---- the whole input
 
-policy_error : (max after : ℕ) (left new : Option (List ℕ)) (e : GateError)
-    → ReadsPolicy max 0 after (prepend_known [] left) new (Err e) → is_cut {T = ℕ} (Err e) ≡ false
-    → IfSome left (λ bytes. AreRead max bytes [] [] (Err e))
-policy_error max after None new e reads uncut = tt
-policy_error max after (Some a) None e reads uncut = absurd reads
-policy_error max after (Some a) (Some c) errors.ReadFault reads uncut = inl refl
-policy_error max after (Some a) (Some c) errors.OutOfMemory reads uncut = absurd (cc)
-policy_error max after (Some a) (Some c) errors.WriteFault reads uncut = absurd (cc)
-policy_error max after (Some a) (Some c) (errors.BadRule line) reads uncut = inl (refl, reads)
-policy_error max after (Some a) (Some c) errors.NoPolicyEnd reads uncut = inl (refl, reads)
-policy_error max after (Some a) (Some c) (errors.LineTooLong line) reads uncut = inl (refl, reads)
-policy_error max after (Some a) (Some c) (errors.NotText line) reads uncut = inl (refl, reads)
-policy_error max after (Some a) (Some c) errors.TooManyLines reads uncut = inl (refl, reads)
+policy_error : (max after : ℕ) (left left' : Option (List ℕ)) (o : List ℕ) (e : GateError)
+    → ReadsPolicy max 0 after (prepend_known [] left) (prepend_known o left') (Err e)
+    → is_cut {T = ℕ} (Err e) ≡ false → (e ≡ errors.ReadFault → HasNoFeed o)
+    → IfSome left (λ bytes. AreRead max bytes left' [] [] (Err e))
+policy_error max after None left' o e reads uncut begun = tt
+policy_error max after (Some a) None o e reads uncut begun = absurd reads
+policy_error max after (Some a) (Some c) o errors.ReadFault reads uncut begun =
+    (o, begun refl, inl (refl, reads))
+policy_error max after (Some a) (Some c) o errors.OutOfMemory reads uncut begun = absurd (cc)
+policy_error max after (Some a) (Some c) o errors.WriteFault reads uncut begun = absurd (cc)
+policy_error max after (Some a) (Some c) o (errors.BadRule line) reads uncut begun =
+    inl (refl, reads)
+policy_error max after (Some a) (Some c) o errors.NoPolicyEnd reads uncut begun = inl (refl, reads)
+policy_error max after (Some a) (Some c) o (errors.LineTooLong line) reads uncut begun =
+    inl (refl, reads)
+policy_error max after (Some a) (Some c) o (errors.NotText line) reads uncut begun =
+    inl (refl, reads)
+policy_error max after (Some a) (Some c) o errors.TooManyLines reads uncut begun = inl (refl, reads)
 
 -- the policy is not read to its end
-pub refused_policy : (max max' number after : ℕ) (o : List ℕ) (left new : Option (List ℕ))
+pub refused_policy : (max max' number after : ℕ) (o o' : List ℕ) (left left' : Option (List ℕ))
     (seen : Seen) (held : Option (List ℕ)) (e : GateError) → o ≡ [] → number ≡ 0 → max' ≡ max
     → is_cut {T = ℕ} (Err e) ≡ false
-    → ReadsPolicy max' number after (prepend_known o left) new (Err e)
-    → Serves max left seen seen held held (Err e)
-refused_policy max max' number after o left new seen held e o_is number_is max_is uncut reads =
+    → ReadsPolicy max' number after (prepend_known o left) (prepend_known o' left') (Err e)
+    → (e ≡ errors.ReadFault → HasNoFeed o')
+    → Serves max left left' seen seen held held (Err e)
+refused_policy max max' number after o o' left left' seen held e o_is number_is max_is uncut reads
+    begun =
+    let new = prepend_known o' left' in
     let first = subst (λ (x : List ℕ).
     ReadsPolicy max' number after (prepend_known x left) new (Err e)) o_is reads in
     let second = subst (λ (n : ℕ).
@@ -305,51 +313,56 @@ refused_policy max max' number after o left new seen held e o_is number_is max_i
       text = [];
       written = Appends-nil held;
       answers = (refl, begins_self seen);
-      read = policy_error max after left new e third uncut;
+      read = policy_error max after left left' o' e third uncut begun;
     }
 
-asks_read : (max after : ℕ) (left mid new : Option (List ℕ)) (rules : List Rule)
+asks_read : (max after : ℕ) (left mid left' : Option (List ℕ)) (o : List ℕ) (rules : List Rule)
     (asks : List (List ℕ)) (r : Result ℕ GateError)
     → ReadsPolicy max 0 after (prepend_known [] left) mid (Ok rules)
-    → AreAsks max (after + 1) mid new asks r → is_cut r ≡ false
-    → IfSome left (λ bytes. AreRead max bytes rules asks r)
-asks_read max after None mid new rules asks r policy so uncut = tt
-asks_read max after (Some a) None new rules asks r policy so uncut = absurd policy
-asks_read max after (Some a) (Some m) None rules asks r policy so uncut = absurd so
-asks_read max after (Some a) (Some m) (Some c) rules asks (Ok count) policy so uncut =
+    → AreAsks max (after + 1) mid (prepend_known o left') asks r → is_cut r ≡ false
+    → (r ≡ Err errors.ReadFault → HasNoFeed o)
+    → IfSome left (λ bytes. AreRead max bytes left' rules asks r)
+asks_read max after None mid left' o rules asks r policy so uncut begun = tt
+asks_read max after (Some a) None left' o rules asks r policy so uncut begun = absurd policy
+asks_read max after (Some a) (Some m) None o rules asks r policy so uncut begun = absurd so
+asks_read max after (Some a) (Some m) (Some c) o rules asks (Ok count) policy so uncut begun =
     (_, policy, refl, so.0, so.1, so.2)
-asks_read max after (Some a) (Some m) (Some c) rules asks (Err errors.ReadFault) policy so uncut =
-    inr (_, lines_of c, policy, refl, so.0, so.1)
-asks_read max after (Some a) (Some m) (Some c) rules asks (Err errors.OutOfMemory) policy so uncut =
+asks_read max after (Some a) (Some m) (Some c) o rules asks (Err errors.ReadFault) policy so uncut
+    begun =
+    (o, begun refl, inr (_, policy, refl, so.0, so.1))
+asks_read max after (Some a) (Some m) (Some c) o rules asks (Err errors.OutOfMemory) policy so uncut
+    begun =
     absurd (cc)
-asks_read max after (Some a) (Some m) (Some c) rules asks (Err errors.WriteFault) policy so uncut =
+asks_read max after (Some a) (Some m) (Some c) o rules asks (Err errors.WriteFault) policy so uncut
+    begun =
     absurd (cc)
-asks_read max after (Some a) (Some m) (Some c) rules asks (Err (errors.BadRule line)) policy so
-    uncut =
+asks_read max after (Some a) (Some m) (Some c) o rules asks (Err (errors.BadRule line)) policy so
+    uncut begun =
     inr (_, policy, refl, so.0, so.1)
-asks_read max after (Some a) (Some m) (Some c) rules asks (Err errors.NoPolicyEnd) policy so uncut =
+asks_read max after (Some a) (Some m) (Some c) o rules asks (Err errors.NoPolicyEnd) policy so
+    uncut begun =
     inr (_, policy, refl, so.0, so.1)
-asks_read max after (Some a) (Some m) (Some c) rules asks (Err (errors.LineTooLong line)) policy so
-    uncut =
+asks_read max after (Some a) (Some m) (Some c) o rules asks (Err (errors.LineTooLong line)) policy
+    so uncut begun =
     inr (_, policy, refl, so.0, so.1)
-asks_read max after (Some a) (Some m) (Some c) rules asks (Err (errors.NotText line)) policy so
-    uncut =
+asks_read max after (Some a) (Some m) (Some c) o rules asks (Err (errors.NotText line)) policy so
+    uncut begun =
     inr (_, policy, refl, so.0, so.1)
-asks_read max after (Some a) (Some m) (Some c) rules asks (Err errors.TooManyLines) policy so uncut
-    =
+asks_read max after (Some a) (Some m) (Some c) o rules asks (Err errors.TooManyLines) policy so
+    uncut begun =
     inr (_, policy, refl, so.0, so.1)
 
 -- the policy is read, and asks are answered by it
-pub served : (max max' max'' number after : ℕ) (o : List ℕ) (left mid new : Option (List ℕ))
+pub served : (max max' max'' number after : ℕ) (o o' : List ℕ) (left mid left' : Option (List ℕ))
     (rules rules' : List Rule) (seen seen' : Seen) (held held' : Option (List ℕ))
     (r : Result ℕ GateError) → o ≡ [] → number ≡ 0 → max' ≡ max → max'' ≡ max' → rules' ≡ rules
     → is_cut r ≡ false
     → ReadsPolicy max' number after (prepend_known o left) mid (Ok rules)
-    → ServesAsks max'' (after + 1) mid new rules' seen seen' held held' r
-    → Serves max left seen seen' held held' r
-served max max' max'' number after o left mid new rules rules' seen seen' held held' r o_is
-    number_is
-    max_is again same uncut reads so =
+    → ServesAsks max'' (after + 1) mid (prepend_known o' left') rules' seen seen' held held' r
+    → (r ≡ Err errors.ReadFault → HasNoFeed o')
+    → Serves max left left' seen seen' held held' r
+served max max' max'' number after o o' left mid left' rules rules' seen seen' held held' r o_is
+    number_is max_is again same uncut reads so begun =
     let first = subst (λ (x : List ℕ).
     ReadsPolicy max' number after (prepend_known x left) mid (Ok rules)) o_is reads in
     let second = subst (λ (n : ℕ).
@@ -362,9 +375,10 @@ served max max' max'' number after o left mid new rules rules' seen seen' held h
       text = so.text;
       written = so.written;
       answers = subst (λ (l : List Rule). AreAnswers l seen so.asks so.text seen') same so.answers;
-      read = asks_read max after left mid new rules so.asks r third
-          (subst (λ (m : ℕ). AreAsks m (after + 1) mid new so.asks r) (again ∙ max_is) so.asks_are)
-          uncut;
+      read = asks_read max after left mid left' o' rules so.asks r third
+          (subst (λ (m : ℕ). AreAsks m (after + 1) mid (prepend_known o' left') so.asks r)
+          (again ∙ max_is) so.asks_are)
+          uncut begun;
     }
 
 -- the bound of lines stays

@@ -239,6 +239,12 @@ took_nothing a b o q text max number end f end_is =
       end_known b q _ h.0 (ap (λ (l : List ℕ). lines_of (l ++ [])) h.1 ∙ no_lines),
     )
 
+-- where the source failed, no line has come whole
+pub fill_begun : (a b : Option (List ℕ)) (o q : List ℕ) (max number : ℕ) (e : GateError)
+    → FillsLine a b o q max number (Err e) → e ≡ errors.ReadFault → HasNoFeed q
+fill_begun a b o q max number e f is =
+    subst (λ (x : GateError). EndsLine b q max number (Err x)) is f.end
+
 -- no whole line came
 pub fill_refused : (a b : Option (List ℕ)) (o q : List ℕ) (max number : ℕ) (text : List ℕ)
     (e : GateError) → FillsLine a b o q max number (Err e)

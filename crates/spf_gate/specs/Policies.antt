@@ -78,6 +78,13 @@ asks_in max (Err e) = []
 
 -- ---- what reading a policy leaves
 
+-- The policy of `old` has not ended where `new` is left: its end and the asks, if there are any,
+-- stand in the lines of `new`.
+abbrev pub NotEnded : ℕ → ℕ → List ℕ → List ℕ → Type 0
+NotEnded max first old new =
+    (rules : List Rule) × (number : ℕ)
+    × (policy_of max first (lines_of old) ≡ after_rules rules (policy_of max number (lines_of new)))
+
 -- the policy that was read, where the bytes are known, and the lines that are left
 abbrev pub ReadsPolicy : ℕ → ℕ → ℕ → Option (List ℕ) → Option (List ℕ)
     → Result (List Rule) GateError → Type 0
@@ -86,7 +93,8 @@ ReadsPolicy max before after (Some old) None r = ⊥
 ReadsPolicy max before after (Some old) (Some new) (Ok rules) =
     policy_of max (before + 1) (lines_of old)
     ≡ Ok (record { rules = rules; asks = lines_of new; first = after + 1 })
-ReadsPolicy max before after (Some old) (Some new) (Err errors.ReadFault) = Unit {0}
+ReadsPolicy max before after (Some old) (Some new) (Err errors.ReadFault) =
+    NotEnded max (before + 1) old new
 ReadsPolicy max before after (Some old) (Some new) (Err errors.OutOfMemory) = Unit {0}
 ReadsPolicy max before after (Some old) (Some new) (Err e) =
     policy_of max (before + 1) (lines_of old) ≡ Err e

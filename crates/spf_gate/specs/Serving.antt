@@ -12,7 +12,8 @@ use Rattle.spf_gate.specs.declared.gate_error.GateError.{GateError}
 use Rattle.spf_gate.specs.declared.gate_error.GateError.TheVariants as errors
 use Rattle.spf_gate.specs.Answers.{answer_line}
 use Rattle.spf_gate.specs.Lines.{lines_of}
-use Rattle.spf_gate.specs.Policies.{Policy, policy_of, asks_rule, asks_before}
+use Rattle.spf_gate.specs.Policies.{NotEnded, Policy, policy_of, asks_rule, asks_before}
+use Rattle.spf_gate.specs.Reading.{HasNoFeed}
 
 -- what a pass has seen of its board
 abbrev pub Seen : Type 0
@@ -70,30 +71,38 @@ pub record ServesAsks (max first : ℕ) (old new : Option (List ℕ)) (rules : L
 
 -- ---- the whole input
 
+-- The source failed with `coming` to come: what it gave of a line that has not ended, and what it
+-- has left. All asks before that are these, or the policy has not ended.
+abbrev pub AreReadUntil : ℕ → List ℕ → List ℕ → List Rule → List (List ℕ) → Type 0
+AreReadUntil max bytes coming rules asks =
+    ((asks ≡ []) × NotEnded max 1 bytes coming)
+    ⊎ ((p : Policy) × (policy_of max 1 (lines_of bytes) ≡ Ok p) × (p.rules ≡ rules)
+    × (p.asks ≡ asks ++ lines_of coming) × (asks_rule max p.first asks ≡ Ok tt))
+
 -- What the rules and the asks of an input are: those that stand before the first broken rule, which
--- fixes the error; or, where the source failed, the asks that were read before it.
-abbrev pub AreRead : ℕ → List ℕ → List Rule → List (List ℕ) → Result ℕ GateError → Type 0
-AreRead max bytes rules asks (Ok count) =
+-- fixes the error; or, where the source failed, those whose lines it had given whole.
+abbrev pub AreRead : ℕ → List ℕ → Option (List ℕ) → List Rule → List (List ℕ) → Result ℕ GateError
+    → Type 0
+AreRead max bytes left rules asks (Ok count) =
     (p : Policy) × (policy_of max 1 (lines_of bytes) ≡ Ok p) × (p.rules ≡ rules)
     × (p.asks ≡ asks) × (asks_rule max p.first asks ≡ Ok tt) × (count ≡ length asks)
-AreRead max bytes rules asks (Err errors.ReadFault) =
-    (asks ≡ [])
-    ⊎ ((p : Policy) × (others : List (List ℕ)) × (policy_of max 1 (lines_of bytes) ≡ Ok p)
-    × (p.rules ≡ rules) × (p.asks ≡ asks ++ others) × (asks_rule max p.first asks ≡ Ok tt))
-AreRead max bytes rules asks (Err e) =
+AreRead max bytes left rules asks (Err errors.ReadFault) =
+    IfSome left (λ rest. (begun : List ℕ) × HasNoFeed begun
+    × AreReadUntil max bytes (begun ++ rest) rules asks)
+AreRead max bytes left rules asks (Err e) =
     ((asks ≡ []) × (policy_of max 1 (lines_of bytes) ≡ Err e))
     ⊎ ((p : Policy) × (policy_of max 1 (lines_of bytes) ≡ Ok p) × (p.rules ≡ rules)
     × (asks_before max p.first p.asks ≡ asks) × (asks_rule max p.first p.asks ≡ Err e))
 
 -- The asks of an input are answered by the rules of its policy.
-pub record Serves (max : ℕ) (left : Option (List ℕ)) (seen seen' : Seen)
+pub record Serves (max : ℕ) (left left' : Option (List ℕ)) (seen seen' : Seen)
     (held held' : Option (List ℕ)) (r : Result ℕ GateError) : Type 0 where
   pub rules : List Rule
   pub asks : List (List ℕ)
   pub text : List ℕ
   pub written : Appends held held' text
   pub answers : AreAnswers rules seen asks text seen'
-  pub read : IfSome left (λ bytes. AreRead max bytes rules asks r)
+  pub read : IfSome left (λ bytes. AreRead max bytes left' rules asks r)
 
 -- the count never falls, and `WriteFault` comes only where it rose
 pub record PutHasCause {T : Type 0} (before now : ℕ) (r : Result T GateError) : Type 0 where

@@ -1,14 +1,14 @@
 //! Reading the lines of an input, which end with a line feed. The last one may lack it.
 
 ghost use Rattle.std.specs.Prelude.{◌≡◌, ◌≢◌, ◌≤◌, ◌<◌, ◌+◌, [], length, take, drop, IfOk, OnOk};
-ghost use Rattle.std.specs.Prelude.{IfErr, OnErr};
+ghost use Rattle.std.specs.Prelude.{IfErr, IsErrOf, OnErr};
 ghost use Rattle.std.specs.Prelude.{string_bytes};
 ghost use Rattle.std.specs.Io.KnownBytes.{prepend_known};
 ghost use Rattle.spf_io.specs.Rule.{Gives};
 ghost use Rattle.spf_gate.specs.declared.gate_error.GateError.TheVariants as errors;
 ghost use Rattle.spf_gate.specs.Lines.{is_memory_gate, text_rule};
-ghost use Rattle.spf_gate.specs.Reading.{Fills, FillsLine, HasRoom, IsFirstFeed, ReadHasCause};
-ghost use Rattle.spf_gate.specs.Reading.{TakesLine, end_without_feed, number_after};
+ghost use Rattle.spf_gate.specs.Reading.{Fills, FillsLine, HasNoFeed, HasRoom, IsFirstFeed};
+ghost use Rattle.spf_gate.specs.Reading.{ReadHasCause, TakesLine, end_without_feed, number_after};
 
 use crate::gate_error::GateError;
 use memchr::memchr;
@@ -195,6 +195,7 @@ impl LineReader {
         ensures number { self.new.number ≡ number_after self.old.number result }
         ensures max { self.new.max ≡ self.old.max }
         ensures cause { ReadHasCause (S.failures source.old) (S.failures source.new) result }
+        ensures begun { IsErrOf result errors.ReadFault → HasNoFeed self.new.octets.items }
     {
         match fill_line(
             source,

@@ -1,6 +1,6 @@
 //! Reading the policy at the start of an input.
 
-ghost use Rattle.std.specs.Prelude.{◌≡◌, ◌≢◌, ◌+◌, ◌++◌, IfErr, OnOk};
+ghost use Rattle.std.specs.Prelude.{◌≡◌, ◌≢◌, ◌+◌, ◌++◌, IfErr, IsErrOf, OnOk};
 ghost use Rattle.std.specs.Option.{option_to_list};
 ghost use Rattle.std.specs.Io.KnownBytes.{prepend_known};
 ghost use Rattle.spf_io.specs.Rule.{Gives};
@@ -8,7 +8,7 @@ ghost use Rattle.spf_gate.specs.declared.gate_error.GateError.TheVariants as err
 ghost use Rattle.spf_gate.specs.Lines.{is_memory_gate};
 ghost use Rattle.spf_gate.specs.Policies as spec;
 ghost use Rattle.spf_gate.specs.Policies.{ReadsPolicy};
-ghost use Rattle.spf_gate.specs.Reading.{ReadHasCause};
+ghost use Rattle.spf_gate.specs.Reading.{HasNoFeed, ReadHasCause};
 
 use crate::gate_error::GateError;
 use crate::line_reader::LineReader;
@@ -57,6 +57,7 @@ pub(crate) fn read_policy<S: Source>(
         (prepend_known lines.new.octets.items (S.left source.new)) result }
     ensures max { lines.new.max ≡ lines.old.max }
     ensures cause { ReadHasCause (S.failures source.old) (S.failures source.new) result }
+    ensures begun { IsErrOf result errors.ReadFault → HasNoFeed lines.new.octets.items }
 {
     let mut rules = Vec::new(alloc);
     let mut line = String::new(alloc);

@@ -1,7 +1,9 @@
 //! Answering the asks of an input from a live source.
 
-ghost use Rattle.std.specs.Prelude.{◌≡◌, ◌+◌, false, true, OnOk, IfErr};
+ghost use Rattle.std.specs.Prelude.{◌≡◌, ◌+◌, false, true, OnOk, IfErr, IsErrOf};
 ghost use Rattle.std.specs.Io.KnownBytes.{prepend_known};
+ghost use Rattle.spf_gate.specs.declared.gate_error.GateError.TheVariants as errors;
+ghost use Rattle.spf_gate.specs.Reading.{HasNoFeed};
 ghost use Rattle.spf_gate.specs.Serving.{AnswersAsk, HasCauses, PutHasCause, Serves, ServesAsks};
 ghost use Rattle.spf_gate.specs.Serving.{cuts, is_cut};
 ghost use Rattle.spiffe.specs.Reads.{SeesNoLess};
@@ -65,6 +67,7 @@ fn answer_asks<S: Source, K: Sink>(
     ensures pass { SeesNoLess pass.old pass.new }
     ensures cause { HasCauses (S.failures input.old) (S.failures input.new) (K.failures out.old)
         (K.failures out.new) result }
+    ensures begun { IsErrOf result errors.ReadFault → HasNoFeed lines.new.octets.items }
 {
     let mut line = Vec::new(alloc);
     let mut ask = String::new(alloc);
@@ -97,8 +100,8 @@ pub fn gate_serve<S: Source, K: Sink>(
     max_lines: u64,
 ) -> Result<u64, GateError>
     requires { pass.old.book ≡ source.now.board }
-    ensures serves { is_cut result ≡ false → Serves max_lines (S.left input.old) pass.old.seen
-        pass.new.seen (K.held out.old) (K.held out.new) result }
+    ensures serves { is_cut result ≡ false → Serves max_lines (S.left input.old) (S.left input.new)
+        pass.old.seen pass.new.seen (K.held out.old) (K.held out.new) result }
     ensures pass { SeesNoLess pass.old pass.new }
     ensures cause { HasCauses (S.failures input.old) (S.failures input.new) (K.failures out.old)
         (K.failures out.new) result }

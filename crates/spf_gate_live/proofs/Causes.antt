@@ -19,9 +19,10 @@ use Rattle.spf_gate_live.specs.Runs.{FailsBy, IsDefault, Runs}
 use Rattle.spf_gate_live.specs.declared.live_error.LiveGateError.{LiveGateError}
 use Rattle.spf_gate_live.specs.declared.live_error.LiveGateError.TheVariants as errors
 
-served_by : {K : Type 0} (picks : K → List Svid → Option ℕ) (valid : Result (Unit {0}) EndpointError)
-    (supervisor place : Type 0) (reads reads' writes writes' : ℕ) (served : Result ℕ GateError)
-    (recorded : Bool) → HasCauses reads reads' writes writes' served
+served_by : {K : Type 0} (picks : K → List Svid → Option ℕ)
+    (valid : Result (Unit {0}) EndpointError) (supervisor place : Type 0)
+    (reads reads' writes writes' : ℕ) (served : Result ℕ GateError) (recorded : Bool)
+    → HasCauses reads reads' writes writes' served
     → IfErr (end_of served recorded)
     (FailsBy picks valid supervisor place (Rose reads reads') (Rose writes writes'))
 served_by picks valid supervisor place reads reads' writes writes' (Ok count) true causes = tt
@@ -30,14 +31,14 @@ served_by picks valid supervisor place reads reads' writes writes' (Err gate.Rea
     causes = causes.read refl
 served_by picks valid supervisor place reads reads' writes writes' (Err gate.WriteFault) recorded
     causes = causes.write refl
-served_by picks valid supervisor place reads reads' writes writes' (Err (gate.BadRule line)) recorded
-    causes = tt
+served_by picks valid supervisor place reads reads' writes writes' (Err (gate.BadRule line))
+    recorded causes = tt
 served_by picks valid supervisor place reads reads' writes writes' (Err gate.NoPolicyEnd) recorded
     causes = tt
 served_by picks valid supervisor place reads reads' writes writes' (Err (gate.LineTooLong line))
     recorded causes = tt
-served_by picks valid supervisor place reads reads' writes writes' (Err (gate.NotText line)) recorded
-    causes = tt
+served_by picks valid supervisor place reads reads' writes writes' (Err (gate.NotText line))
+    recorded causes = tt
 served_by picks valid supervisor place reads reads' writes writes' (Err gate.TooManyLines) recorded
     causes = tt
 served_by picks valid supervisor place reads reads' writes writes' (Err gate.OutOfMemory) recorded
@@ -50,7 +51,8 @@ pub served_fails : {K : Type 0} (picks : K → List Svid → Option ℕ)
     (end : Result (Unit {0}) LiveGateError) → end ≡ end_of served recorded
     → HasCauses reads reads' writes writes' served
     → IfErr end (FailsBy picks valid supervisor place (Rose reads reads') (Rose writes writes'))
-served_fails picks valid supervisor place reads reads' writes writes' served recorded end is causes =
+served_fails picks valid supervisor place reads reads' writes writes' served recorded end is
+    causes =
     subst (λ (r : Result (Unit {0}) LiveGateError).
     IfErr r (FailsBy picks valid supervisor place (Rose reads reads') (Rose writes writes')))
     (sym is)
@@ -98,11 +100,11 @@ prepare_fails picks set valid before now supervisor place input output e error e
 
 unbuilt_so : {K : Type 0} (members : Option (List Member)) (picks : K → List Svid → Option ℕ)
     (left held : Option (List ℕ)) (e : X509SourceError)
-    → Runs members picks left held held (Err (error_of e))
-unbuilt_so members picks left held (source.Source e) = refl
-unbuilt_so members picks left held (source.UnsupportedRpc e) = refl
-unbuilt_so members picks left held source.NoPlace = refl
-unbuilt_so members picks left held source.NoSupervisor = refl
+    → Runs members picks left left held held (Err (error_of e))
+unbuilt_so members picks left held (source.Source e) = (refl, refl)
+unbuilt_so members picks left held (source.UnsupportedRpc e) = (refl, refl)
+unbuilt_so members picks left held source.NoPlace = (refl, refl)
+unbuilt_so members picks left held source.NoSupervisor = (refl, refl)
 unbuilt_so members picks left held source.InitialSyncTimeout = λ uncut. absurd (cc)
 unbuilt_so members picks left held source.OutOfMemory = λ uncut. absurd (cc)
 unbuilt_so members picks left held source.NoSuitableSvid = λ uncut. absurd (cc)
@@ -112,10 +114,12 @@ unbuilt_so members picks left held source.StreamEnded = λ uncut. absurd (cc)
 unbuilt_so members picks left held (source.ResourceLimitExceeded k l a) = λ uncut. absurd (cc)
 unbuilt_so members picks left held (source.ShutdownTimeout s t) = λ uncut. absurd (cc)
 
--- where no source is built, nothing is written
+-- where no source is built, nothing is read or written
 pub unbuilt : {K : Type 0} (members : Option (List Member)) (picks : K → List Svid → Option ℕ)
-    (left held held' : Option (List ℕ)) (e : X509SourceError) (error : LiveGateError)
-    → error ≡ error_of e → held' ≡ held → Runs members picks left held held' (Err error)
-unbuilt members picks left held held' e error error_is same =
-    subst (λ (x : LiveGateError × Option (List ℕ)). Runs members picks left held x.1 (Err x.0))
-    (λ i. (sym error_is i, sym same i)) (unbuilt_so members picks left held e)
+    (left left' held held' : Option (List ℕ)) (e : X509SourceError) (error : LiveGateError)
+    → error ≡ error_of e → left' ≡ left → held' ≡ held
+    → Runs members picks left left' held held' (Err error)
+unbuilt members picks left left' held held' e error error_is unread unwritten =
+    subst (λ (x : LiveGateError × Option (List ℕ) × Option (List ℕ)).
+    Runs members picks left x.1 held x.2 (Err x.0))
+    (λ i. (sym error_is i, sym unread i, sym unwritten i)) (unbuilt_so members picks left held e)

@@ -53,15 +53,16 @@ record_of members picks set connector clock clock' job published found is assign
 answered_so : {S K : Type 0} (members : S → Option (List Member))
     (picks : K → List Svid → Option ℕ) (set : Settings K) (connector : S)
     (clock clock' : Option (List (Option ℤ))) (job : Assigned S K)
-    (left held held' : Option (List ℕ)) (seen last published : Seen) (served : Result ℕ GateError)
+    (left left' held held' : Option (List ℕ)) (seen last published : Seen)
+    (served : Result ℕ GateError)
     (done : Left K) (joined : Result (Recorded K) OutOfMemory) → IsDefault set
     → IsAssigned members picks set connector clock clock' job
-    → (is_cut served ≡ false → Serves max_lines left seen last held held' served)
+    → (is_cut served ≡ false → Serves max_lines left left' seen last held held' served)
     → IsPrefix last published → IsLeftBy members picks job done
     → IfOk joined (λ r. done.recorded ≡ Some r) → IfOk joined (IsRecord picks)
     → IfOk joined (λ r. (r.steps ≡ steps_of published) × (is_ended published ≡ true))
-    → Runs (members connector) picks left held held' (end_of served (is_ok joined))
-answered_so members picks set connector clock clock' job left held held' seen last published
+    → Runs (members connector) picks left left' held held' (end_of served (is_ok joined))
+answered_so members picks set connector clock clock' job left left' held held' seen last published
     (Ok count) done (Ok found) is assigned serves begins leaves recorded kept settled =
     let of = subst (λ (o : Option (Recorded _)). IfSome o (IsOf members picks job)) recorded
     leaves.record_is in
@@ -76,10 +77,10 @@ answered_so members picks set connector clock clock' job left held held' seen la
       is_record = record_of members picks set connector clock clock' job published found is
           assigned kept of settled.0 settled.1;
     }
-answered_so members picks set connector clock clock' job left held held' seen last published
+answered_so members picks set connector clock clock' job left left' held held' seen last published
     (Ok count) done (Err e) is assigned serves begins leaves recorded kept settled =
     λ uncut. absurd (cc)
-answered_so members picks set connector clock clock' job left held held' seen last published
+answered_so members picks set connector clock clock' job left left' held held' seen last published
     (Err e) done joined is assigned serves begins leaves recorded kept settled =
     λ uncut. (seen, last, serves uncut)
 
@@ -87,30 +88,31 @@ answered_so members picks set connector clock clock' job left held held' seen la
 pub answered : {S K : Type 0} (members : S → Option (List Member))
     (picks : K → List Svid → Option ℕ) (set : Settings K) (connector : S)
     (clock clock' : Option (List (Option ℤ))) (job started : Assigned S K)
-    (left held held' : Option (List ℕ)) (seen last published : Seen) (served : Result ℕ GateError)
+    (left left' held held' : Option (List ℕ)) (seen last published : Seen)
+    (served : Result ℕ GateError)
     (done : Left K) (joined : Result (Recorded K) OutOfMemory) (recorded : Bool)
     (end : Result (Unit {0}) LiveGateError) → IsDefault set
     → IsAssigned members picks set connector clock clock' job → started ≡ job
-    → (is_cut served ≡ false → Serves max_lines left seen last held held' served)
+    → (is_cut served ≡ false → Serves max_lines left left' seen last held held' served)
     → IsPrefix last published → IsLeftBy members picks started done
     → IfOk joined (λ r. done.recorded ≡ Some r) → IfOk joined (IsRecord picks)
     → IfOk joined (λ r. (r.steps ≡ steps_of published) × (is_ended published ≡ true))
     → recorded ≡ is_ok joined → end ≡ end_of served recorded
-    → Runs (members connector) picks left held held' end
-answered {S} {K} members picks set connector clock clock' job started left held held' seen last
-    published served done joined recorded end is assigned same serves begins leaves found kept
+    → Runs (members connector) picks left left' held held' end
+answered {S} {K} members picks set connector clock clock' job started left left' held held' seen
+    last published served done joined recorded end is assigned same serves begins leaves found kept
     settled recorded_is end_is =
     let of_job = subst (λ (j : Assigned S K). IsLeftBy members picks j done) same leaves in
     subst (λ (r : Result (Unit {0}) LiveGateError).
-    Runs (members connector) picks left held held' r)
+    Runs (members connector) picks left left' held held' r)
     (sym (end_is ∙ ap (end_of served) recorded_is))
-    (answered_so members picks set connector clock clock' job left held held' seen last published
-    served done joined is assigned serves begins of_job found kept settled)
+    (answered_so members picks set connector clock clock' job left left' held held' seen last
+    published served done joined is assigned serves begins of_job found kept settled)
 
 untold_all : {K : Type 0} (members : Option (List Member)) (picks : K → List Svid → Option ℕ)
-    (left held held' : Option (List ℕ)) → AnswersAll members picks left held held'
-    → AnswersAll None picks left held held'
-untold_all members picks left held held' so = record {
+    (left left' held held' : Option (List ℕ)) → AnswersAll members picks left left' held held'
+    → AnswersAll None picks left left' held held'
+untold_all members picks left left' held held' so = record {
   first = so.first;
   last = so.last;
   count = so.count;
@@ -131,12 +133,13 @@ untold_all members picks left held held' so = record {
 
 -- of a connector of which nothing is known
 pub untold : {K : Type 0} (members : Option (List Member)) (picks : K → List Svid → Option ℕ)
-    (left held held' : Option (List ℕ)) (end : Result (Unit {0}) LiveGateError)
-    → Runs members picks left held held' end → Runs None picks left held held' end
-untold members picks left held held' (Ok done) so = untold_all members picks left held held' so
-untold members picks left held held' (Err (errors.Gate e)) so = so
-untold members picks left held held' (Err errors.BadArguments) so = so
-untold members picks left held held' (Err errors.Rejected) so = so
-untold members picks left held held' (Err errors.Unsupported) so = so
-untold members picks left held held' (Err errors.NoSupervisor) so = so
-untold members picks left held held' (Err errors.NoPlace) so = so
+    (left left' held held' : Option (List ℕ)) (end : Result (Unit {0}) LiveGateError)
+    → Runs members picks left left' held held' end → Runs None picks left left' held held' end
+untold members picks left left' held held' (Ok done) so =
+    untold_all members picks left left' held held' so
+untold members picks left left' held held' (Err (errors.Gate e)) so = so
+untold members picks left left' held held' (Err errors.BadArguments) so = so
+untold members picks left left' held held' (Err errors.Rejected) so = so
+untold members picks left left' held held' (Err errors.Unsupported) so = so
+untold members picks left left' held held' (Err errors.NoSupervisor) so = so
+untold members picks left left' held held' (Err errors.NoPlace) so = so

@@ -44,29 +44,32 @@ pub record IsRecordOf {K : Type 0} (members : Option (List Member))
 
 -- All asks were answered, each from what was read of a beginning of what was published.
 pub record AnswersAll {K : Type 0} (members : Option (List Member))
-    (picks : K → List Svid → Option ℕ) (left held held' : Option (List ℕ)) : Type 0 where
+    (picks : K → List Svid → Option ℕ) (left left' held held' : Option (List ℕ)) : Type 0 where
   pub first : Seen
   pub last : Seen
   pub count : ℕ
-  pub serves : Serves max_lines left first last held held' (Ok count)
+  pub serves : Serves max_lines left left' first last held held' (Ok count)
   pub published : Seen
   pub begins : IsPrefix last published
   pub found : Recorded K
   pub is_record : IsRecordOf members picks published found
 
 -- The asks before an error were answered, unless it is one that cuts a line.
-abbrev pub AnswersUntil : Option (List ℕ) → Option (List ℕ) → Option (List ℕ) → GateError → Type 0
-AnswersUntil left held held' e =
+abbrev pub AnswersUntil : Option (List ℕ) → Option (List ℕ) → Option (List ℕ) → Option (List ℕ)
+    → GateError → Type 0
+AnswersUntil left left' held held' e =
     cuts e ≡ false
-    → (first : Seen) × (last : Seen) × Serves max_lines left first last held held' (Err e)
+    → (first : Seen) × (last : Seen) × Serves max_lines left left' first last held held' (Err e)
 
--- what a run does, by its end: without a source nothing is written
+-- what a run does, by its end: without a source nothing is read or written
 abbrev pub Runs : {K : Type 0} → Option (List Member) → (K → List Svid → Option ℕ)
-    → Option (List ℕ) → Option (List ℕ) → Option (List ℕ) → Result (Unit {0}) LiveGateError
-    → Type 0
-Runs members picks left held held' (Ok done) = AnswersAll members picks left held held'
-Runs members picks left held held' (Err (errors.Gate e)) = AnswersUntil left held held' e
-Runs members picks left held held' (Err _) = held' ≡ held
+    → Option (List ℕ) → Option (List ℕ) → Option (List ℕ) → Option (List ℕ)
+    → Result (Unit {0}) LiveGateError → Type 0
+Runs members picks left left' held held' (Ok done) =
+    AnswersAll members picks left left' held held'
+Runs members picks left left' held held' (Err (errors.Gate e)) =
+    AnswersUntil left left' held held' e
+Runs members picks left left' held held' (Err _) = (left' ≡ left) × (held' ≡ held)
 
 -- ---- why a run fails
 
@@ -103,9 +106,9 @@ FailsBy picks valid supervisor place input output errors.NoPlace = place
 -- A run did this, ended with this status, and reported it.
 pub record Ended {K : Type 0} (members : Option (List Member)) (picks : K → List Svid → Option ℕ)
     (valid : Result (Unit {0}) EndpointError) (supervisor place input output : Type 0)
-    (left held held' : Option (List ℕ)) (before after : Side) (status : ℕ) : Type 0 where
+    (left left' held held' : Option (List ℕ)) (before after : Side) (status : ℕ) : Type 0 where
   pub end : Result (Unit {0}) LiveGateError
-  pub runs : Runs members picks left held held' end
+  pub runs : Runs members picks left left' held held' end
   pub cause : IfErr end (FailsBy picks valid supervisor place input output)
   pub status_is : status ≡ end_status end
   pub reported : Reports before after end

@@ -56,14 +56,14 @@ where
     // Status 9 comes exactly where there are arguments.
     ensures arguments { (result ≡ 9) ↔ (length arguments.now ≢ 0) }
     // Where all asks were answered, each line is that of what was read of a beginning of the steps
-    // in the supervisor's record, whose events are what the connector told. Where they were not, the
-    // status and the line on `errors` say why.
+    // in the supervisor's record, whose events are what the connector told. Where they were not,
+    // the status and the line on `errors` say why.
     ensures ended { Ended (C.members connector) (⟦<NoPicker as SvidPicker>⟧.picks)
         (C.validates connector) (Rose (S.refusals spawner.old) (S.refusals spawner.new))
         (Refused (L.refusals places.old) (L.refusals places.new))
         (Rose (I.failures input.old) (I.failures input.new))
         (Rose (K.failures out.old) (K.failures out.new))
-        (I.left input.old) (K.held out.old) (K.held out.new)
+        (I.left input.old) (I.left input.new) (K.held out.old) (K.held out.new)
         (side (E.held errors.old) (E.failures errors.old))
         (side (E.held errors.new) (E.failures errors.new)) result }
 {

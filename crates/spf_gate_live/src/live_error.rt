@@ -35,10 +35,7 @@ pub(crate) fn error_of(error: X509SourceError) -> LiveGateError
 }
 
 /// How a run ends, by how answering ended, and whether there is a record of the supervisor.
-pub(crate) fn end_of(
-    served: Result<u64, GateError>,
-    is_recorded: bool,
-) -> Result<(), LiveGateError>
+pub(crate) fn end_of(served: Result<u64, GateError>, is_recorded: bool) -> Result<(), LiveGateError>
     ensures { result ≡ spec.end_of served is_recorded }
 {
     match served {

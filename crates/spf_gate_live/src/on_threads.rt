@@ -42,7 +42,7 @@ where
     ensures ended { Ended None (⟦<HintPicker as SvidPicker>⟧.picks) (Ok tt) (Unit {0}) (Unit {0})
         (Rose (I.failures input.old) (I.failures input.new))
         (Rose (K.failures out.old) (K.failures out.new))
-        (I.left input.old) (K.held out.old) (K.held out.new)
+        (I.left input.old) (I.left input.new) (K.held out.old) (K.held out.new)
         (side (E.held errors.old) (E.failures errors.old))
         (side (E.held errors.new) (E.failures errors.new)) result }
 {
@@ -66,15 +66,16 @@ where
     I: Source,
     K: Sink,
     ensures runs { Runs None (⟦<HintPicker as SvidPicker>⟧.picks) (I.left input.old)
-        (K.held out.old) (K.held out.new) result }
+        (I.left input.new) (K.held out.old) (K.held out.new) result }
     ensures cause { IfErr result (FailsBy (⟦<HintPicker as SvidPicker>⟧.picks) (Ok tt) (Unit {0})
         (Unit {0}) (Rose (I.failures input.old) (I.failures input.new))
         (Rose (K.failures out.old) (K.failures out.new))) }
     ensures arguments { IsErrOf result kinds.BadArguments → ⊥ }
 {
     let alloc = host.alloc();
-    let builder = X509SourceBuilder::new(HostConnector::new(host, alloc))
-        .optional_picker(None::<HintPicker>);
+    let builder = X509SourceBuilder::new(HostConnector::new(host, alloc)).optional_picker(
+        None::<HintPicker>,
+    );
     let mut clock = StdClock::new(host);
     let random = StepWords::new(seed_of(clock.now()));
     let pause = HostPause::new(host);

@@ -1,5 +1,5 @@
-//! `spf_gate_watch` answers presented SPIFFE IDs by a policy, from a live source of X.509 identities
-//! over the endpoint that `SPIFFE_ENDPOINT_SOCKET` names.
+//! `spf_gate_watch` answers presented SPIFFE IDs by a policy, from a live source of X.509
+//! identities over the endpoint that `SPIFFE_ENDPOINT_SOCKET` names.
 #![tactic(auto)]
 
 mod help;

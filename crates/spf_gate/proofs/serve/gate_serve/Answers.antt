@@ -1,14 +1,15 @@
-use Rattle.std.proofs.Common.{arith}
+use Rattle.std.proofs.Common.{ap, arith, Err}
 use Rattle.std.specs.Io.KnownBytes.{prepend_known}
+use Rattle.spf_gate.specs.declared.gate_error.GateError.{GateError}
 use Rattle.spf_gate.proofs.ServeLemmas.{refused_policy, retyped, served}
 use Rattle.spf_gate.proofs.serve.gate_serve.Goals as goal
 
 pub returns-in-Err-clause-serves : goal.returns-in-Err-clause-serves
 returns-in-Err-clause-serves g c = λ uncut.
-    refused_policy _ _ _ c.read_policy.new.lines.number _ _
-    (prepend_known c.read_policy.new.lines.octets.items (g.S.Source.left c.read_policy.new.source))
-    _ _ c.in-Err.e c.new-lines.ensures.octets c.new-lines.ensures.number c.new-lines.ensures.max
-    uncut c.in-Err.ensures.reads
+    refused_policy _ _ _ c.read_policy.new.lines.number _ c.read_policy.new.lines.octets.items _
+    (g.S.Source.left c.read_policy.new.source) _ _ c.in-Err.e c.new-lines.ensures.octets
+    c.new-lines.ensures.number c.new-lines.ensures.max uncut c.in-Err.ensures.reads
+    (λ is. c.in-Err.ensures.begun (ap (λ (e : GateError). Err e) is))
 
 pub returns-in-Err-clause-cause : goal.returns-in-Err-clause-cause
 returns-in-Err-clause-cause g c = record {
@@ -20,10 +21,9 @@ returns-in-Err-clause-cause g c = record {
 
 pub returns-clause-serves : goal.returns-clause-serves
 returns-clause-serves g c = λ uncut.
-    served _ _ _ _ c.read_policy.new.lines.number _ _
+    served _ _ _ _ c.read_policy.new.lines.number _ c.answer_asks.new.lines.octets.items _
     (prepend_known c.read_policy.new.lines.octets.items (g.S.Source.left c.read_policy.new.source))
-    (prepend_known c.answer_asks.new.lines.octets.items (g.S.Source.left c.answer_asks.new.input))
-    c.in-Ok.rules c.as_slice.result.now _ _ _ _ _ c.new-lines.ensures.octets
-    c.new-lines.ensures.number c.new-lines.ensures.max c.in-Ok.ensures.max c.as_slice.ensures uncut
-    c.in-Ok.ensures.reads
-    (c.answer_asks.ensures.serves uncut)
+    (g.S.Source.left c.answer_asks.new.input) c.in-Ok.rules c.as_slice.result.now _ _ _ _ _
+    c.new-lines.ensures.octets c.new-lines.ensures.number c.new-lines.ensures.max
+    c.in-Ok.ensures.max c.as_slice.ensures uncut c.in-Ok.ensures.reads
+    (c.answer_asks.ensures.serves uncut) c.answer_asks.ensures.begun

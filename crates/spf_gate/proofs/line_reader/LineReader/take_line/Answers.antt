@@ -1,7 +1,8 @@
 use Rattle.std.proofs.Common.{◌≡◌, length, rules}
 use Rattle.std.specs.Prelude.{string_bytes}
-use Rattle.spf_gate.proofs.Taking.{fill_refused, refused_fed, refused_rest, took_fed, took_nothing}
-use Rattle.spf_gate.proofs.Taking.{took_rest}
+use Rattle.spf_gate.specs.declared.gate_error.GateError.TheVariants as errors
+use Rattle.spf_gate.proofs.Taking.{fill_begun, fill_refused, refused_fed, refused_rest, took_fed}
+use Rattle.spf_gate.proofs.Taking.{took_nothing, took_rest}
 use Rattle.spf_gate.proofs.line_reader.LineReader.take_line.Goals as goal
 
 pub returns-in-Ok-Nothing-clause-takes : goal.returns-in-Ok-Nothing-clause-takes
@@ -37,3 +38,8 @@ returns-in-Err-take-2-clause-takes g c =
 pub returns-in-Err-clause-takes : goal.returns-in-Err-clause-takes
 returns-in-Err-clause-takes g c =
     fill_refused _ _ _ _ _ _ (string_bytes c.args.text.now) c.in-Err.e c.in-Err.ensures.fills
+
+pub returns-in-Err-clause-begun : goal.returns-in-Err-clause-begun
+returns-in-Err-clause-begun g c = λ is.
+    let same : c.in-Err.e ≡ errors.ReadFault = cc (is) in
+    fill_begun _ _ _ _ _ _ c.in-Err.e c.in-Err.ensures.fills same
