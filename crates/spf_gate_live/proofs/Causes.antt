@@ -88,15 +88,17 @@ prepared_by picks set valid before now supervisor place input output (source.Shu
 
 -- why a source is not built
 pub prepare_fails : {K : Type 0} (picks : K → List Svid → Option ℕ) (set : Settings K)
-    (valid : Result (Unit {0}) EndpointError) (before now : ℕ)
+    (valid found : Result (Unit {0}) EndpointError) (before now : ℕ)
     (supervisor place input output : Type 0) (e : X509SourceError) (error : LiveGateError)
-    → error ≡ error_of e → IsDefault set → (Refused before now → place)
-    → PrepareFails picks set valid before now e
+    → found ≡ valid → error ≡ error_of e → IsDefault set → (Refused before now → place)
+    → PrepareFails picks set found before now e
     → FailsBy picks valid supervisor place input output error
-prepare_fails picks set valid before now supervisor place input output e error error_is is f why =
-    subst (λ (x : LiveGateError). FailsBy picks valid supervisor place input output x)
-    (sym error_is)
-    (prepared_by picks set valid before now supervisor place input output e is f why)
+prepare_fails picks set valid found before now supervisor place input output e error valid_is
+    error_is is f why =
+    subst (λ (x : Result (Unit {0}) EndpointError × LiveGateError).
+    FailsBy picks x.0 supervisor place input output x.1)
+    (λ i. (valid_is i, sym error_is i))
+    (prepared_by picks set found before now supervisor place input output e is f why)
 
 unbuilt_so : {K : Type 0} (members : Option (List Member)) (picks : K → List Svid → Option ℕ)
     (left held : Option (List ℕ)) (e : X509SourceError)

@@ -84,29 +84,29 @@ answered_so members picks set connector clock clock' job left left' held held' s
     (Err e) done joined is assigned serves begins leaves recorded kept settled =
     λ uncut. (seen, last, serves uncut)
 
--- the same for the handle's job
+-- the same for the handle's job, over the connector that was handed in
 pub answered : {S K : Type 0} (members : S → Option (List Member))
-    (picks : K → List Svid → Option ℕ) (set : Settings K) (connector : S)
+    (picks : K → List Svid → Option ℕ) (set : Settings K) (connector own : S)
     (clock clock' : Option (List (Option ℤ))) (job started : Assigned S K)
     (left left' held held' : Option (List ℕ)) (seen last published : Seen)
     (served : Result ℕ GateError)
     (done : Left K) (joined : Result (Recorded K) OutOfMemory) (recorded : Bool)
-    (end : Result (Unit {0}) LiveGateError) → IsDefault set
-    → IsAssigned members picks set connector clock clock' job → started ≡ job
+    (end : Result (Unit {0}) LiveGateError) → own ≡ connector → IsDefault set
+    → IsAssigned members picks set own clock clock' job → started ≡ job
     → (is_cut served ≡ false → Serves max_lines left left' seen last held held' served)
     → IsPrefix last published → IsLeftBy members picks started done
     → IfOk joined (λ r. done.recorded ≡ Some r) → IfOk joined (IsRecord picks)
     → IfOk joined (λ r. (r.steps ≡ steps_of published) × (is_ended published ≡ true))
     → recorded ≡ is_ok joined → end ≡ end_of served recorded
     → Runs (members connector) picks left left' held held' end
-answered {S} {K} members picks set connector clock clock' job started left left' held held' seen
-    last published served done joined recorded end is assigned same serves begins leaves found kept
-    settled recorded_is end_is =
+answered {S} {K} members picks set connector own clock clock' job started left left' held held'
+    seen last published served done joined recorded end by is assigned same serves begins leaves
+    found kept settled recorded_is end_is =
     let of_job = subst (λ (j : Assigned S K). IsLeftBy members picks j done) same leaves in
-    subst (λ (r : Result (Unit {0}) LiveGateError).
-    Runs (members connector) picks left left' held held' r)
-    (sym (end_is ∙ ap (end_of served) recorded_is))
-    (answered_so members picks set connector clock clock' job left left' held held' seen last
+    subst (λ (x : S × Result (Unit {0}) LiveGateError).
+    Runs (members x.0) picks left left' held held' x.1)
+    (λ i. (by i, sym (end_is ∙ ap (end_of served) recorded_is) i))
+    (answered_so members picks set own clock clock' job left left' held held' seen last
     published served done joined is assigned serves begins of_job found kept settled)
 
 untold_all : {K : Type 0} (members : Option (List Member)) (picks : K → List Svid → Option ℕ)
