@@ -1,3 +1,3 @@
 pub mod Causes
-pub mod Ending
+pub mod EndLemmas
 pub mod Served
