@@ -64,9 +64,9 @@ prepared_by : {K : Type 0} (picks : K → List Svid → Option ℕ) (set : Setti
     → (Refused before now → place) → PrepareFails picks set valid before now e
     → FailsBy picks valid supervisor place input output (error_of e)
 prepared_by picks set valid before now supervisor place input output (source.Source e) is f why =
-    (e, set, is, why)
+    (e, (set, is, why))
 prepared_by picks set valid before now supervisor place input output (source.UnsupportedRpc e) is
-    f why = (e, set, is, why)
+    f why = (e, (set, is, why))
 prepared_by picks set valid before now supervisor place input output source.NoPlace is f why = f why
 prepared_by picks set valid before now supervisor place input output source.NoSupervisor is f why =
     absurd why

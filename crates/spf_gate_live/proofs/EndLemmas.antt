@@ -67,3 +67,6 @@ by_nine (Err errors.NoPlace) nine = cc
 pub nine_of_other : (status : ℕ) (end : Result (Unit {0}) LiveGateError)
     → (end ≡ Err errors.BadArguments → ⊥) → status ≡ end_status end → status ≡ 9 → ⊥
 nine_of_other status end other status_is nine = other (by_nine end (sym status_is ∙ nine))
+
+pub nine_of_refusal : (status : ℕ) → status ≡ end_status (Err errors.NoSupervisor) → status ≡ 9 → ⊥
+nine_of_refusal status status_is nine = cc

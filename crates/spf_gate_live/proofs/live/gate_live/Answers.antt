@@ -1,9 +1,11 @@
 use Rattle.std.proofs.Common.{◌≡◌, ◌∙◌, refl, ap, Err, rules, arith}
 use Rattle.std.proofs.Common.{length}
+use Rattle.spf_feed.specs.contracts.picker.NoPickerSvidPicker.TheImpl as picks
+use Rattle.spf_feed.specs.declared.picker.NoPicker.{NoPicker}
 use Rattle.spf_gate_live.specs.Runs.{IsDefault}
 use Rattle.spf_gate_live.specs.declared.live_error.LiveGateError.TheVariants as errors
 use Rattle.spf_gate_live.proofs.Causes.{prepare_fails, served_fails, unbuilt}
-use Rattle.spf_gate_live.proofs.EndLemmas.{nine_of_end, nine_of_error, not_nine}
+use Rattle.spf_gate_live.proofs.EndLemmas.{nine_of_end, nine_of_error, nine_of_refusal, not_nine}
 use Rattle.spf_gate_live.proofs.Served.{answered}
 use Rattle.spf_gate_live.proofs.live.gate_live.Goals as goal
 
@@ -46,7 +48,7 @@ returns-in-Ok g c =
     let none : length c.args.arguments.now ≡ 0 = search rules in
     let end = c.report-in-Err-start.ensures in
     record {
-      arguments = not_nine _ _ (λ nine. cc (nine, end.status)) none;
+      arguments = not_nine _ _ (nine_of_refusal _ end.status) none;
       ended = record {
         end = Err errors.NoSupervisor;
         runs = (refl, refl);
@@ -74,7 +76,9 @@ returns g c =
           end.status) none;
       ended = record {
         end = Err c.error_of.result;
-        runs = unbuilt _ _ _ _ _ _ c.in-Err.error c.error_of.result c.error_of.ensures refl refl;
+        runs = unbuilt {K = NoPicker} (g.C.Connector.members c.args.connector)
+            (picks.picks-value).it (g.I.Source.left c.args.input.now) _
+            (g.K.Sink.held c.args.out.now) _ c.in-Err.error c.error_of.result c.error_of.ensures refl refl;
         cause = prepare_fails _ set _ _ _ _ _ _ _ _ c.in-Err.error c.error_of.result
             (ap g.C.Connector.validates c.new-builder.ensures.connector) c.error_of.ensures default
             (λ refused. refused) c.in-Err.ensures.failed;
