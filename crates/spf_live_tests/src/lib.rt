@@ -1,5 +1,7 @@
-//! Tests of live runs over doubles.
+//! Tests of live runs, of the gate's too, over doubles.
 #![tactic(auto)]
 
+#[cfg(test)]
+mod gate_live;
 #[cfg(test)]
 mod live;

@@ -55,7 +55,9 @@ fn served<R: Wait + Copy + Drop>(
 }
 
 /// An input, the max number of its lines, what is written, and the end.
-static INPUTS: [(&[u8], u64, &str, Result<u64, GateError>); 6] = [
+type Case = (&'static [u8], u64, &'static str, Result<u64, GateError>);
+
+static INPUTS: [Case; 14] = [
     (
         b"allow prefix spiffe://example.org/w\n# no other\n\ndeny domain example.org\n---\n\
           spiffe://example.org/w\nspiffe://example.org/wx\nspiffe://third.org/a\nx",
@@ -65,12 +67,9 @@ static INPUTS: [(&[u8], u64, &str, Result<u64, GateError>); 6] = [
         Ok(4),
     ),
     (b"---\n", 1, "", Ok(0)),
-    (
-        b"allow it\n---\n",
-        100,
-        "",
-        Err(GateError::BadRule { line: 1 }),
-    ),
+    (b"---", 1, "", Ok(0)),
+    (b"---\nspiffe://example.org/w\r\n", 2, "bad-id 9\n", Ok(1)),
+    (b"", 100, "", Err(GateError::NoPolicyEnd)),
     (
         b"allow domain example.org",
         100,
@@ -78,11 +77,32 @@ static INPUTS: [(&[u8], u64, &str, Result<u64, GateError>); 6] = [
         Err(GateError::NoPolicyEnd),
     ),
     (
+        b"allow it\n---\n",
+        100,
+        "",
+        Err(GateError::BadRule { line: 1 }),
+    ),
+    (
+        b"\nallow  domain example.org\n---\n",
+        100,
+        "",
+        Err(GateError::BadRule { line: 2 }),
+    ),
+    (
+        b"allow prefix spiffe://example.org\n---\n",
+        100,
+        "",
+        Err(GateError::BadRule { line: 1 }),
+    ),
+    (b"---\r\nx\n", 100, "", Err(GateError::BadRule { line: 1 })),
+    (
         b"---\nspiffe://example.org/w\nspiffe://example.org/w\n",
         2,
         "no-rule 0 spiffe://example.org/w\n",
         Err(GateError::TooManyLines),
     ),
+    (b"\n\n---\n", 2, "", Err(GateError::TooManyLines)),
+    (b"\xff\n---\n", 100, "", Err(GateError::NotText { line: 1 })),
     (
         b"---\nx\n\xff\n",
         100,
@@ -98,5 +118,28 @@ fn inputs(rt: HostRuntime) -> Result<(), Fail> {
         assert_eq!(rt; str::from_utf8(out.bytes()), Ok(*wanted));
         assert_eq!(rt; found, *end);
     }
+    Ok(())
+}
+
+/// An input without rules, whose second ask has that many bytes.
+fn long_ask(alloc: Global, count: usize) -> Result<Vec<u8>, Fail> {
+    let mut input = Vec::from_slice(alloc, b"---\nx\n")?;
+    input.resize(input.len() + count, b'a')?;
+    input.push(b'\n')?;
+    Ok(input)
+}
+
+/// A line of 4,096 bytes is an ask, and a longer one is refused, after the answers before it.
+#[test]
+fn long_lines(rt: HostRuntime) -> Result<(), Fail> {
+    let alloc = rt.alloc();
+    let input = long_ask(alloc, 4096)?;
+    let (out, end) = served(rt, alloc, input.as_slice(), 100)?;
+    assert_eq!(rt; str::from_utf8(out.bytes()), Ok("bad-id 3\nbad-id 2\n"));
+    assert_eq!(rt; end, Ok(2));
+    let input = long_ask(alloc, 4097)?;
+    let (out, end) = served(rt, alloc, input.as_slice(), 100)?;
+    assert_eq!(rt; str::from_utf8(out.bytes()), Ok("bad-id 3\n"));
+    assert_eq!(rt; end, Err(GateError::LineTooLong { line: 3 }));
     Ok(())
 }

@@ -6,6 +6,8 @@ mod build;
 #[cfg(test)]
 mod gate;
 #[cfg(test)]
+mod gate_late;
+#[cfg(test)]
 mod gate_serve;
 #[cfg(test)]
 mod pauses;

@@ -1,0 +1,127 @@
+-- Why runs fail, from the causes of their parts.
+use Rattle.std.proofs.Common.{◌≡◌, refl, sym, subst, ℕ, Bool, true, false, List, Option}
+use Rattle.std.proofs.Common.{Result, Ok, Err}
+use Rattle.std.specs.Prelude.{IfErr}
+use Rattle.spf_api.specs.declared.endpoint_error.EndpointError.{EndpointError}
+use Rattle.spf_board.specs.Passes.{Rose as Refused}
+use Rattle.spf_io.specs.Outside.{Rose}
+use Rattle.spf_link.specs.Connecting.{Member}
+use Rattle.spf_x509.specs.Svid.{Svid}
+use Rattle.spf_feed.specs.declared.state.X509SourceError.{X509SourceError}
+use Rattle.spf_feed.specs.declared.state.X509SourceError.TheVariants as source
+use Rattle.spiffe.specs.declared.builder.Settings.{Settings}
+use Rattle.spiffe.specs.Building.{IsDefault, PrepareFails}
+use Rattle.spf_gate.specs.declared.gate_error.GateError.{GateError}
+use Rattle.spf_gate.specs.declared.gate_error.GateError.TheVariants as gate
+use Rattle.spf_gate.specs.Serving.{HasCauses}
+use Rattle.spf_gate_live.specs.Ends.{end_of, error_of}
+use Rattle.spf_gate_live.specs.Runs.{FailsBy, Runs}
+use Rattle.spf_gate_live.specs.declared.live_error.LiveGateError.{LiveGateError}
+use Rattle.spf_gate_live.specs.declared.live_error.LiveGateError.TheVariants as errors
+
+served_by : {K : Type 0} (picks : K → List Svid → Option ℕ)
+    (valid : Result (Unit {0}) EndpointError) (supervisor place : Type 0)
+    (reads reads' writes writes' : ℕ) (served : Result ℕ GateError) (recorded : Bool)
+    → HasCauses reads reads' writes writes' served
+    → IfErr (end_of served recorded)
+    (FailsBy picks valid supervisor place (Rose reads reads') (Rose writes writes'))
+served_by picks valid supervisor place reads reads' writes writes' (Ok count) true causes = tt
+served_by picks valid supervisor place reads reads' writes writes' (Ok count) false causes = tt
+served_by picks valid supervisor place reads reads' writes writes' (Err gate.ReadFault) recorded
+    causes = causes.read refl
+served_by picks valid supervisor place reads reads' writes writes' (Err gate.WriteFault) recorded
+    causes = causes.write refl
+served_by picks valid supervisor place reads reads' writes writes' (Err (gate.BadRule line))
+    recorded causes = tt
+served_by picks valid supervisor place reads reads' writes writes' (Err gate.NoPolicyEnd) recorded
+    causes = tt
+served_by picks valid supervisor place reads reads' writes writes' (Err (gate.LineTooLong line))
+    recorded causes = tt
+served_by picks valid supervisor place reads reads' writes writes' (Err (gate.NotText line))
+    recorded causes = tt
+served_by picks valid supervisor place reads reads' writes writes' (Err gate.TooManyLines) recorded
+    causes = tt
+served_by picks valid supervisor place reads reads' writes writes' (Err gate.OutOfMemory) recorded
+    causes = tt
+
+-- why answering fails
+pub served_fails : {K : Type 0} (picks : K → List Svid → Option ℕ)
+    (valid : Result (Unit {0}) EndpointError) (supervisor place : Type 0)
+    (reads reads' writes writes' : ℕ) (served : Result ℕ GateError) (recorded : Bool)
+    (end : Result (Unit {0}) LiveGateError) → end ≡ end_of served recorded
+    → HasCauses reads reads' writes writes' served
+    → IfErr end (FailsBy picks valid supervisor place (Rose reads reads') (Rose writes writes'))
+served_fails picks valid supervisor place reads reads' writes writes' served recorded end is
+    causes =
+    subst (λ (r : Result (Unit {0}) LiveGateError).
+    IfErr r (FailsBy picks valid supervisor place (Rose reads reads') (Rose writes writes')))
+    (sym is)
+    (served_by picks valid supervisor place reads reads' writes writes' served recorded causes)
+
+prepared_by : {K : Type 0} (picks : K → List Svid → Option ℕ) (set : Settings K)
+    (valid : Result (Unit {0}) EndpointError) (before now : ℕ)
+    (supervisor place input output : Type 0) (e : X509SourceError) → IsDefault set
+    → (Refused before now → place) → PrepareFails picks set valid before now e
+    → FailsBy picks valid supervisor place input output (error_of e)
+prepared_by picks set valid before now supervisor place input output (source.Source e) is f why =
+    (e, (set, is, why))
+prepared_by picks set valid before now supervisor place input output (source.UnsupportedRpc e) is
+    f why = (e, (set, is, why))
+prepared_by picks set valid before now supervisor place input output source.NoPlace is f why = f why
+prepared_by picks set valid before now supervisor place input output source.NoSupervisor is f why =
+    absurd why
+prepared_by picks set valid before now supervisor place input output source.InitialSyncTimeout is f
+    why = tt
+prepared_by picks set valid before now supervisor place input output source.OutOfMemory is f why =
+    tt
+prepared_by picks set valid before now supervisor place input output source.NoSuitableSvid is f why
+    = tt
+prepared_by picks set valid before now supervisor place input output (source.Withdrawn d) is f why =
+    tt
+prepared_by picks set valid before now supervisor place input output source.Closed is f why = tt
+prepared_by picks set valid before now supervisor place input output source.StreamEnded is f why =
+    tt
+prepared_by picks set valid before now supervisor place input output
+    (source.ResourceLimitExceeded k l a) is f why = tt
+prepared_by picks set valid before now supervisor place input output (source.ShutdownTimeout s t) is
+    f why = tt
+
+-- why a source is not built
+pub prepare_fails : {K : Type 0} (picks : K → List Svid → Option ℕ) (set : Settings K)
+    (valid found : Result (Unit {0}) EndpointError) (before now : ℕ)
+    (supervisor place input output : Type 0) (e : X509SourceError) (error : LiveGateError)
+    → found ≡ valid → error ≡ error_of e → IsDefault set → (Refused before now → place)
+    → PrepareFails picks set found before now e
+    → FailsBy picks valid supervisor place input output error
+prepare_fails picks set valid found before now supervisor place input output e error valid_is
+    error_is is f why =
+    subst (λ (x : Result (Unit {0}) EndpointError × LiveGateError).
+    FailsBy picks x.0 supervisor place input output x.1)
+    (λ i. (valid_is i, sym error_is i))
+    (prepared_by picks set found before now supervisor place input output e is f why)
+
+unbuilt_so : {K : Type 0} (members : Option (List Member)) (picks : K → List Svid → Option ℕ)
+    (left held : Option (List ℕ)) (e : X509SourceError)
+    → Runs members picks left left held held (Err (error_of e))
+unbuilt_so members picks left held (source.Source e) = (refl, refl)
+unbuilt_so members picks left held (source.UnsupportedRpc e) = (refl, refl)
+unbuilt_so members picks left held source.NoPlace = (refl, refl)
+unbuilt_so members picks left held source.NoSupervisor = (refl, refl)
+unbuilt_so members picks left held source.InitialSyncTimeout = λ uncut. absurd (cc)
+unbuilt_so members picks left held source.OutOfMemory = λ uncut. absurd (cc)
+unbuilt_so members picks left held source.NoSuitableSvid = λ uncut. absurd (cc)
+unbuilt_so members picks left held (source.Withdrawn d) = λ uncut. absurd (cc)
+unbuilt_so members picks left held source.Closed = λ uncut. absurd (cc)
+unbuilt_so members picks left held source.StreamEnded = λ uncut. absurd (cc)
+unbuilt_so members picks left held (source.ResourceLimitExceeded k l a) = λ uncut. absurd (cc)
+unbuilt_so members picks left held (source.ShutdownTimeout s t) = λ uncut. absurd (cc)
+
+-- where no source is built, nothing is read or written
+pub unbuilt : {K : Type 0} (members : Option (List Member)) (picks : K → List Svid → Option ℕ)
+    (left left' held held' : Option (List ℕ)) (e : X509SourceError) (error : LiveGateError)
+    → error ≡ error_of e → left' ≡ left → held' ≡ held
+    → Runs members picks left left' held held' (Err error)
+unbuilt members picks left left' held held' e error error_is unread unwritten =
+    subst (λ (x : LiveGateError × Option (List ℕ) × Option (List ℕ)).
+    Runs members picks left x.1 held x.2 (Err x.0))
+    (λ i. (sym error_is i, sym unread i, sym unwritten i)) (unbuilt_so members picks left held e)

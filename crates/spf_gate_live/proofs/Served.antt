@@ -1,0 +1,145 @@
+-- What a run does whose source was built.
+use Rattle.std.proofs.Common.{◌≡◌, sym, ap, ◌∙◌, refl, subst, ℕ, Bool, true, false, List}
+use Rattle.std.proofs.Common.{reverse, Option, None, Some, Result, Ok, Err}
+use Rattle.std.specs.Prelude.{ℤ, IfSome, IfOk, is_ok}
+use mathlib.Core.List.{IsPrefix}
+use Rattle.spf_history.specs.Lists.{is_ended, steps_of}
+use Rattle.spf_io.specs.declared.memory.OutOfMemory.{OutOfMemory}
+use Rattle.spf_link.specs.Connecting.{Member}
+use Rattle.spf_x509.specs.Svid.{Svid}
+use Rattle.spf_feed.specs.declared.turn.SessionRules.{SessionRules}
+use Rattle.spf_feeder.specs.Coming.{AllTold}
+use Rattle.spf_feeder.specs.Kept.{rules_by}
+use Rattle.spiffe.specs.declared.builder.Settings.{Settings}
+use Rattle.spiffe.specs.Building.{IsAssigned, IsDefault}
+use Rattle.spiffe.specs.Records.{Assigned, IsLeftBy, IsOf, IsRecord, Left, Recorded}
+use Rattle.spf_gate.specs.declared.gate_error.GateError.{GateError}
+use Rattle.spf_gate.specs.declared.gate_error.GateError.TheVariants as gate
+use Rattle.spf_gate.specs.Serving.{Seen, Serves, is_cut}
+use Rattle.spf_gate_live.specs.Ends.{end_of}
+use Rattle.spf_gate_live.specs.Runs.{AnswersAll, IsRecordOf, Runs, max_lines}
+use Rattle.spf_gate_live.specs.declared.live_error.LiveGateError.{LiveGateError}
+use Rattle.spf_gate_live.specs.declared.live_error.LiveGateError.TheVariants as errors
+
+told_by : {K : Type 0} (picks : K → List Svid → Option ℕ) (r : Recorded K)
+    (a b : Option (List Member)) → a ≡ b
+    → IfSome a (λ m. AllTold (rules_by picks r.settings r.picker) m (reverse r.run))
+    → IfSome b (λ m. AllTold (rules_by picks r.settings r.picker) m (reverse r.run))
+told_by picks r a b same =
+    subst (λ (o : Option (List Member)).
+    IfSome o (λ m. AllTold (rules_by picks r.settings r.picker) m (reverse r.run))) same
+
+-- the record of a job that was assigned by a builder with the defaults
+record_of : {S K : Type 0} (members : S → Option (List Member)) (picks : K → List Svid → Option ℕ)
+    (set : Settings K) (connector : S) (clock clock' : Option (List (Option ℤ)))
+    (job : Assigned S K) (published : Seen) (found : Recorded K) → IsDefault set
+    → IsAssigned members picks set connector clock clock' job → IsRecord picks found
+    → IsOf members picks job found → found.steps ≡ steps_of published
+    → is_ended published ≡ true → IsRecordOf (members connector) picks published found
+record_of members picks set connector clock clock' job published found is assigned kept of steps
+    ended =
+    record {
+      kept = kept;
+      limits = ap (λ (s : SessionRules). s.limits) of.settings ∙ assigned.limits ∙ is.limits;
+      ready = ap (λ (s : SessionRules). s.ready) of.settings ∙ assigned.ready ∙ is.ready;
+      picker = of.picker ∙ assigned.picker ∙ is.picker;
+      told = told_by picks found (members job.first) (members connector) assigned.members_are
+          of.told;
+      steps_are = steps;
+      ended = ended;
+    }
+
+-- how answering and joining end
+answered_so : {S K : Type 0} (members : S → Option (List Member))
+    (picks : K → List Svid → Option ℕ) (set : Settings K) (connector : S)
+    (clock clock' : Option (List (Option ℤ))) (job : Assigned S K)
+    (left left' held held' : Option (List ℕ)) (seen last published : Seen)
+    (served : Result ℕ GateError)
+    (done : Left K) (joined : Result (Recorded K) OutOfMemory) → IsDefault set
+    → IsAssigned members picks set connector clock clock' job
+    → (is_cut served ≡ false → Serves max_lines left left' seen last held held' served)
+    → IsPrefix last published → IsLeftBy members picks job done
+    → IfOk joined (λ r. done.recorded ≡ Some r) → IfOk joined (IsRecord picks)
+    → IfOk joined (λ r. (r.steps ≡ steps_of published) × (is_ended published ≡ true))
+    → Runs (members connector) picks left left' held held' (end_of served (is_ok joined))
+answered_so members picks set connector clock clock' job left left' held held' seen last published
+    (Ok count) done (Ok found) is assigned serves begins leaves recorded kept settled =
+    let of = subst (λ (o : Option (Recorded _)). IfSome o (IsOf members picks job)) recorded
+    leaves.record_is in
+    record {
+      first = seen;
+      last = last;
+      count = count;
+      serves = serves refl;
+      published = published;
+      begins = begins;
+      found = found;
+      is_record = record_of members picks set connector clock clock' job published found is
+          assigned kept of settled.0 settled.1;
+    }
+answered_so members picks set connector clock clock' job left left' held held' seen last published
+    (Ok count) done (Err e) is assigned serves begins leaves recorded kept settled =
+    λ uncut. absurd (cc)
+answered_so members picks set connector clock clock' job left left' held held' seen last published
+    (Err e) done joined is assigned serves begins leaves recorded kept settled =
+    λ uncut. (seen, last, serves uncut)
+
+-- the same for the handle's job, over the connector that was handed in
+pub answered : {S K : Type 0} (members : S → Option (List Member))
+    (picks : K → List Svid → Option ℕ) (set : Settings K) (connector own : S)
+    (clock clock' : Option (List (Option ℤ))) (job started : Assigned S K)
+    (left left' held held' : Option (List ℕ)) (seen last published : Seen)
+    (served : Result ℕ GateError)
+    (done : Left K) (joined : Result (Recorded K) OutOfMemory) (recorded : Bool)
+    (end : Result (Unit {0}) LiveGateError) → own ≡ connector → IsDefault set
+    → IsAssigned members picks set own clock clock' job → started ≡ job
+    → (is_cut served ≡ false → Serves max_lines left left' seen last held held' served)
+    → IsPrefix last published → IsLeftBy members picks started done
+    → IfOk joined (λ r. done.recorded ≡ Some r) → IfOk joined (IsRecord picks)
+    → IfOk joined (λ r. (r.steps ≡ steps_of published) × (is_ended published ≡ true))
+    → recorded ≡ is_ok joined → end ≡ end_of served recorded
+    → Runs (members connector) picks left left' held held' end
+answered {S} {K} members picks set connector own clock clock' job started left left' held held'
+    seen last published served done joined recorded end by is assigned same serves begins leaves
+    found kept settled recorded_is end_is =
+    let of_job = subst (λ (j : Assigned S K). IsLeftBy members picks j done) same leaves in
+    subst (λ (x : S × Result (Unit {0}) LiveGateError).
+    Runs (members x.0) picks left left' held held' x.1)
+    (λ i. (by i, sym (end_is ∙ ap (end_of served) recorded_is) i))
+    (answered_so members picks set own clock clock' job left left' held held' seen last
+    published served done joined is assigned serves begins of_job found kept settled)
+
+untold_all : {K : Type 0} (members : Option (List Member)) (picks : K → List Svid → Option ℕ)
+    (left left' held held' : Option (List ℕ)) → AnswersAll members picks left left' held held'
+    → AnswersAll None picks left left' held held'
+untold_all members picks left left' held held' so = record {
+  first = so.first;
+  last = so.last;
+  count = so.count;
+  serves = so.serves;
+  published = so.published;
+  begins = so.begins;
+  found = so.found;
+  is_record = record {
+    kept = so.is_record.kept;
+    limits = so.is_record.limits;
+    ready = so.is_record.ready;
+    picker = so.is_record.picker;
+    told = tt;
+    steps_are = so.is_record.steps_are;
+    ended = so.is_record.ended;
+  };
+}
+
+-- of a connector of which nothing is known
+pub untold : {K : Type 0} (members : Option (List Member)) (picks : K → List Svid → Option ℕ)
+    (left left' held held' : Option (List ℕ)) (end : Result (Unit {0}) LiveGateError)
+    → Runs members picks left left' held held' end → Runs None picks left left' held held' end
+untold members picks left left' held held' (Ok done) so =
+    untold_all members picks left left' held held' so
+untold members picks left left' held held' (Err (errors.Gate e)) so = so
+untold members picks left left' held held' (Err errors.BadArguments) so = so
+untold members picks left left' held held' (Err errors.Rejected) so = so
+untold members picks left left' held held' (Err errors.Unsupported) so = so
+untold members picks left left' held held' (Err errors.NoSupervisor) so = so
+untold members picks left left' held held' (Err errors.NoPlace) so = so

@@ -1,0 +1,113 @@
+//! A denial between two asks.
+
+ghost use Rattle.std.specs.Prelude.{◌≡◌, IsTrue};
+
+use crate::source::{opened, withdraw};
+use spf_gate::gate_serve;
+use spf_io::{Failed, MemSink, Source};
+use spf_x509_board::{BoardPlaces, Desk, Pass};
+use spiffe::X509Source;
+use std::alloc::Global;
+use std::marker::Model;
+use std::sync::Wait;
+use std::test::Fail;
+
+/// What the first read returns: an empty policy, and an ask.
+static FIRST: &[u8] = b"---\nspiffe://example.org/w\n";
+
+/// What the second returns, after another pass has read a denial.
+static SECOND: &[u8] = b"spiffe://example.org/w\n";
+
+/// An input that hands out its second ask only after another pass has read a denial.
+#[derive(Drop)]
+struct LateAsk<R: Wait + Drop> {
+    alloc: Global,
+    source: X509Source,
+    other: Pass,
+    // What is to publish the denial, and what has published it.
+    desk: Option<Desk<R>>,
+    spent: Option<Desk<R>>,
+    is_begun: bool,
+    failures: u64,
+}
+
+impl<R: Wait + Drop> Model for LateAsk<R> {
+    ghost use Rattle.std.specs.Prelude.{◌≡◌, ◌≢◌, [], IfSome, ℕ};
+    ghost use Rattle.spf_history.specs.Lists.{steps_of};
+
+    ghost Value = { ℕ };
+
+    ghost view = { λ a. a.failures };
+
+    ghost invariant = { λ a. (a.other.book ≡ a.source.board)
+        × IfSome a.desk (λ d. steps_of d.list ≢ []) };
+}
+
+impl<R: Wait + Drop> LateAsk<R> {
+    /// Publishes a denial, and reads it by the other pass. It says whether that was done.
+    fn deny(&mut self) -> bool
+        ensures { self.new ≡ self.old }
+    {
+        let Some(mut desk) = self.desk.take() else {
+            return false;
+        };
+        let published = withdraw(self.alloc, &mut desk);
+        self.spent = Some(desk);
+        published.is_ok() && self.source.state(&mut self.other).is_ok()
+    }
+
+    /// The next piece of the input.
+    fn next(&mut self) -> &'static [u8]
+        ensures { self.new ≡ self.old }
+    {
+        if !self.is_begun {
+            self.is_begun = true;
+            return FIRST;
+        }
+        if self.deny() { SECOND } else { b"" }
+    }
+}
+
+impl<R: Wait + Drop> Source for LateAsk<R> {
+    ghost use Rattle.std.specs.Prelude.{None};
+
+    ghost left = { λ _. None };
+
+    ghost failures = { λ a. a };
+
+    fn read(&mut self, buf: &mut [u8]) -> Result<usize, Failed> {
+        let piece = self.next();
+        match buf.get_mut(..piece.len()) {
+            Some(front) => {
+                front.copy_from_slice(piece);
+                Ok(piece.len())
+            }
+            None => {
+                self.failures = self.failures.saturating_add(1);
+                Err(Failed)
+            }
+        }
+    }
+}
+
+#[test]
+fn denial_between_two_asks(rt: HostRuntime) -> Result<(), Fail> {
+    let alloc = rt.alloc();
+    let (mut source, mut pass, desk, _stop) = opened(rt, alloc)?;
+    let other = source.another_pass(&mut pass, &mut BoardPlaces::new())?;
+    let mut input = LateAsk {
+        alloc,
+        source: source.try_clone()?,
+        other,
+        desk: Some(desk),
+        spent: None,
+        is_begun: false,
+        failures: 0,
+    };
+    let mut out = MemSink::new(alloc, 4096, Vec::new(alloc))?;
+    let end = gate_serve(alloc, &source, &mut pass, &mut input, &mut out, 100);
+    let lines = "no-rule 0 spiffe://example.org/w\nwithdrawn 1 spiffe://example.org/w\n";
+    assert_eq!(rt; str::from_utf8(out.bytes()), Ok(lines));
+    assert_eq!(rt; end, Ok(2));
+    Ok(())
+}
