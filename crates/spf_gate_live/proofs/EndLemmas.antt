@@ -1,6 +1,6 @@
 -- The status of a run, and whether it has arguments.
 use Rattle.std.proofs.Common.{◌≡◌, refl, sym, ap, ◌∙◌, ℕ, Bool, true, false, Result, Ok, Err}
-use Rattle.std.specs.Prelude.{◌↔◌, ◌≢◌}
+use Rattle.std.specs.Prelude.{◌↔◌, ◌≢◌, IsErrOf}
 use Rattle.spf_feed.specs.declared.state.X509SourceError.{X509SourceError}
 use Rattle.spf_feed.specs.declared.state.X509SourceError.TheVariants as source
 use Rattle.spf_gate.specs.declared.gate_error.GateError.{GateError}
@@ -70,3 +70,8 @@ nine_of_other status end other status_is nine = other (by_nine end (sym status_i
 
 pub nine_of_refusal : (status : ℕ) → status ≡ end_status (Err errors.NoSupervisor) → status ≡ 9 → ⊥
 nine_of_refusal status status_is nine = cc
+
+-- another status is no refusal of arguments
+pub no_refusal : (end : Result (Unit {0}) LiveGateError) → (end_status end ≡ 9 → ⊥)
+    → IsErrOf end errors.BadArguments → ⊥
+no_refusal end other is = other (ap end_status is)

@@ -1,3 +1,4 @@
 pub mod Causes
+pub mod Defaults
 pub mod EndLemmas
 pub mod Served
