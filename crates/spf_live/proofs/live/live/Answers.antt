@@ -10,14 +10,14 @@ returns-in-Err g c = record {
       (sym c.in-Some.is ∙ c.live_options.ensures.setting) refl tt;
 }
 
-pub returns-in-Err-start : goal.returns-in-Err-start
-returns-in-Err-start g c = record {
+pub returns-in-Ok-prepare : goal.returns-in-Ok-prepare
+returns-in-Ok-prepare g c = record {
   does = does_early _ _ _ _ _ _ _ c.in-Some.options _ _ _ _ _
       (sym c.in-Some.is ∙ c.live_options.ensures.setting) refl c.in-Err-start.ensures.1;
 }
 
-pub returns-in-Err-prepare : goal.returns-in-Err-prepare
-returns-in-Err-prepare g c = record {
+pub returns : goal.returns
+returns g c = record {
   does = does_early _ _ _ _ _ _ _ c.in-Some.options _ _ _ _ c.error_of.result
       (sym c.in-Some.is ∙ c.live_options.ensures.setting) refl
       (prepare_fails_so _ c.in-Some.options c.in-Ok.builder.settings _ _ _ _ _ _ _
@@ -32,5 +32,5 @@ returns-in-Err-default g c = ?
 pub returns-in-Ok-Ok : goal.returns-in-Ok-Ok
 returns-in-Ok-Ok g c = ?
 
-pub returns-in-Ok-Err : goal.returns-in-Ok-Err
-returns-in-Ok-Err g c = ?
+pub returns-in-Ok-start : goal.returns-in-Ok-start
+returns-in-Ok-start g c = ?
