@@ -128,3 +128,16 @@ prepare_fails_by picks setting set valid before now output e found is set_to why
     subst (λ (x : LiveError). FailsBy picks setting valid (Unit {0}) (Unit {0}) output x) (sym is)
     (prepare_fails picks setting set valid before now (Unit {0}) (Unit {0}) output e set_to
     (λ refused. tt) why)
+
+-- the same over the endpoint that was handed in
+pub prepare_fails_so : {K : Type 0} (picks : K → List Svid → Option ℕ) (setting : LiveSetting)
+    (set : Settings K) (valid own : Result (Unit {0}) EndpointError) (before now : ℕ)
+    (supervisor place output : Type 0) (e : X509SourceError) (found : LiveError) → own ≡ valid
+    → found ≡ error_of e → IsSetTo picks setting set → (Refused before now → place)
+    → PrepareFails picks set own before now e
+    → FailsBy picks setting valid supervisor place output found
+prepare_fails_so picks setting set valid own before now supervisor place output e found valid_is
+    found_is is f why =
+    subst (λ (x : Result (Unit {0}) EndpointError × LiveError).
+    FailsBy picks setting x.0 supervisor place output x.1) (λ i. (valid_is i, sym found_is i))
+    (prepare_fails picks setting set own before now supervisor place output e is f why)

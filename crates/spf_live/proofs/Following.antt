@@ -145,3 +145,20 @@ unrecorded_follows members picks job count clock clock' held held' r done seen i
           (prefix_self seen);
       recorded = tt;
     }
+
+-- the same over a connector of which the builder's own is one
+pub runs_told : {S K : Type 0} (members : S → Option (List Member))
+    (picks : K → List Svid → Option ℕ) (setting : LiveSetting) (set : Settings K)
+    (connector own : S) (clock between clock' : Moments) (held held' : Option (List ℕ))
+    (job followed : Assigned S K) (r : Result (Unit {0}) LiveError) (count : ℕ) → own ≡ connector
+    → IsSetTo picks setting set → IsAssigned members picks set own clock between job
+    → followed ≡ job → count ≡ setting.lines
+    → Follows members picks followed count between clock' held held' r
+    → Runs (members connector) picks setting clock clock' held held' r
+runs_told {S} {K} members picks setting set connector own clock between clock' held held' job
+    followed r count by is assigned same lines follows =
+    let of_job = subst (λ (j : Assigned S K).
+    Follows members picks j count between clock' held held' r) same follows in
+    subst (λ (x : S). Runs (members x) picks setting clock clock' held held' r) by
+    (runs_by members picks setting set own clock between clock' held held' job r is assigned
+    (subst (λ (n : ℕ). Follows members picks job n between clock' held held' r) lines of_job))
