@@ -141,3 +141,12 @@ prepare_fails_so picks setting set valid own before now supervisor place output 
     subst (λ (x : Result (Unit {0}) EndpointError × LiveError).
     FailsBy picks setting x.0 supervisor place output x.1) (λ i. (valid_is i, sym found_is i))
     (prepare_fails picks setting set own before now supervisor place output e is f why)
+
+-- printing and joining failed
+pub runs_fail_by : {K : Type 0} (picks : K → List Svid → Option ℕ) (setting : LiveSetting)
+    (valid : Result (Unit {0}) EndpointError) (supervisor place place' output : Type 0)
+    (r : Result (Unit {0}) LiveError) (e : LiveError) → r ≡ Err e → (place → place')
+    → IfErr r (FollowFails place output) → FailsBy picks setting valid supervisor place' output e
+runs_fail_by picks setting valid supervisor place place' output r e is f why =
+    run_fails picks setting valid supervisor place place' output e f
+    (subst (λ (x : Result (Unit {0}) LiveError). IfErr x (FollowFails place output)) is why)
