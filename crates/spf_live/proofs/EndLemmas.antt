@@ -65,7 +65,8 @@ bad_arguments : {K : Type 0} (picks : K → List Svid → Option ℕ)
     (setting : LiveSetting) (e : LiveError) (r : Result (Unit {0}) LiveError)
     → FailsBy picks setting valid supervisor place output e → r ≡ Err e
     → r ≡ Err errors.BadArguments → ⊥
-bad_arguments picks valid supervisor place output setting errors.BadArguments r fails is same = fails
+bad_arguments picks valid supervisor place output setting errors.BadArguments r fails is same =
+    fails
 bad_arguments picks valid supervisor place output setting errors.OutOfMemory r fails is same = cc
 bad_arguments picks valid supervisor place output setting errors.WriteFailed r fails is same = cc
 bad_arguments picks valid supervisor place output setting errors.Rejected r fails is same = cc
@@ -98,8 +99,8 @@ refused_arguments members picks valid supervisor place output (Some setting) clo
     )
 refused_arguments members picks valid supervisor place output (Some setting) clock clock' held held'
     (Err e) does = (
-      (λ same. absurd (bad_arguments picks valid supervisor place output setting e (Err e) does.1 refl
-          same)),
+      (λ same. absurd (bad_arguments picks valid supervisor place output setting e (Err e) does.1
+          refl same)),
       (λ none. absurd (some_setting setting none)),
     )
 

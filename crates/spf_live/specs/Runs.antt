@@ -100,7 +100,8 @@ FollowFails place output _ = ⊥
 
 -- ---- the whole
 
--- What is done by what the arguments say: where they are not those of a live run, nothing is printed.
+-- What is done by what the arguments say: where they are not those of a live run, nothing is
+-- printed.
 abbrev pub Does : {K : Type 0} → Option (List Member) → (K → List Svid → Option ℕ)
     → Result (Unit {0}) EndpointError → Type 0 → Type 0 → Type 0 → Option LiveSetting
     → Moments → Moments → Option (List ℕ) → Option (List ℕ) → Result (Unit {0}) LiveError → Type 0

@@ -1,5 +1,5 @@
-//! The updates that are read. Each has one SVID and one authority of `example.org`, and no other has
-//! either.
+//! The updates that are read. Each has one SVID and one authority of `example.org`, which no other
+//! has.
 
 use spf_api::{context_from_view, read_context_view};
 use spf_io::OutOfMemory;

@@ -1,5 +1,5 @@
-//! `spiffe_bench` measures the reads of a live source, per thread, with nothing published and with a
-//! writer that publishes without pause.
+//! `spiffe_bench` measures the reads of a live source, per thread, with nothing published and with
+//! a writer that publishes without pause.
 #![tactic(auto)]
 
 mod arguments;

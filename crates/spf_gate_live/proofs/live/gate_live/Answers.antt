@@ -63,8 +63,8 @@ returns g c =
         end = Err c.error_of.result;
         runs = unbuilt {K = NoPicker} (g.C.Connector.members c.args.connector)
             (picks.picks-value).it (g.I.Source.left c.args.input.now) _
-            (g.K.Sink.held c.args.out.now) _ c.in-Err.error c.error_of.result c.error_of.ensures refl
-            refl;
+            (g.K.Sink.held c.args.out.now) _ c.in-Err.error c.error_of.result c.error_of.ensures
+            refl refl;
         cause = prepare_fails _ set _ _ _ _ _ _ _ _ c.in-Err.error c.error_of.result
             (ap g.C.Connector.validates c.new-builder.ensures.connector) c.error_of.ensures default
             (λ refused. refused) c.in-Err.ensures.failed;

@@ -33,8 +33,9 @@ returns-in-Err-default g c = record {
       (sym c.in-Some.is ∙ c.live_options.ensures.setting)
       (runs_told _ _ c.in-Some.options c.in-Ok.builder.settings c.args.connector
       c.in-Ok.builder.connector _ _ _ _ _ c.in-Ok-prepare.job c.started-handle.result.job
-      (Err c.in-Err-default.e) c.options.inside.lines c.in-Ok.ensures.connector c.in-Ok.ensures.settings
-      c.in-Ok-prepare.ensures.assigned (c.started-handle.ensures.0 ∙ c.in-Ok-start.ensures.1)
+      (Err c.in-Err-default.e) c.options.inside.lines c.in-Ok.ensures.connector
+      c.in-Ok.ensures.settings c.in-Ok-prepare.ensures.assigned
+      (c.started-handle.ensures.0 ∙ c.in-Ok-start.ensures.1)
       (ap (λ o. o.lines) c.options.view_is)
       (failed_follows _ _ c.started-handle.result.job c.options.inside.lines _ _ _ _
       c.print_source-pass.result.1 c.in-Err-default.e c.print_source-pass.result.0.seen
@@ -50,8 +51,9 @@ returns-in-Ok-Ok g c = record {
       (sym c.in-Some.is ∙ c.live_options.ensures.setting)
       (runs_told _ _ c.in-Some.options c.in-Ok.builder.settings c.args.connector
       c.in-Ok.builder.connector _ _ _ _ _ c.in-Ok-prepare.job c.started-handle.result.job
-      (Ok tt) c.options.inside.lines c.in-Ok.ensures.connector c.in-Ok.ensures.settings
-      c.in-Ok-prepare.ensures.assigned (c.started-handle.ensures.0 ∙ c.in-Ok-start.ensures.1)
+      (Ok tt) c.options.inside.lines c.in-Ok.ensures.connector
+      c.in-Ok.ensures.settings c.in-Ok-prepare.ensures.assigned
+      (c.started-handle.ensures.0 ∙ c.in-Ok-start.ensures.1)
       (ap (λ o. o.lines) c.options.view_is)
       (followed_by _ _ c.started-handle.result.job c.options.inside.lines _ _ _ _
       c.print_source-pass.result.1 c.in-Ok-Ok.field-0-0 c.print_source-pass.result.0.seen
@@ -69,8 +71,9 @@ returns-in-Ok-start g c = record {
       (sym c.in-Some.is ∙ c.live_options.ensures.setting)
       (runs_told _ _ c.in-Some.options c.in-Ok.builder.settings c.args.connector
       c.in-Ok.builder.connector _ _ _ _ _ c.in-Ok-prepare.job c.started-handle.result.job
-      (Err errors.OutOfMemory) c.options.inside.lines c.in-Ok.ensures.connector c.in-Ok.ensures.settings
-      c.in-Ok-prepare.ensures.assigned (c.started-handle.ensures.0 ∙ c.in-Ok-start.ensures.1)
+      (Err errors.OutOfMemory) c.options.inside.lines c.in-Ok.ensures.connector
+      c.in-Ok.ensures.settings c.in-Ok-prepare.ensures.assigned
+      (c.started-handle.ensures.0 ∙ c.in-Ok-start.ensures.1)
       (ap (λ o. o.lines) c.options.view_is)
       (unrecorded_follows _ _ c.started-handle.result.job c.options.inside.lines _ _ _ _
       c.print_source-pass.result.1 c.in-Ok-Err.field-0-0 c.print_source-pass.result.0.seen
