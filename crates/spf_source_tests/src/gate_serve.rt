@@ -123,8 +123,10 @@ fn inputs(rt: HostRuntime) -> Result<(), Fail> {
 
 /// An input without rules, whose second ask has that many bytes.
 fn long_ask(alloc: Global, count: usize) -> Result<Vec<u8>, Fail> {
+    let mut ask = Vec::new(alloc);
+    ask.resize(count, b'a')?;
     let mut input = Vec::from_slice(alloc, b"---\nx\n")?;
-    input.resize(input.len() + count, b'a')?;
+    input.extend_from_slice(ask.as_slice())?;
     input.push(b'\n')?;
     Ok(input)
 }

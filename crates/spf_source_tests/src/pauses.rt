@@ -28,8 +28,11 @@ impl Pause for Summed {
     ghost room = { λ _. 0 };
 
     fn pause(&mut self, delay: Duration) {
-        self.nanos
-            .fetch_add(delay.as_nanos() as u64, Ordering::SeqCst);
+        let nanos = match u64::try_from(delay.as_nanos()) {
+            Ok(nanos) => nanos,
+            Err(_) => u64::MAX,
+        };
+        self.nanos.fetch_add(nanos, Ordering::SeqCst);
     }
 }
 
