@@ -14,34 +14,26 @@ use std::sync::Wait;
 use std::test::Fail;
 use std::time::Duration;
 
-pub(crate) type Builder = X509SourceBuilder<NoPicker, MemConnector, NoRecorder>;
+type Builder = X509SourceBuilder<NoPicker, MemConnector, NoRecorder>;
 
-/// A builder over one link.
-fn over(alloc: Global, link: MemLink) -> Result<Builder, Fail> {
+/// A builder over one link with these answers.
+fn over(alloc: Global, answers: Vec<Answer>) -> Result<Builder, Fail> {
+    let link = MemLink::new(alloc, answers);
     let connector = MemConnector::new(alloc, vec![in alloc; Ok(link)]?);
     Ok(X509SourceBuilder::new(connector))
 }
 
 /// A link that gives the item I1.
-pub(crate) fn good_link(alloc: Global) -> Result<MemLink, Fail> {
+fn good(alloc: Global) -> Result<Builder, Fail> {
     let item = Answer::Item(Response::Context(first_item(alloc)?));
-    Ok(MemLink::new(alloc, vec![in alloc; Answer::Started, item]?))
+    over(alloc, vec![in alloc; Answer::Started, item]?)
 }
 
 /// A link that refuses its start with this status.
-pub(crate) fn refusing_link(alloc: Global, code: GrpcStatusCode) -> Result<MemLink, Fail> {
+fn refusing(alloc: Global, code: GrpcStatusCode) -> Result<Builder, Fail> {
     let message = Text::copy_of(alloc, "no")?;
     let fault = LinkFault::Status(GrpcStatusError::new(code, message));
-    Ok(MemLink::new(alloc, vec![in alloc; Answer::Refused(fault)]?))
-}
-
-/// A builder over a link that gives the item I1.
-pub(crate) fn good(alloc: Global) -> Result<Builder, Fail> {
-    over(alloc, good_link(alloc)?)
-}
-
-fn refusing(alloc: Global, code: GrpcStatusCode) -> Result<Builder, Fail> {
-    over(alloc, refusing_link(alloc, code)?)
+    over(alloc, vec![in alloc; Answer::Refused(fault)]?)
 }
 
 /// What a build gave.
@@ -67,7 +59,7 @@ fn error_of(e: X509SourceError) -> Outcome {
     }
 }
 
-pub(crate) fn clock(alloc: Global) -> Result<MemClock, Fail> {
+fn clock(alloc: Global) -> Result<MemClock, Fail> {
     Ok(MemClock::new(vec![in alloc; Some(999)]?))
 }
 

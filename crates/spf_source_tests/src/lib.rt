@@ -6,14 +6,6 @@ mod build;
 #[cfg(test)]
 mod gate;
 #[cfg(test)]
-mod gate_late;
-#[cfg(test)]
 mod gate_serve;
-#[cfg(test)]
-mod pauses;
-#[cfg(test)]
-mod record;
-#[cfg(test)]
-mod sockets;
 #[cfg(test)]
 mod source;
