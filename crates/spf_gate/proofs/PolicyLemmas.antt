@@ -1,7 +1,7 @@
 -- Reading a policy line by line.
-use Rattle.std.proofs.Common.{◌≡◌, ◌∙◌, refl, sym, ap, ℕ, ◌+◌, Bool, true, false, List, [], ◌∷◌}
+use Rattle.std.proofs.Common.{◌≡◌, ◌∙◌, refl, sym, ap, ℕ, ◌+◌, Bool, true, false, List, []}
 use Rattle.std.proofs.Common.{◌++◌}
-use Rattle.std.proofs.Common.{Option, Some, None, IfSome, Result, Ok, Err, append_assoc, arith}
+use Rattle.std.proofs.Common.{Option, Some, None, Result, Ok, Err, append_assoc, arith}
 use Rattle.std.proofs.Common.{◌-◌, ◌<◌, ◌≤◌, nat_lt}
 use Rattle.std.specs.Prelude.{◌≢◌, if◌then◌else◌}
 use Rattle.std.specs.Bool.{MatchBool}
@@ -14,7 +14,7 @@ use Rattle.spf_gate.specs.declared.gate_error.GateError.TheVariants as errors
 use Rattle.spf_gate.specs.Lines.{is_memory_gate, lines_of, line_rule, text_rule}
 use Rattle.spf_gate.specs.Policies.{Policy, ReadsPolicy, after_rules, is_policy_end, policy_of}
 use Rattle.spf_gate.specs.Policies.{rule_at}
-use Rattle.spf_gate.specs.Reading.{Breaks, Hands, TakesLine, number_after}
+use Rattle.spf_gate.specs.Reading.{Breaks, TakesLine, number_after}
 
 -- what is read so far of a policy whose first line has the number `first`
 abbrev pub SoFar : ℕ → ℕ → Option (List ℕ) → Option (List ℕ) → ℕ → List Rule → Type 0

@@ -1,10 +1,10 @@
 -- Answering asks one by one.
-use Rattle.std.proofs.Common.{◌≡◌, ◌∙◌, refl, sym, ap, ℕ, suc, ◌+◌, Bool, true, false, List, []}
+use Rattle.std.proofs.Common.{◌≡◌, ◌∙◌, refl, sym, ap, ℕ, ◌+◌, Bool, true, false, List, []}
 use Rattle.std.proofs.Common.{◌∷◌, ◌++◌}
 use Rattle.std.proofs.Common.{length, Option, Some, None, IfSome, Result, Ok, Err, append_assoc}
 use Rattle.std.proofs.Common.{subst}
-use Rattle.std.proofs.Common.{inl, inr, ◌⊎◌, arith}
-use Rattle.std.specs.Prelude.{if◌then◌else◌, is_ok, IsErrOf}
+use Rattle.std.proofs.Common.{inl, inr, arith}
+use Rattle.std.specs.Prelude.{IsErrOf}
 use Rattle.std.specs.Io.KnownBytes.{Appends, prepend_known}
 use Rattle.std.proofs.KnownBytes.{Appends-trans, Appends-nil}
 use Rattle.std.proofs.lemmas.List.{append-nil}

@@ -37,7 +37,8 @@ domain_pattern text =
 -- an ID that has a path
 unfoldable pub prefix_pattern : List ℕ → Option Pattern
 prefix_pattern text =
-    value_of (id_rule text) >>= λ id. if length id.path == 0 then None else Some (patterns.Prefix id)
+    value_of (id_rule text)
+    >>= λ id. if length id.path == 0 then None else Some (patterns.Prefix id)
 
 -- a word, a space, and what it is about
 unfoldable pub pattern_of : List ℕ → Option Pattern

@@ -1,10 +1,9 @@
 -- How a live run of the gate ends: its status, and its line on standard error.
-use Rattle.std.specs.Prelude.{◌≡◌, ℕ, Bool, true, false, List, codes, Option, None, Some}
+use Rattle.std.specs.Prelude.{ℕ, Bool, true, false, List, codes, Option, None, Some}
 use Rattle.std.specs.Prelude.{Result, Ok, Err}
 use Rattle.spf_feed.specs.declared.state.X509SourceError.{X509SourceError}
 use Rattle.spf_feed.specs.declared.state.X509SourceError.TheVariants as source
-use Rattle.spf_program.specs.Reports.{IsReported, failure_line}
-use Rattle.spf_program.specs.Streams.{Side}
+use Rattle.spf_program.specs.Reports.{failure_line}
 use Rattle.spf_program.specs.declared.arguments.ArgumentsError.{ArgumentsError}
 use Rattle.spf_program.specs.declared.arguments.ArgumentsError.TheVariants as arguments
 use Rattle.spf_gate.specs.declared.gate_error.GateError.{GateError}
@@ -69,8 +68,3 @@ number errors.NoPlace = Some 11
 -- the line of an error, with its line feed
 abbrev pub error_line : LiveGateError → List ℕ
 error_line error = failure_line (codes "spf_gate: ") (message error) (number error)
-
--- The line of an error is put, and nothing where the run ended well.
-abbrev pub IsEndReported : Side → Side → Result (Unit {0}) LiveGateError → Type 0
-IsEndReported before after (Ok done) = after ≡ before
-IsEndReported before after (Err error) = IsReported before after (error_line error)

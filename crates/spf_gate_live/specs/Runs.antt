@@ -6,6 +6,7 @@ use Rattle.spf_api.specs.declared.endpoint_error.EndpointError.{EndpointError}
 use Rattle.spf_api.specs.declared.error.WorkloadApiError.{WorkloadApiError}
 use Rattle.spf_history.specs.Lists.{is_ended, steps_of}
 use Rattle.spf_link.specs.Connecting.{Member}
+use Rattle.spf_program.specs.Reports.{IsEndReported}
 use Rattle.spf_program.specs.Streams.{Side}
 use Rattle.spf_x509.specs.Svid.{Svid}
 use Rattle.spf_feed.specs.Limits.{default_limits}
@@ -20,7 +21,7 @@ use Rattle.spiffe.specs.Records.{IsRecord, Recorded}
 use Rattle.spf_gate.specs.declared.gate_error.GateError.{GateError}
 use Rattle.spf_gate.specs.declared.gate_error.GateError.TheVariants as gate
 use Rattle.spf_gate.specs.Serving.{Seen, Serves, cuts}
-use Rattle.spf_gate_live.specs.Ends.{IsEndReported, end_status}
+use Rattle.spf_gate_live.specs.Ends.{end_status, error_line}
 use Rattle.spf_gate_live.specs.declared.live_error.LiveGateError.{LiveGateError}
 use Rattle.spf_gate_live.specs.declared.live_error.LiveGateError.TheVariants as errors
 
@@ -104,4 +105,4 @@ pub record Ended {K : Type 0} (members : Option (List Member)) (picks : K → Li
   pub runs : Runs members picks left left' held held' end
   pub cause : IfErr end (FailsBy picks valid supervisor place input output)
   pub status_is : status ≡ end_status end
-  pub reported : IsEndReported before after end
+  pub reported : IsEndReported error_line before after end

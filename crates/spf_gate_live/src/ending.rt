@@ -1,7 +1,8 @@
 //! The end of a live run of the gate: its exit status, and its line on standard error.
 
 ghost use Rattle.std.specs.Prelude.{◌≡◌};
-ghost use Rattle.spf_gate_live.specs.Ends.{IsEndReported, end_status};
+ghost use Rattle.spf_gate_live.specs.Ends.{end_status, error_line};
+ghost use Rattle.spf_program.specs.Reports.{IsEndReported};
 ghost use Rattle.spf_program.specs.Streams.{side};
 
 use crate::live_error::{LiveGateError, message_of, number_of, status_of};
@@ -11,7 +12,7 @@ use spf_io::Sink;
 /// nothing.
 pub fn report<E: Sink>(errors: &mut E, end: Result<(), LiveGateError>) -> u8
     ensures status { result ≡ end_status end }
-    ensures line { IsEndReported (side (E.held errors.old) (E.failures errors.old))
+    ensures line { IsEndReported error_line (side (E.held errors.old) (E.failures errors.old))
         (side (E.held errors.new) (E.failures errors.new)) end }
 {
     match end {

@@ -77,7 +77,7 @@ where
         None::<HintPicker>,
     );
     let mut clock = StdClock::new(host);
-    let random = StepWords::new(seed_of(clock.now()));
+    let random = StepWords::seeded_at(clock.now());
     let pause = HostPause::new(host);
     let mut places = BoardPlaces::new();
     match builder.prepare(rt, alloc, &mut clock, pause, random, &mut places) {
@@ -91,13 +91,5 @@ where
             Err(_) => Err(LiveGateError::NoSupervisor),
         },
         Err(error) => Err(error_of(error)),
-    }
-}
-
-/// The seed of the random words: the clock's moment, or 0.
-fn seed_of(moment: Option<i64>) -> u64 {
-    match moment {
-        Some(moment) => moment.unsigned_abs(),
-        None => 0,
     }
 }

@@ -9,14 +9,14 @@ use spf_api::WorkloadApiError;
 use spf_endpoint::from_env;
 use spf_gate::GateError;
 use spf_gate_live::{LiveGateError, gate_on_threads, report};
-use spf_io::{Sink, StdSink, StdSource};
-use spf_program::program_arguments;
+use spf_io::{StdSink, StdSource};
+use spf_live::{NO_ENDPOINT, explain_endpoint};
+use spf_program::{program_arguments, put_help};
 use spf_system::StdEnvironment;
-use std::alloc::Global;
 use std::process::ExitCode;
 
-/// The status where the environment names no endpoint.
-const NO_ENDPOINT: u8 = 14;
+/// The status where standard output fails.
+const WRITE_FAILED: u8 = 2;
 
 fn main(rt: HostRuntime) -> ExitCode {
     let mut errors = StdSink::new(rt.stderr());
@@ -27,12 +27,19 @@ fn main(rt: HostRuntime) -> ExitCode {
     let mut out = StdSink::new(rt.stdout());
     if let [argument] = arguments.as_slice() {
         if argument.as_str() == "--help" {
-            return ExitCode::from(put_help(&mut out));
+            return ExitCode::from(put_help(&mut out, HELP, WRITE_FAILED));
         }
     }
     match from_env(rt.alloc(), &StdEnvironment::new(rt)) {
         Ok(_) => {}
-        Err(error) => return ExitCode::from(refuse(rt.alloc(), &mut errors, &error)),
+        Err(WorkloadApiError::OutOfMemory) => {
+            let end = Err(LiveGateError::Gate(GateError::OutOfMemory));
+            return ExitCode::from(report(&mut errors, end));
+        }
+        Err(error) => {
+            explain_endpoint(rt.alloc(), &mut errors, "spf_gate", &error);
+            return ExitCode::from(NO_ENDPOINT);
+        }
     }
     let mut input = StdSource::new(rt.stdin());
     ExitCode::from(gate_on_threads(
@@ -43,23 +50,4 @@ fn main(rt: HostRuntime) -> ExitCode {
         &mut out,
         &mut errors,
     ))
-}
-
-/// Puts the help, and returns the exit status.
-fn put_help<K: Sink>(out: &mut K) -> u8 {
-    match out.put(HELP.as_bytes()) {
-        Ok(()) => 0,
-        Err(_) => 2,
-    }
-}
-
-/// Says why the environment names no endpoint, and returns the exit status.
-fn refuse<E: Sink>(alloc: Global, errors: &mut E, error: &WorkloadApiError) -> u8 {
-    if let WorkloadApiError::OutOfMemory = error {
-        return report(errors, Err(LiveGateError::Gate(GateError::OutOfMemory)));
-    }
-    if let Ok(line) = format!(in alloc; "spf_gate: {error}\n") {
-        let _ = errors.put(line.as_bytes());
-    }
-    NO_ENDPOINT
 }

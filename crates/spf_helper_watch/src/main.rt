@@ -8,13 +8,16 @@ use help::HELP;
 use spf_folder::{FolderDisk, FolderFault};
 use spf_helper::helper_watch;
 use spf_io::{Sink, StdSink, StdSource};
-use spf_program::{ArgumentsError, program_arguments, report};
+use spf_program::{ArgumentsError, program_arguments, put_help, report};
 use std::alloc::Global;
 use std::io::BufReader;
 use std::process::ExitCode;
 
 /// How many bytes of standard input are read at once.
 const INPUT_BUFFER: usize = 1 << 16;
+
+/// The status where standard output fails.
+const WRITE_FAILED: u8 = 4;
 
 /// The status where the disk failed.
 const DISK_FAILED: u8 = 21;
@@ -35,7 +38,9 @@ fn main(rt: HostRuntime) -> ExitCode {
 fn run<E: Sink>(rt: &HostRuntime, errors: &mut E) -> Result<u8, ArgumentsError> {
     let arguments = program_arguments(rt)?;
     match arguments.as_slice() {
-        [argument] if argument.as_str() == "--help" => Ok(put_help(rt)),
+        [argument] if argument.as_str() == "--help" => {
+            Ok(put_help(&mut StdSink::new(rt.stdout()), HELP, WRITE_FAILED))
+        }
         [folder] => follow(rt, folder.as_str(), arguments.as_slice(), errors),
         // Without a folder no file is opened, and the arguments are refused.
         _ => follow(rt, "", arguments.as_slice(), errors),
@@ -74,12 +79,5 @@ fn explain<E: Sink>(alloc: Global, errors: &mut E, fault: Option<&FolderFault>) 
         if let Ok(line) = format!(in alloc; "spf_helper: {fault}\n") {
             let _ = errors.put(line.as_bytes());
         }
-    }
-}
-
-fn put_help(rt: &HostRuntime) -> u8 {
-    match StdSink::new(rt.stdout()).put(HELP.as_bytes()) {
-        Ok(()) => 0,
-        Err(_) => 4,
     }
 }

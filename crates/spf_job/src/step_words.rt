@@ -2,7 +2,7 @@
 
 ghost use Rattle.std.specs.Prelude.{◌≡◌, ℕ};
 ghost use Rattle.rand_core.specs.Steps.{stream_of};
-ghost use Rattle.spf_job.specs.Words.{word_step, word_steps};
+ghost use Rattle.spf_job.specs.Words.{seed_of, word_step, word_steps};
 
 use rand_core::utils::NextWord;
 use rand_core::{Rng, utils};
@@ -26,6 +26,16 @@ impl StepWords {
         ensures { result ≡ seed }
     {
         StepWords { state: seed }
+    }
+
+    /// The words whose seed is a moment of the clock, in Unix seconds; 0 where there is none.
+    pub fn seeded_at(moment: Option<i64>) -> StepWords
+        ensures { result ≡ seed_of moment }
+    {
+        match moment {
+            Some(moment) if moment >= 0 => StepWords::new(moment as u64),
+            _ => StepWords::new(0),
+        }
     }
 }
 

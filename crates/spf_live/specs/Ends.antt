@@ -1,9 +1,8 @@
 -- How a live run ends: its status, and its line on standard error.
-use Rattle.std.specs.Prelude.{◌≡◌, ℕ, List, codes, None, Result, Ok, Err}
+use Rattle.std.specs.Prelude.{ℕ, List, codes, None, Result, Ok, Err}
 use Rattle.spf_feed.specs.declared.state.X509SourceError.{X509SourceError}
 use Rattle.spf_feed.specs.declared.state.X509SourceError.TheVariants as source
-use Rattle.spf_program.specs.Reports.{IsReported, failure_line}
-use Rattle.spf_program.specs.Streams.{Side}
+use Rattle.spf_program.specs.Reports.{failure_line}
 use Rattle.spf_program.specs.declared.arguments.ArgumentsError.{ArgumentsError}
 use Rattle.spf_program.specs.declared.arguments.ArgumentsError.TheVariants as arguments
 use Rattle.spf_live.specs.declared.error.LiveError.{LiveError}
@@ -49,8 +48,3 @@ error_line error = failure_line (codes "spiffe_watch: ") (error_message error) N
 abbrev pub end_status : Result (Unit {0}) LiveError → ℕ
 end_status (Ok done) = 0
 end_status (Err error) = error_status error
-
--- The line of an error is put, and nothing where the run ended well.
-abbrev pub IsEndReported : Side → Side → Result (Unit {0}) LiveError → Type 0
-IsEndReported before after (Ok done) = after ≡ before
-IsEndReported before after (Err error) = IsReported before after (error_line error)

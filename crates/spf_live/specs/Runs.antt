@@ -17,8 +17,9 @@ use Rattle.spiffe.specs.declared.builder.Settings.{Settings}
 use Rattle.spiffe.specs.Building.{SyncFails}
 use Rattle.spiffe.specs.Records.{Assigned, IsOf, IsRecord, Recorded}
 use Rattle.spf_options.specs.Live.{LiveSetting}
+use Rattle.spf_program.specs.Reports.{IsEndReported}
 use Rattle.spf_program.specs.Streams.{Side}
-use Rattle.spf_live.specs.Ends.{IsEndReported, end_status}
+use Rattle.spf_live.specs.Ends.{end_status, error_line}
 use Rattle.spf_live.specs.Printing.{Moments, Prints, Seen}
 use Rattle.spf_live.specs.declared.error.LiveError.{LiveError}
 use Rattle.spf_live.specs.declared.error.LiveError.TheVariants as errors
@@ -119,4 +120,4 @@ pub record Ended {K : Type 0} (members : Option (List Member)) (picks : K → Li
   pub end : Result (Unit {0}) LiveError
   pub does : Does members picks valid supervisor place output setting clock clock' held held' end
   pub status_is : status ≡ end_status end
-  pub reported : IsEndReported stderr stderr' end
+  pub reported : IsEndReported error_line stderr stderr' end

@@ -3,6 +3,7 @@
 
 mod builder;
 mod ending;
+mod endpoint;
 mod error;
 mod follow;
 mod host;
@@ -12,6 +13,7 @@ mod on_threads;
 mod printing;
 
 pub use ending::report;
+pub use endpoint::{NO_ENDPOINT, explain_endpoint};
 pub use error::LiveError;
 pub use host::{HostConnector, HostLink, HostPause};
 pub use live::watch_live;

@@ -107,7 +107,7 @@ where
         Err(_) => return Err(LiveError::OutOfMemory),
     };
     let mut clock = StdClock::new(host);
-    let random = StepWords::new(seed_of(clock.now()));
+    let random = StepWords::seeded_at(clock.now());
     let mut places = BoardPlaces::new();
     match builder.prepare(
         rt,
@@ -132,13 +132,5 @@ where
             Err(_) => Err(LiveError::NoSupervisor),
         },
         Err(e) => Err(error_of(e)),
-    }
-}
-
-/// The seed of the random numbers: the clock's moment, or 0.
-fn seed_of(moment: Option<i64>) -> u64 {
-    match moment {
-        Some(moment) if moment >= 0 => moment as u64,
-        _ => 0,
     }
 }

@@ -7,15 +7,14 @@ mod help;
 use help::HELP;
 use spf_api::WorkloadApiError;
 use spf_endpoint::from_env;
-use spf_io::{Sink, StdSink};
-use spf_live::{LiveError, report, watch_on_threads};
-use spf_program::program_arguments;
+use spf_io::StdSink;
+use spf_live::{LiveError, NO_ENDPOINT, explain_endpoint, report, watch_on_threads};
+use spf_program::{program_arguments, put_help};
 use spf_system::StdEnvironment;
-use std::alloc::Global;
 use std::process::ExitCode;
 
-/// The status where the environment names no endpoint.
-const NO_ENDPOINT: u8 = 14;
+/// The status where standard output fails.
+const WRITE_FAILED: u8 = 4;
 
 fn main(rt: HostRuntime) -> ExitCode {
     let mut errors = StdSink::new(rt.stderr());
@@ -26,31 +25,18 @@ fn main(rt: HostRuntime) -> ExitCode {
     let mut out = StdSink::new(rt.stdout());
     if let [argument] = arguments.as_slice() {
         if argument.as_str() == "--help" {
-            return ExitCode::from(put_help(&mut out));
+            return ExitCode::from(put_help(&mut out, HELP, WRITE_FAILED));
         }
     }
     match from_env(rt.alloc(), &StdEnvironment::new(rt)) {
         Ok(_) => {}
-        Err(e) => return ExitCode::from(refuse(rt.alloc(), &mut errors, &e)),
+        Err(WorkloadApiError::OutOfMemory) => {
+            return ExitCode::from(report(&mut errors, Err(LiveError::OutOfMemory)));
+        }
+        Err(error) => {
+            explain_endpoint(rt.alloc(), &mut errors, "spiffe_watch", &error);
+            return ExitCode::from(NO_ENDPOINT);
+        }
     }
     ExitCode::from(watch_on_threads(rt, rt, arguments.as_slice(), &mut out, &mut errors))
-}
-
-/// Puts the help, and returns the exit status.
-fn put_help<K: Sink>(out: &mut K) -> u8 {
-    match out.put(HELP.as_bytes()) {
-        Ok(()) => 0,
-        Err(_) => 4,
-    }
-}
-
-/// Says why the environment names no endpoint, and returns the exit status.
-fn refuse<E: Sink>(alloc: Global, errors: &mut E, error: &WorkloadApiError) -> u8 {
-    if let WorkloadApiError::OutOfMemory = error {
-        return report(errors, Err(LiveError::OutOfMemory));
-    }
-    if let Ok(line) = format!(in alloc; "spiffe_watch: {error}\n") {
-        let _ = errors.put(line.as_bytes());
-    }
-    NO_ENDPOINT
 }

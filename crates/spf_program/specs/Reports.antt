@@ -1,6 +1,6 @@
 -- The exit status of a failure, and its line on the error output.
-use Rattle.std.specs.Prelude.{ℕ, List, [], ◌∷◌, ◌++◌, codes, decimal, Option, None, Some}
-use Rattle.std.specs.Prelude.{Result}
+use Rattle.std.specs.Prelude.{◌≡◌, ℕ, List, [], ◌∷◌, ◌++◌, codes, decimal, Option, None, Some}
+use Rattle.std.specs.Prelude.{Result, Ok, Err}
 use Rattle.spf_io.specs.declared.memory.Failed.{Failed}
 use Rattle.spf_io.specs.Outside.{HasCause, PutAppends}
 use Rattle.spf_feed.specs.declared.follow_error.FollowError.{FollowError}
@@ -60,3 +60,19 @@ pub record IsReported (before after : Side) (line : List ℕ) : Type 0 where
   pub put : Result (Unit {0}) Failed
   pub appends : PutAppends before.bytes after.bytes put line
   pub cause : HasCause before.failures after.failures put
+
+-- The line of an error is put, and nothing where the run ended well.
+abbrev pub IsEndReported : {E : Type 0} → (E → List ℕ) → Side → Side → Result (Unit {0}) E → Type 0
+IsEndReported line before after (Ok done) = after ≡ before
+IsEndReported line before after (Err error) = IsReported before after (line error)
+
+abbrev pub help_status : ℕ → Result (Unit {0}) Failed → ℕ
+help_status failed (Ok done) = 0
+help_status failed (Err fault) = failed
+
+-- A help is put; the status is 0, or another where the output failed.
+pub record IsHelpPut (before after : Side) (help : List ℕ) (failed status : ℕ) : Type 0 where
+  pub put : Result (Unit {0}) Failed
+  pub appends : PutAppends before.bytes after.bytes put help
+  pub cause : HasCause before.failures after.failures put
+  pub status_is : status ≡ help_status failed put

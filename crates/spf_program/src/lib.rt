@@ -5,9 +5,11 @@
 mod arguments;
 mod failure;
 mod follow_failure;
+mod help;
 mod number;
 
 pub use arguments::{ArgumentsError, program_arguments};
 pub use failure::report;
 pub use follow_failure::{follow_message, follow_number, follow_status};
+pub use help::put_help;
 pub use number::{MAX_NUMBER, moment, number_up_to};

@@ -2,8 +2,11 @@
 //! event of the session that it stands for what a workload then holds.
 #![tactic(auto)]
 
+mod help;
+
+use help::HELP;
 use spf_io::{Sink, StdSink, StdSource};
-use spf_program::{ArgumentsError, program_arguments, report};
+use spf_program::{ArgumentsError, program_arguments, put_help, report};
 use spf_proto::proto_watch;
 use std::alloc::Global;
 use std::io::BufReader;
@@ -11,6 +14,9 @@ use std::process::ExitCode;
 
 /// How many bytes of standard input are read at once.
 const INPUT_BUFFER: usize = 1 << 16;
+
+/// The status where standard output fails.
+const WRITE_FAILED: u8 = 4;
 
 fn main(rt: HostRuntime) -> ExitCode {
     let mut errors = StdSink::new(rt.stderr());
@@ -23,10 +29,16 @@ fn main(rt: HostRuntime) -> ExitCode {
     }
 }
 
-/// Calls `proto_watch` with the standard streams, and returns its exit status.
+/// Answers `--help`, alone, and otherwise calls `proto_watch` with the standard streams. It returns
+/// the exit status.
 fn run<E: Sink>(rt: &HostRuntime, errors: &mut E) -> Result<u8, ArgumentsError> {
     let arguments = program_arguments(rt)?;
     let mut out = StdSink::new(rt.stdout());
+    if let [argument] = arguments.as_slice() {
+        if argument.as_str() == "--help" {
+            return Ok(put_help(&mut out, HELP, WRITE_FAILED));
+        }
+    }
     let Ok(input) = BufReader::with_capacity(rt.alloc(), INPUT_BUFFER, rt.stdin()) else {
         return Err(ArgumentsError::OutOfMemory);
     };

@@ -1,4 +1,4 @@
-use Rattle.std.proofs.Common.{◌≡◌, ◌∙◌, refl, ap, Err, rules, arith}
+use Rattle.std.proofs.Common.{◌≡◌, ◌∙◌, refl, ap, Err, rules}
 use Rattle.std.proofs.Common.{length}
 use Rattle.spf_feed.specs.contracts.picker.NoPickerSvidPicker.TheImpl as picks
 use Rattle.spf_feed.specs.declared.picker.NoPicker.{NoPicker}

@@ -1,10 +1,9 @@
-use Rattle.std.proofs.Common.{rules, ◌≡◌, ap, ◌∙◌, sym, subst, ◌+◌, ◌<◌, arith, ℤ, w64}
+use Rattle.std.proofs.Common.{◌≡◌, ap, ◌∙◌, sym, subst, ◌+◌, ◌<◌, arith, w64}
 use Rattle.std.proofs.Common.{of_z, to_z, ◌+ℤ◌}
 use Rattle.std.specs.Prelude.{pos}
 use Rattle.std.proofs.lemmas.Int.{ints, to_z-of_z}
 use Rattle.std.proofs.lemmas.Result.{IfOk-weaker}
 use Rattle.spf_der.specs.WrittenTime.{IsWritable, expiry_text}
-use Rattle.spiffe_watch.specs.MadeSession.{expiry_of}
 use Rattle.spiffe_watch.proofs.GeneratedLemmas.{is_expiry}
 use Rattle.spiffe_watch.proofs.generated.expiry_time.Goals as goal
 
