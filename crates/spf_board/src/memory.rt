@@ -1,6 +1,6 @@
 //! What a pass remembers, and the reads through it. They take no lock and never wait.
 
-ghost use Rattle.std.specs.Prelude.{◌≡◌, ◌+◌, OnSome, IfSome, IfNone};
+ghost use Rattle.std.specs.Prelude.{◌≡◌, ◌+◌, false, OnSome, IfSome, IfNone};
 ghost use mathlib.Core.List.{IsPrefix};
 ghost use Rattle.left_right.specs.Sides.{view};
 ghost use Rattle.spf_history.specs.Lists.{IsBoardList};
@@ -14,30 +14,43 @@ use spf_history::{Front, Kind};
 use spf_io::OutOfMemory;
 use std::marker::{Model, PhantomData};
 
-// What was found in the snapshot, and the history that it stands for.
+// What was found in the snapshot, and the history that it stands for. Where that was seen already,
+// nothing may have been looked for.
 #[derive(Drop)]
 struct Taken<K: Kind, F> {
-    found: F,
+    found: Option<F>,
     front: Front<K>,
 }
 
-// What is posted, where it is not older than what was entered.
+// What is posted, where it is not older than what was entered. What was seen already is looked at
+// where that is asked for.
 fn newer<K: Replay, L: Look<K::Snapshot>>(
     posted: &Posted<K>,
     entered: &Front<K>,
+    seen: &Front<K>,
+    looks_again: bool,
     look: &L,
 ) -> Option<Taken<K, L::Found>>
-    requires { entered.now.book ≡ posted.now.front.book }
+    requires entered { entered.now.book ≡ posted.now.front.book }
+    requires seen { seen.now.book ≡ entered.now.book }
     ensures front { IfSome result (λ t. t.front ≡ posted.now.front) }
-    ensures found { IfSome result (λ t. L.finds look.now posted.now.snapshot t.found) }
+    ensures found { IfSome result (λ t.
+        IfSome t.found (L.finds look.now posted.now.snapshot)) }
+    ensures seen { IfSome result (λ t.
+        IfNone t.found ((looks_again ≡ false) × (t.front.list ≡ seen.now.list))) }
     ensures board { IfSome result (λ t. IsBoardList K.legal t.front.list) }
     ensures entered { IfSome result (λ t. IsPrefix entered.now.list t.front.list) }
 {
     if !entered.begins(&posted.front) {
         return None;
     }
+    let found = if !looks_again && seen.is_same(&posted.front) {
+        None
+    } else {
+        Some(look.look(&posted.snapshot))
+    };
     Some(Taken {
-        found: look.look(&posted.snapshot),
+        found,
         front: posted.front.again(),
     })
 }
@@ -46,46 +59,57 @@ fn newer<K: Replay, L: Look<K::Snapshot>>(
 fn read<K: Replay, L: Look<K::Snapshot>>(
     reader: PostReader<K>,
     entered: &Front<K>,
+    seen: &Front<K>,
+    looks_again: bool,
     look: &L,
 ) -> (PostReader<K>, Option<Taken<K, L::Found>>)
-    requires { IsBoundTo (view reader.place) entered.now.book }
+    requires bound { IsBoundTo (view reader.place) entered.now.book }
+    requires seen { seen.now.book ≡ entered.now.book }
     ensures bound { IsBoundTo (view result.0.place) entered.now.book }
     ensures once { OnSome result.1
         ((view result.0.place).enters ≡ (view reader.place).enters + 1) }
     ensures found { IfSome result.1 (λ t.
-        Finds K.legal K.replays (L.finds look.now) t.front.list t.found) }
+        IfSome t.found (Finds K.legal K.replays (L.finds look.now) t.front.list)) }
+    ensures seen { IfSome result.1 (λ t.
+        IfNone t.found ((looks_again ≡ false) × (t.front.list ≡ seen.now.list))) }
     ensures entered { IfSome result.1 (λ t.
         IsPrefix entered.now.list t.front.list × (t.front.book ≡ entered.now.book)) }
 {
     match reader.enter_as::<Takes>() {
         Ok(reading) => {
-            let taken = newer(reading.get(), entered, look);
+            let taken = newer(reading.get(), entered, seen, looks_again, look);
             (reading.leave(), taken)
         }
         Err(reader) => (reader, None),
     }
 }
 
-// One read. Where nothing was taken, one more was missed.
+// One read: what was found, if anything was looked for. Where nothing was taken, one more was
+// missed.
 fn enter<K: Replay, L: Look<K::Snapshot>>(
     reader: PostReader<K>,
     entered: &mut Front<K>,
     missed: &mut u64,
+    seen: &Front<K>,
+    looks_again: bool,
     look: &L,
-) -> (PostReader<K>, Option<L::Found>)
-    requires { IsBoundTo (view reader.place) entered.old.book }
+) -> (PostReader<K>, Option<Option<L::Found>>)
+    requires bound { IsBoundTo (view reader.place) entered.old.book }
+    requires seen { seen.now.book ≡ entered.old.book }
     ensures bound { IsBoundTo (view result.0.place) entered.new.book }
     ensures book { entered.new.book ≡ entered.old.book }
     ensures entered { IsPrefix entered.old.list entered.new.list }
-    ensures found { IfSome result.1 (λ found.
-        Finds K.legal K.replays (L.finds look.now) entered.new.list found) }
+    ensures found { IfSome result.1 (λ read.
+        IfSome read (Finds K.legal K.replays (L.finds look.now) entered.new.list)) }
+    ensures seen { IfSome result.1 (λ read.
+        IfNone read ((looks_again ≡ false) × (entered.new.list ≡ seen.now.list))) }
     ensures once { OnSome result.1
         (((view result.0.place).enters ≡ (view reader.place).enters + 1)
         × (missed.new ≡ missed.old)) }
     ensures missed { IfNone result.1 (Rose missed.old missed.new
         × (entered.new.list ≡ entered.old.list)) }
 {
-    let (reader, taken) = read(reader, entered, look);
+    let (reader, taken) = read(reader, entered, seen, looks_again, look);
     match taken {
         Some(taken) => {
             let Taken { found, front } = taken;
@@ -189,7 +213,8 @@ impl<K: Replay> Memory<K> {
     }
 
     /// A read that is kept: the kept snapshot then stands for what is published now, or
-    /// stays where the reader was not let in. A refused copy leaves what was seen.
+    /// stays where the reader was not let in. A refused copy leaves what was seen. What was
+    /// seen already is not copied again.
     pub fn renew(&mut self, reader: PostReader<K>) -> (PostReader<K>, Result<(), OutOfMemory>)
         requires { IsBoundTo (view reader.place) self.old.book }
         ensures bound { IsBoundTo (view result.0.place) self.new.book }
@@ -199,15 +224,22 @@ impl<K: Replay> Memory<K> {
         ensures err { OnErr result.1 (self.new.seen ≡ self.old.seen) }
     {
         let copied: Copied<K> = Copied(PhantomData);
-        let (reader, found) = enter(reader, &mut self.entered, &mut self.missed, &copied);
+        let (reader, found) = enter(
+            reader,
+            &mut self.entered,
+            &mut self.missed,
+            &self.seen,
+            false,
+            &copied,
+        );
         match found {
-            Some(Ok(snapshot)) => {
+            Some(Some(Ok(snapshot))) => {
                 self.kept = snapshot;
                 self.seen = self.entered.again();
                 (reader, Ok(()))
             }
-            Some(Err(e)) => (reader, Err(e)),
-            None => (reader, Ok(())),
+            Some(Some(Err(e))) => (reader, Err(e)),
+            Some(None) | None => (reader, Ok(())),
         }
     }
 
@@ -225,9 +257,17 @@ impl<K: Replay> Memory<K> {
             (passed self.old (view reader.place)) (passed self.new (view result.0.place))
             result.1 }
     {
-        let (reader, found) = enter(reader, &mut self.entered, &mut self.missed, look);
+        let (reader, found) = enter(
+            reader,
+            &mut self.entered,
+            &mut self.missed,
+            &self.seen,
+            true,
+            look,
+        );
         match found {
-            Some(found) => (reader, found),
+            Some(Some(found)) => (reader, found),
+            Some(None) => unreachable!(),
             None => (reader, look.look(&self.kept)),
         }
     }

@@ -14,6 +14,7 @@ use crate::state::X509SourceState;
 use crate::step::Step;
 use spf_io::OutOfMemory;
 use spf_x509::X509Context;
+use std::alloc::Global;
 use std::marker::Model;
 
 /// The revision, and the held context or the reason of the withdrawal.
@@ -99,7 +100,8 @@ impl Snapshot {
         })
     }
 
-    pub fn state(&self, closed: bool) -> Result<X509SourceState, OutOfMemory>
+    /// The state of a source that holds this, and is closed or not.
+    pub fn state(&self, alloc: Global, closed: bool) -> Result<X509SourceState, OutOfMemory>
         ensures { IfOk result
             (λ s. s ≡ record {
               revision = self.now.revision;
@@ -107,7 +109,7 @@ impl Snapshot {
               view = self.now.view;
             }) }
     {
-        Ok(X509SourceState::new(self.revision, closed, self.standing.try_clone()?))
+        X509SourceState::new(alloc, self.revision, closed, self.standing.try_clone()?)
     }
 
     /// The held context. None while withdrawn.

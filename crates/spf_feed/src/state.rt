@@ -1,6 +1,6 @@
 //! The state of an X.509 source, and why it gives nothing.
 
-ghost use Rattle.std.specs.Prelude.{◌≡◌, is_some};
+ghost use Rattle.std.specs.Prelude.{◌≡◌, IfOk, is_some};
 ghost use Rattle.std.specs.Option.{option_map, option_and_then};
 ghost use Rattle.std.specs.Arc.{arc_value};
 ghost use Rattle.spf_feed.specs.Steps.{chosen_of, held_in, reason_of};
@@ -15,7 +15,7 @@ use crate::step::Denial;
 use spf_api::WorkloadApiError;
 use spf_io::OutOfMemory;
 use spf_x509::{X509Context, X509Svid};
-use std::alloc::{AllocError, AllocFailed};
+use std::alloc::{AllocError, AllocFailed, Global};
 use std::fmt;
 use std::marker::Model;
 use std::sync::Arc;
@@ -122,7 +122,7 @@ impl From<WorkloadApiError> for X509SourceError {
 pub struct X509SourceState {
     revision: u64,
     closed: bool,
-    standing: Standing,
+    standing: Arc<Standing>,
 }
 
 impl Model for X509SourceState {
@@ -130,15 +130,16 @@ impl Model for X509SourceState {
 
     ghost Value = { StateView };
 
+    ghost use Rattle.std.specs.Arc.{arc_value};
     ghost use Rattle.spf_feed.specs.Standing.{view_in, IsKept};
 
     ghost view = { λ s. record {
       revision = s.revision;
       closed = s.closed;
-      view = view_in s.standing;
+      view = view_in (arc_value s.standing);
     } };
 
-    ghost invariant = { λ s. IsKept s.standing };
+    ghost invariant = { λ s. IsKept (arc_value s.standing) };
 }
 
 impl fmt::Debug for X509SourceState {
@@ -148,19 +149,37 @@ impl fmt::Debug for X509SourceState {
 }
 
 impl X509SourceState {
-    pub(crate) fn new(revision: u64, closed: bool, standing: Standing) -> X509SourceState
+    pub(crate) fn new(
+        alloc: Global,
+        revision: u64,
+        closed: bool,
+        standing: Standing,
+    ) -> Result<X509SourceState, OutOfMemory>
         requires { IsKept standing }
-        ensures { result ≡ record {
-          revision = revision;
-          closed = closed;
-          view = view_in standing;
-        } }
+        ensures { IfOk result
+            (λ s. s ≡ record {
+              revision = revision;
+              closed = closed;
+              view = view_in standing;
+            }) }
     {
-        X509SourceState {
+        Ok(X509SourceState {
             revision,
             closed,
-            standing,
-        }
+            standing: Arc::new(alloc, standing)?,
+        })
+    }
+
+    /// The same state of a source that is closed or not. It takes no memory, and shares what
+    /// is held with this one alone.
+    pub fn share(&self, closed: bool) -> Result<X509SourceState, OutOfMemory>
+        ensures { IfOk result (λ s. s ≡ record self.now { closed = closed }) }
+    {
+        Ok(X509SourceState {
+            revision: self.revision,
+            closed,
+            standing: Arc::try_clone(&self.standing)?,
+        })
     }
 
     pub(crate) fn standing(&self) -> &Standing
@@ -186,7 +205,7 @@ impl X509SourceState {
     pub fn withdrawal(&self) -> Option<&Arc<Denial>>
         ensures { option_map (λ a. arc_value a.now) result ≡ reason_of self.now.view }
     {
-        match &self.standing {
+        match self.standing() {
             Standing::Permitted(_) => None,
             Standing::Withdrawn(reason) => Some(reason),
         }
@@ -197,7 +216,7 @@ impl X509SourceState {
         ensures { option_map (λ a. arc_value a.now) result
             ≡ option_map (λ m. m.context) (held_in self.now.view) }
     {
-        match &self.standing {
+        match self.standing() {
             Standing::Permitted(held) => held.context(),
             Standing::Withdrawn(_) => None,
         }
@@ -207,7 +226,7 @@ impl X509SourceState {
     pub fn context(&self) -> Result<Arc<X509Context>, X509SourceError>
         ensures { ContextAnswer self.now.view result }
     {
-        match &self.standing {
+        match self.standing() {
             Standing::Permitted(held) => match held.context() {
                 Some(context) => Ok(Arc::try_clone(context)?),
                 None => unreachable!(),
@@ -222,7 +241,7 @@ impl X509SourceState {
     pub fn svid(&self, now: Option<i64>) -> Result<Arc<X509Svid>, X509SourceError>
         ensures { SvidAnswer self.now.view now result }
     {
-        match &self.standing {
+        match self.standing() {
             Standing::Permitted(held) => match usable(held.chosen(), now) {
                 Some(svid) => Ok(Arc::try_clone(svid)?),
                 None => Err(X509SourceError::NoSuitableSvid),

@@ -118,7 +118,7 @@ fn state(alloc: Global, is_denied: bool) -> Result<X509SourceState, Fail> {
     if is_denied {
         snapshot.apply(denied(alloc)?);
     }
-    Ok(snapshot.state(false)?)
+    Ok(snapshot.state(alloc, false)?)
 }
 
 /// The line that answers an ask.

@@ -99,7 +99,7 @@ fn later(alloc: Global) -> Result<Vec<Prepared>, Fail> {
 fn steps(rt: HostRuntime) -> Result<(), Fail> {
     let alloc = rt.alloc();
     let first = Prepared::new(alloc, accepted(alloc)?)?;
-    assert_eq!(rt; revision_after(first, later(alloc)?)?, 2);
+    assert_eq!(rt; revision_after(alloc, first, later(alloc)?)?, 2);
     Ok(())
 }
 

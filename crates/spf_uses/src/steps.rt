@@ -7,6 +7,7 @@ ghost use Rattle.spf_feed.specs.Steps.{is_accept, same_material};
 
 use spf_feed::{Prepared, Snapshot};
 use spf_io::OutOfMemory;
+use std::alloc::Global;
 
 /// What a session holds after an accepted context and the steps that follow it.
 pub fn replay(first: Prepared, later: Vec<Prepared>) -> Snapshot
@@ -21,11 +22,15 @@ pub fn replay(first: Prepared, later: Vec<Prepared>) -> Snapshot
 }
 
 /// How often these steps change what is visible.
-pub fn revision_after(first: Prepared, later: Vec<Prepared>) -> Result<u64, OutOfMemory>
+pub fn revision_after(
+    alloc: Global,
+    first: Prepared,
+    later: Vec<Prepared>,
+) -> Result<u64, OutOfMemory>
     requires { IsTrue (is_accept first) }
     ensures { IfOk result
         (λ revision. revision ≡ replay_revision same_material (first ∷ later.items)) }
 {
-    let state = replay(first, later).state(false)?;
+    let state = replay(first, later).state(alloc, false)?;
     Ok(state.revision())
 }

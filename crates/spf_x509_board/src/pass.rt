@@ -27,16 +27,20 @@ pub struct Pass {
     // There is one between two calls.
     reader: Option<PostReader<X509>>,
     memory: Memory<X509>,
+    // The state of what is seen, of an open source. It is made once, and its shares are counted
+    // where no other pass counts.
+    shown: Option<X509SourceState>,
     spares: Vec<PostReader<X509>>,
     closed: Option<Closed>,
     alloc: Global,
 }
 
 impl Model for Pass {
-    ghost use Rattle.std.specs.Prelude.{option_map, unwrap_or, IsSomeAnd, All};
+    ghost use Rattle.std.specs.Prelude.{option_map, unwrap_or, false, IfSome, IsSomeAnd, All};
     ghost use Rattle.left_right.specs.Sides.{view as known};
     ghost use Rattle.spf_board.specs.Board.{IsBoundTo, unbound};
     ghost use Rattle.spf_x509_board.specs.Passes.{PassView, pass_view};
+    ghost use Rattle.spf_x509_board.specs.States.{IsStateOf};
 
     ghost Value = { PassView };
 
@@ -44,7 +48,8 @@ impl Model for Pass {
         (unwrap_or (option_map (λ r. known r.place) p.reader) unbound) p.closed };
 
     ghost invariant = { λ p. IsSomeAnd p.reader (λ r. IsBoundTo (known r.place) p.memory.book)
-        × All (λ r. IsBoundTo (known r.place) p.memory.book) p.spares.items };
+        × All (λ r. IsBoundTo (known r.place) p.memory.book) p.spares.items
+        × IfSome p.shown (IsStateOf p.memory.seen false) };
 }
 
 impl Pass {
@@ -63,6 +68,7 @@ impl Pass {
         Pass {
             reader: Some(reader),
             memory,
+            shown: None,
             spares,
             closed: None,
             alloc,
@@ -82,16 +88,33 @@ impl Pass {
         let Some(reader) = self.reader.take() else {
             unreachable!()
         };
+        let before = self.memory.seen().again();
         let (reader, result) = self.memory.renew(reader);
         self.reader = Some(reader);
+        if !self.memory.seen().is_same(&before) {
+            self.shown = None;
+        }
         result
+    }
+
+    // Makes the state of what is seen, where it is not made yet.
+    fn show(&mut self) -> Result<(), OutOfMemory>
+        ensures { self.new ≡ self.old }
+    {
+        if self.shown.is_none() {
+            self.shown = Some(self.memory.snapshot().state(self.alloc, false)?);
+        }
+        Ok(())
     }
 
     /// What the pass has seen replays to this, at a source that is closed or not.
     pub fn kept_state(&self, closed: bool) -> Result<X509SourceState, OutOfMemory>
         ensures { IfOk result (λ s. IsStateOf self.now.seen closed s) }
     {
-        self.memory.snapshot().state(closed)
+        match &self.shown {
+            Some(state) => state.share(closed),
+            None => self.memory.snapshot().state(self.alloc, closed),
+        }
     }
 
     /// The state of what is published now, or of what the pass
@@ -105,6 +128,7 @@ impl Pass {
         ensures renews { OnOk result (Renews Legal (read_of self.old) (read_of self.new)) }
     {
         self.renew()?;
+        self.show()?;
         self.kept_state(closed)
     }
 
@@ -175,6 +199,7 @@ impl Pass {
         let Pass {
             reader,
             memory: _memory,
+            shown: _shown,
             spares,
             closed: _closed,
             alloc: _,

@@ -210,7 +210,7 @@ fn state_text(alloc: Global, state: &X509SourceState, now: Option<i64>) -> Resul
 
 fn state_of(alloc: Global, is_denied: bool, is_closed: bool) -> Result<X509SourceState, Fail> {
     let snapshot = snapshot_of(alloc, is_denied)?;
-    Ok(snapshot.state(is_closed)?)
+    Ok(snapshot.state(alloc, is_closed)?)
 }
 
 /// Whether the state, denied or not and closed or not, is shown so.
