@@ -28,7 +28,7 @@ use std::sync::Wait;
 #[derive(Drop)]
 pub struct X509Done<K: SvidPicker + Drop, R: Wait + Drop> {
     ended: Ended<R>,
-    record: Option<Supervised<K>>,
+    supervised: Option<Supervised<K>>,
 }
 
 impl<K: SvidPicker + Drop, R: Wait + Drop> Model for X509Done<K, R> {
@@ -38,9 +38,9 @@ impl<K: SvidPicker + Drop, R: Wait + Drop> Model for X509Done<K, R> {
 
     ghost Value = { Left K };
 
-    ghost view = { λ d. left_of d.ended d.record };
+    ghost view = { λ d. left_of d.ended d.supervised };
 
-    ghost invariant = { λ d. IfSome d.record (λ r.
+    ghost invariant = { λ d. IfSome d.supervised (λ r.
         (r.steps ≡ steps_of d.ended.list) × IsRecord K.picks r) };
 }
 
@@ -56,9 +56,9 @@ impl<K: SvidPicker + Drop, R: Wait + Drop> X509Done<K, R> {
         ensures book { pass.new.book ≡ pass.old.book }
         ensures seen { IsPrefix pass.old.seen pass.new.seen }
     {
-        let X509Done { ended, record } = self;
+        let X509Done { ended, supervised } = self;
         settle(ended, pass)?;
-        record.ok_or(OutOfMemory)
+        supervised.ok_or(OutOfMemory)
     }
 }
 
@@ -148,7 +148,7 @@ where
     let record = Supervised::new(events, steps, rules, picker, pace, closed);
     X509Done {
         ended,
-        record: Some(record),
+        supervised: Some(record),
     }
 }
 
@@ -166,7 +166,7 @@ where
     let (ended, _steps) = feeder.into_publisher().finish();
     X509Done {
         ended,
-        record: None,
+        supervised: None,
     }
 }
 
