@@ -1,7 +1,5 @@
 //! The help of a program.
 
-ghost use Rattle.std.specs.Prelude.{◌≡◌, true, IfTrue};
-ghost use Rattle.spf_io.specs.Outside.{HasCause, PutAppends};
 ghost use Rattle.spf_program.specs.Reports.{IsHelpPut};
 ghost use Rattle.spf_program.specs.Streams.{side};
 
