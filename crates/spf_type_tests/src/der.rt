@@ -57,14 +57,14 @@ const NINE: &str =
      01003006060108040100300506032b6570030100";
 
 /// Octets, and what is read of the certificate that they begin with.
-const READ: [(&str, (i64, usize, usize)); 3] = [
+const READ: &[(&str, (i64, usize, usize))] = &[
     ("LEAF1 ROOT1", (1000, 3, 141)),
     (FOUR, (1000, 4, 113)),
     (NINE, (1000, 9, 155)),
 ];
 
 /// A certificate, an identifier, and the index of the one extension with it.
-const INDICES: [(&str, &[u8], Option<usize>); 6] = [
+const INDICES: &[(&str, &[u8], Option<usize>)] = &[
     ("LEAF1", &KEY_USAGE, Some(0)),
     ("LEAF1", &BASIC_CONSTRAINTS, Some(1)),
     ("LEAF1", &SUBJECT_ALT_NAME, Some(2)),
@@ -75,7 +75,7 @@ const INDICES: [(&str, &[u8], Option<usize>); 6] = [
 
 #[test]
 fn certificate_parts(rt: HostRuntime) -> Result<(), Fail> {
-    for (text, wanted) in READ {
+    for &(text, wanted) in READ {
         assert!(rt; read_of(rt.alloc(), text)? == Some(wanted), "{text}");
     }
     Ok(())
@@ -83,7 +83,7 @@ fn certificate_parts(rt: HostRuntime) -> Result<(), Fail> {
 
 #[test]
 fn extension_indices(rt: HostRuntime) -> Result<(), Fail> {
-    for (text, oid, index) in INDICES {
+    for &(text, oid, index) in INDICES {
         assert!(rt; is_index(rt.alloc(), text, oid, index)?, "{text} {oid:?}");
     }
     Ok(())
@@ -131,7 +131,7 @@ fn certificate_uris(rt: HostRuntime) -> Result<(), Fail> {
 }
 
 /// Certificates, each with what it is written of.
-const WRITTEN: [(&str, Kind, &[&str]); 3] = [
+const WRITTEN: &[(&str, Kind, &[&str])] = &[
     ("LEAF1", LEAF, &[URI]),
     ("ROOT1", ROOT, &[]),
     ("INTER1", INTER, &[]),
@@ -151,7 +151,7 @@ fn key_is_written(alloc: Global) -> Result<bool, Fail> {
 
 #[test]
 fn certificate_writer(rt: HostRuntime) -> Result<(), Fail> {
-    for (text, kind, names) in WRITTEN {
+    for &(text, kind, names) in WRITTEN {
         assert!(rt; is_written(rt.alloc(), text, kind, names)?, "{text}");
     }
     assert!(rt; key_is_written(rt.alloc())?);
@@ -159,7 +159,7 @@ fn certificate_writer(rt: HostRuntime) -> Result<(), Fail> {
 }
 
 /// Expiries, and the lengths of authorities that are written with them.
-const TIMES: [(i64, usize); 4] = [
+const TIMES: &[(i64, usize)] = &[
     (0, 72),
     (2_524_607_999, 72),
     (2_524_608_000, 74),
@@ -176,7 +176,7 @@ fn read_back(alloc: Global, expiry: i64) -> Option<(i64, usize, usize)> {
 
 #[test]
 fn written_times(rt: HostRuntime) {
-    for (expiry, length) in TIMES {
+    for &(expiry, length) in TIMES {
         assert!(rt;
             read_back(rt.alloc(), expiry) == Some((expiry, 0, length)),
             "{expiry}"
@@ -257,7 +257,7 @@ fn views(rt: HostRuntime) -> Result<(), Fail> {
 }
 
 /// Pieces of ROOT1, each with another that makes of it what is no certificate.
-const BROKEN: [(&str, &str); 7] = [
+const BROKEN: &[(&str, &str)] = &[
     ("3046", "308146"),
     ("3046", "3080"),
     ("3046", "3084ffffffff"),
@@ -273,14 +273,18 @@ fn is_broken(alloc: Global, old: &str, new: &str) -> Result<bool, Fail> {
     Ok(is_refused(alloc, der.as_slice()))
 }
 
+/// What is read of ROOT1 with a serial of two octets.
+fn read_long_serial(alloc: Global) -> Result<Option<(i64, usize, usize)>, Fail> {
+    let der = edited(alloc, "ROOT1", "3046303a020101", "3047303b02020001")?;
+    Ok(read(alloc, der.as_slice()))
+}
+
 #[test]
 fn hostile_certificates(rt: HostRuntime) -> Result<(), Fail> {
-    for (old, new) in BROKEN {
+    for &(old, new) in BROKEN {
         assert!(rt; is_broken(rt.alloc(), old, new)?, "{new}");
     }
-    // A serial of two octets.
-    let der = edited(rt.alloc(), "ROOT1", "3046303a020101", "3047303b02020001")?;
-    assert!(rt; read(rt.alloc(), der.as_slice()) == Some((1000, 0, 73)));
+    assert!(rt; read_long_serial(rt.alloc())? == Some((1000, 0, 73)));
     Ok(())
 }
 
@@ -304,7 +308,7 @@ fn hostile_long_issuer(rt: HostRuntime) -> Result<(), Fail> {
 }
 
 /// Octets, and whether they are a key.
-const KEYS: [(&str, bool); 7] = [
+const KEYS: &[(&str, bool)] = &[
     ("KEY1", true),
     ("300d020100300506032b6570040101", true),
     ("300d020101300506032b6570040101", false),
@@ -321,7 +325,7 @@ fn is_key(alloc: Global, text: &str) -> Result<bool, Fail> {
 
 #[test]
 fn hostile_keys(rt: HostRuntime) -> Result<(), Fail> {
-    for (text, wanted) in KEYS {
+    for &(text, wanted) in KEYS {
         assert!(rt; is_key(rt.alloc(), text)? == wanted, "{text}");
     }
     Ok(())

@@ -14,7 +14,7 @@ fn is_refused(alloc: Global, text: &str, error: SpiffeIdError) -> bool {
 }
 
 /// Texts that are no IDs, and the first rule that each breaks.
-const BROKEN_IDS: [(&str, SpiffeIdError); 7] = [
+const BROKEN_IDS: &[(&str, SpiffeIdError)] = &[
     ("", SpiffeIdError::Empty),
     ("spiffe://example.org/", SpiffeIdError::TrailingSlash),
     ("spiffe://example.org//a", SpiffeIdError::EmptySegment),
@@ -26,7 +26,7 @@ const BROKEN_IDS: [(&str, SpiffeIdError); 7] = [
 
 #[test]
 fn broken_ids(rt: HostRuntime) {
-    for (text, error) in BROKEN_IDS {
+    for &(text, error) in BROKEN_IDS {
         assert!(rt; is_refused(rt.alloc(), text, error), "{text}");
     }
 }
@@ -74,14 +74,18 @@ fn is_owned_as(alloc: Global, text: &str, domain: &TrustDomain) -> Result<bool, 
     Ok(is_same(TrustDomain::try_from_owned(alloc, text), domain))
 }
 
+/// Whether the trust domain has that name and text, and equals its copy.
+fn is_domain(alloc: Global, domain: &TrustDomain, name: &str) -> bool {
+    domain.as_str() == name
+        && has_text(alloc, domain, name)
+        && is_same(domain.try_clone(alloc), domain)
+}
+
 #[test]
 fn trust_domain(rt: HostRuntime) -> Result<(), Fail> {
-    let alloc = rt.alloc();
-    let other = TrustDomain::new(alloc, "spiffe://other.org")?;
-    assert!(rt; other.as_str() == "other.org");
-    assert!(rt; is_owned_as(alloc, "other.org", &other)?);
-    assert!(rt; is_same(other.try_clone(alloc), &other));
-    assert!(rt; has_text(alloc, &other, "other.org"));
+    let other = TrustDomain::new(rt.alloc(), "spiffe://other.org")?;
+    assert!(rt; is_domain(rt.alloc(), &other, "other.org"));
+    assert!(rt; is_owned_as(rt.alloc(), "other.org", &other)?);
     Ok(())
 }
 
@@ -96,25 +100,37 @@ fn broken_trust_domains(rt: HostRuntime) {
     assert!(rt; colon == Some(SpiffeIdError::WrongScheme));
 }
 
+fn has_parts(id: &SpiffeId, text: &str, trust_domain: &str, path: &str) -> bool {
+    id.as_str() == text && id.trust_domain().as_str() == trust_domain && id.path() == path
+}
+
+/// Whether a copy, and what its text is read as, equal the ID.
+fn equals_its_copies(alloc: Global, id: &SpiffeId) -> bool {
+    is_same(id.try_clone(alloc), id) && is_same(SpiffeId::from_str(alloc, id.as_str()), id)
+}
+
 #[test]
 fn spiffe_id(rt: HostRuntime) -> Result<(), Fail> {
-    let alloc = rt.alloc();
-    let id = SpiffeId::new(alloc, "spiffe://example.org/w")?;
-    assert!(rt; id.path() == "/w");
-    assert!(rt; id.trust_domain().as_str() == "example.org");
-    assert!(rt; id.as_str() == "spiffe://example.org/w");
-    assert!(rt; is_same(SpiffeId::from_str(alloc, "spiffe://example.org/w"), &id));
-    assert!(rt; is_same(id.try_clone(alloc), &id));
+    let id = SpiffeId::new(rt.alloc(), "spiffe://example.org/w")?;
+    assert!(rt; has_parts(&id, "spiffe://example.org/w", "example.org", "/w"));
+    assert!(rt; equals_its_copies(rt.alloc(), &id));
     shared(&id);
     shared(&SpiffeIdError::Empty);
     Ok(())
 }
 
+/// Whether the ID is greater than that of the text.
+fn is_above(alloc: Global, id: &SpiffeId, less: &str) -> bool {
+    match SpiffeId::try_from(alloc, less) {
+        Ok(less) => *id > less,
+        Err(_) => false,
+    }
+}
+
 /// Whether the one text is of the greater ID.
 fn is_greater(alloc: Global, greater: &str, less: &str) -> Result<bool, Fail> {
     let greater = SpiffeId::new(alloc, greater)?;
-    let less = SpiffeId::try_from(alloc, less)?;
-    Ok(greater > less)
+    Ok(is_above(alloc, &greater, less))
 }
 
 #[test]
@@ -130,7 +146,7 @@ fn spiffe_scheme(rt: HostRuntime) {
     assert!(rt; !uri_has_spiffe_scheme("spiffe"));
 }
 
-const ERROR_TEXTS: [(SpiffeIdError, &str); 11] = [
+const ERROR_TEXTS: &[(SpiffeIdError, &str)] = &[
     (SpiffeIdError::Empty, "Empty"),
     (SpiffeIdError::TooLong, "TooLong"),
     (SpiffeIdError::WrongScheme, "WrongScheme"),
@@ -147,7 +163,7 @@ const ERROR_TEXTS: [(SpiffeIdError, &str); 11] = [
 /// The text of each error.
 #[test]
 fn error_texts(rt: HostRuntime) {
-    for (error, text) in ERROR_TEXTS {
+    for &(error, text) in ERROR_TEXTS {
         assert!(rt; has_text(rt.alloc(), &error, text), "{text}");
     }
 }

@@ -6,7 +6,7 @@ use spf_io::{
     Bytes, Failed, List, MemSink, MemSource, OutOfMemory, Sink, Source, StdSink, StdSource, Text,
 };
 use std::alloc::Global;
-use std::io::{self, ErrorKind, Read};
+use std::io::{self, ErrorKind, Read, Write};
 use std::test::Fail;
 
 /// Four octets, of which the first read gives at most one and
@@ -19,7 +19,7 @@ fn source(alloc: Global) -> Result<MemSource, Fail> {
 }
 
 /// What reads return, and what the buffer then begins with.
-const READS: [(Result<usize, Failed>, u8); 5] = [
+const READS: &[(Result<usize, Failed>, u8)] = &[
     (Ok(1), 1),
     (Ok(1), 2),
     (Err(Failed), 2),
@@ -33,7 +33,7 @@ const READS: [(Result<usize, Failed>, u8); 5] = [
 fn memory_source(rt: HostRuntime) -> Result<(), Fail> {
     let mut source = source(rt.alloc())?;
     let mut buf = [0; 8];
-    for (result, first) in READS {
+    for &(result, first) in READS {
         assert!(rt; source.read(&mut buf) == result);
         assert!(rt; buf[0] == first);
     }
@@ -48,7 +48,7 @@ fn sink(alloc: Global) -> Result<MemSink, Fail> {
 }
 
 /// Pieces that are put, and what that returns.
-const PUTS: [(&str, Result<(), Failed>); 4] = [
+const PUTS: &[(&str, Result<(), Failed>)] = &[
     ("ab", Ok(())),
     ("c", Err(Failed)),
     ("cd", Err(Failed)),
@@ -59,7 +59,7 @@ const PUTS: [(&str, Result<(), Failed>); 4] = [
 #[test]
 fn memory_sink(rt: HostRuntime) -> Result<(), Fail> {
     let mut sink = sink(rt.alloc())?;
-    for (piece, result) in PUTS {
+    for &(piece, result) in PUTS {
         assert!(rt; sink.put(piece.as_bytes()) == result, "{piece}");
     }
     assert!(rt; sink.bytes() == b"abc".as_slice());
@@ -77,7 +77,7 @@ impl Read for BrokenReader {
 }
 
 /// What reads of the octets `abc` return, and what the buffer then holds.
-const ADAPTER_READS: [(Result<usize, Failed>, [u8; 2]); 3] = [
+const ADAPTER_READS: &[(Result<usize, Failed>, [u8; 2])] = &[
     (Ok(2), *b"ab"),
     (Ok(1), *b"cb"),
     (Ok(0), *b"cb"),
@@ -88,7 +88,7 @@ const ADAPTER_READS: [(Result<usize, Failed>, [u8; 2]); 3] = [
 fn reader(rt: HostRuntime) {
     let mut source = StdSource::new(b"abc".as_slice());
     let mut buf = [0; 2];
-    for (result, held) in ADAPTER_READS {
+    for &(result, held) in ADAPTER_READS {
         assert!(rt; source.read(&mut buf) == result);
         assert!(rt; buf == held);
     }
@@ -96,42 +96,55 @@ fn reader(rt: HostRuntime) {
     assert!(rt; broken.read(&mut buf) == Err(Failed));
 }
 
+fn put_into<W: Write + Drop>(writer: W, piece: &[u8]) -> Result<(), Failed> {
+    StdSink::new(writer).put(piece)
+}
+
 /// The adapter over a writer of std: all bytes pass, and
 /// a writer that takes nothing is a failure.
 #[test]
 fn writer(rt: HostRuntime) {
     let mut written = Vec::new(rt.alloc());
-    assert!(rt; StdSink::new(&mut written).put(b"abc") == Ok(()));
+    assert!(rt; put_into(&mut written, b"abc") == Ok(()));
     assert!(rt; written.as_slice() == b"abc".as_slice());
     let mut room = [0; 2];
-    assert!(rt; StdSink::new(room.as_mut_slice()).put(b"abc") == Err(Failed));
+    assert!(rt; put_into(room.as_mut_slice(), b"abc") == Err(Failed));
     assert!(rt; room == *b"ab");
 }
 
 /// Whether what the text is made of makes the same text.
-fn is_made_again(text: Text, wanted: &Text) -> bool {
-    let again = Text::new(text.into_string());
-    again == *wanted
+fn is_made_again(alloc: Global, text: Text) -> bool {
+    match text.try_clone(alloc) {
+        Ok(copy) => Text::new(copy.into_string()) == text,
+        Err(_) => false,
+    }
+}
+
+/// Whether the text is less than the other.
+fn is_less(alloc: Global, text: &Text, other: &str) -> Result<bool, OutOfMemory> {
+    let other = Text::copy_of(alloc, other)?;
+    Ok(*text < other)
 }
 
 #[test]
 fn texts(rt: HostRuntime) -> Result<(), Fail> {
-    let alloc = rt.alloc();
-    let text = Text::copy_of(alloc, "a")?;
-    let greater = Text::copy_of(alloc, "b")?;
-    assert!(rt; is_same(text.try_clone(alloc), &text));
-    assert!(rt; text < greater);
-    assert!(rt; is_made_again(Text::copy_of(alloc, "a")?, &text));
+    let text = Text::copy_of(rt.alloc(), "a")?;
+    assert!(rt; is_less(rt.alloc(), &text, "b")?);
+    assert!(rt; is_same(text.try_clone(rt.alloc()), &text));
+    assert!(rt; is_made_again(rt.alloc(), text));
     Ok(())
+}
+
+fn is_other(alloc: Global, bytes: &Bytes, other: &[u8]) -> Result<bool, OutOfMemory> {
+    let other = Bytes::copy_of(alloc, other)?;
+    Ok(*bytes != other)
 }
 
 #[test]
 fn bytes(rt: HostRuntime) -> Result<(), Fail> {
-    let alloc = rt.alloc();
-    let bytes = Bytes::copy_of(alloc, b"a")?;
-    let other = Bytes::copy_of(alloc, b"b")?;
-    assert!(rt; is_same(bytes.try_clone(alloc), &bytes));
-    assert!(rt; bytes != other);
+    let bytes = Bytes::copy_of(rt.alloc(), b"a")?;
+    assert!(rt; is_other(rt.alloc(), &bytes, b"b")?);
+    assert!(rt; is_same(bytes.try_clone(rt.alloc()), &bytes));
     assert!(rt; bytes.into_vec().as_slice() == b"a".as_slice());
     Ok(())
 }

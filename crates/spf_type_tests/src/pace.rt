@@ -7,7 +7,7 @@ use spf_pace::{
 use std::time::Duration;
 
 /// A current and a greatest delay in milliseconds, a random word, and the delay after them.
-const BACKOFFS: [(u64, u64, u64, u128); 5] = [
+const BACKOFFS: &[(u64, u64, u64, u128)] = &[
     (30_000, 30_000, 0, 27_000),
     (30_000, 30_000, 3_000, 30_000),
     (30_000, 30_000, 3_001, 27_000),
@@ -27,7 +27,7 @@ fn grown(current: u64, max: u64, word: u64) -> u128 {
 
 #[test]
 fn backoff(rt: HostRuntime) {
-    for (current, max, word, delay) in BACKOFFS {
+    for &(current, max, word, delay) in BACKOFFS {
         assert!(rt;
             grown(current, max, word) == delay,
             "{current} {max} {word}"

@@ -7,6 +7,7 @@ use spf_io::Text;
 use spf_x509::{
     CertificateError, PrivateKeyError, X509BundleError, X509ExtensionId, X509SvidError,
 };
+use std::alloc::Global;
 use std::test::Fail;
 
 /// Errors of a certificate, and their texts.
@@ -117,30 +118,43 @@ fn svid_error_texts(rt: HostRuntime) -> Result<(), Fail> {
 }
 
 /// Extensions, and their texts.
-const EXTENSIONS: [(X509ExtensionId, &str); 3] = [
+const EXTENSIONS: &[(X509ExtensionId, &str)] = &[
     (X509ExtensionId::KeyUsage, "2.5.29.15"),
     (X509ExtensionId::SubjectAlternativeName, "2.5.29.17"),
     (X509ExtensionId::BasicConstraints, "2.5.29.19"),
 ];
 
+/// Whether that is the text of the extension.
+fn is_dotted(alloc: Global, extension: X509ExtensionId, dotted: &str) -> bool {
+    extension.as_str() == dotted && has_text(alloc, &extension, dotted)
+}
+
+const KEY_TEXTS: [(PrivateKeyError, &str); 2] = [
+    (
+        PrivateKeyError::DecodePkcs8(Pkcs8DecodeError),
+        "failed decoding PKCS#8 private key",
+    ),
+    (PrivateKeyError::OutOfMemory, "out of memory"),
+];
+
+const BUNDLE_TEXTS: [(X509BundleError, &str); 2] = [
+    (
+        X509BundleError::Certificate(CertificateError::MissingSpiffeId),
+        "certificate is missing SPIFFE ID in URI SAN",
+    ),
+    (X509BundleError::OutOfMemory, "out of memory"),
+];
+
 /// The texts of the other errors, and of the extensions.
 #[test]
 fn other_texts(rt: HostRuntime) {
-    let alloc = rt.alloc();
-    let key = PrivateKeyError::DecodePkcs8(Pkcs8DecodeError);
-    assert!(rt; has_text(alloc, &key, "failed decoding PKCS#8 private key"));
-    assert!(rt; has_text(alloc, &PrivateKeyError::OutOfMemory, "out of memory"));
-    let bundle = X509BundleError::Certificate(CertificateError::MissingSpiffeId);
-    assert!(rt;
-        has_text(
-            alloc,
-            &bundle,
-            "certificate is missing SPIFFE ID in URI SAN"
-        )
-    );
-    assert!(rt; has_text(alloc, &X509BundleError::OutOfMemory, "out of memory"));
-    for (extension, dotted) in EXTENSIONS {
-        assert!(rt; extension.as_str() == dotted);
-        assert!(rt; has_text(alloc, &extension, dotted), "{dotted}");
+    for (error, text) in KEY_TEXTS.iter() {
+        assert!(rt; has_text(rt.alloc(), error, text), "{text}");
+    }
+    for (error, text) in BUNDLE_TEXTS.iter() {
+        assert!(rt; has_text(rt.alloc(), error, text), "{text}");
+    }
+    for &(extension, dotted) in EXTENSIONS {
+        assert!(rt; is_dotted(rt.alloc(), extension, dotted), "{dotted}");
     }
 }

@@ -29,17 +29,26 @@ fn are_indices(found: Result<Vec<usize>, OutOfMemory>, wanted: &[usize]) -> bool
     }
 }
 
+/// Whether the authority is added.
+fn adds(alloc: Global, bundle: &mut X509Bundle, name: &str) -> Result<bool, Fail> {
+    let authority = octets(alloc, name)?;
+    Ok(bundle.add_authority(authority.as_slice()).is_ok())
+}
+
+/// Whether the bundle of `example.org` has three authorities, which stand in order.
+fn is_three(alloc: Global, bundle: &X509Bundle) -> bool {
+    bundle.authorities().len() == 3
+        && bundle.trust_domain().as_str() == "example.org"
+        && are_indices(sorted_authorities(alloc, bundle), &[0, 1, 2])
+}
+
 #[test]
 fn bundle(rt: HostRuntime) -> Result<(), Fail> {
-    let alloc = rt.alloc();
-    let third = octets(alloc, "ROOT3")?;
-    let mut bundle = two_roots(alloc)?;
+    let mut bundle = two_roots(rt.alloc())?;
     assert!(rt; bundle.add_authority(b"\0").is_err());
     assert!(rt; bundle.authorities().len() == 2);
-    assert!(rt; bundle.add_authority(third.as_slice()).is_ok());
-    assert!(rt; bundle.authorities().len() == 3);
-    assert!(rt; bundle.trust_domain().as_str() == "example.org");
-    assert!(rt; are_indices(sorted_authorities(alloc, &bundle), &[0, 1, 2]));
+    assert!(rt; adds(rt.alloc(), &mut bundle, "ROOT3")?);
+    assert!(rt; is_three(rt.alloc(), &bundle));
     Ok(())
 }
 
@@ -60,12 +69,16 @@ fn listed_roots(alloc: Global) -> Result<X509Bundle, Fail> {
     Ok(X509Bundle::from_x509_authorities(alloc, domain, texts.as_slice())?)
 }
 
+/// Whether the bundle equals the listed one, which equals its copy.
+fn equals_listed(alloc: Global, parsed: &X509Bundle) -> Result<bool, Fail> {
+    let listed = listed_roots(alloc)?;
+    Ok(*parsed == listed && is_same(listed.try_clone(alloc), &listed))
+}
+
 #[test]
 fn bundles_equal_their_copies(rt: HostRuntime) -> Result<(), Fail> {
     let parsed = two_roots(rt.alloc())?;
-    let listed = listed_roots(rt.alloc())?;
-    assert!(rt; parsed == listed);
-    assert!(rt; is_same(listed.try_clone(rt.alloc()), &listed));
+    assert!(rt; equals_listed(rt.alloc(), &parsed)?);
     Ok(())
 }
 
@@ -78,7 +91,7 @@ fn is_parsed_from(alloc: Global, name: &str, authorities: &str) -> Result<bool, 
 }
 
 /// A trust domain and octets, and whether the bundle is parsed from them.
-const SOURCES: [(&str, &str, bool); 4] = [
+const SOURCES: &[(&str, &str, bool)] = &[
     ("example.org", "ROOT1 ROOT2", true),
     ("other.org", "ROOT1 ROOT2", false),
     ("example.org", "ROOT1", false),
@@ -88,7 +101,7 @@ const SOURCES: [(&str, &str, bool); 4] = [
 /// A bundle is parsed from its own trust domain and bytes, and from nothing else.
 #[test]
 fn bundle_is_parsed_from(rt: HostRuntime) -> Result<(), Fail> {
-    for (name, authorities, wanted) in SOURCES {
+    for &(name, authorities, wanted) in SOURCES {
         assert!(rt;
             is_parsed_from(rt.alloc(), name, authorities)? == wanted,
             "{authorities}"
@@ -105,11 +118,11 @@ fn one_root(alloc: Global, name: &str, serial: u8) -> Result<X509Bundle, Fail> {
 }
 
 /// Three bundles, of which the last is of the trust domain of the first.
-const THREE: [(&str, u8); 3] = [("example.org", 1), ("other.org", 2), ("example.org", 3)];
+const THREE: &[(&str, u8)] = &[("example.org", 1), ("other.org", 2), ("example.org", 3)];
 
 fn three_bundles(alloc: Global) -> Result<X509BundleSet, Fail> {
     let mut bundles = Vec::new(alloc);
-    for (name, serial) in THREE {
+    for &(name, serial) in THREE {
         let bundle = one_root(alloc, name, serial)?;
         bundles.push(bundle)?;
     }
@@ -124,23 +137,33 @@ fn is_given<E: Drop>(found: Result<Option<Arc<X509Bundle>>, E>, wanted: &X509Bun
     }
 }
 
+/// Whether both calls give that bundle for its trust domain.
+fn gives(set: &X509BundleSet, bundle: &X509Bundle) -> bool {
+    is_given(set.get(bundle.trust_domain()), bundle)
+        && is_given(
+            set.bundle_for_trust_domain(&mut (), bundle.trust_domain()),
+            bundle,
+        )
+}
+
+/// Whether the third bundle is that of its trust domain.
+fn gives_third(alloc: Global, set: &X509BundleSet) -> Result<bool, Fail> {
+    let third = one_root(alloc, "example.org", 3)?;
+    Ok(gives(set, &third))
+}
+
 #[test]
 fn bundle_set(rt: HostRuntime) -> Result<(), Fail> {
-    let alloc = rt.alloc();
-    let domain = TrustDomain::new(alloc, "example.org")?;
-    let third = one_root(alloc, "example.org", 3)?;
-    let mut set = three_bundles(alloc)?;
-    assert!(rt; set.extend(Vec::new(alloc)).is_ok());
-    assert!(rt; set.len() == 2);
-    assert!(rt; !set.is_empty());
-    assert!(rt; is_given(set.get(&domain), &third));
-    assert!(rt; is_given(set.bundle_for_trust_domain(&mut (), &domain), &third));
-    assert!(rt; is_same(set.try_clone(alloc), &set));
+    let mut set = three_bundles(rt.alloc())?;
+    assert!(rt; set.extend(Vec::new(rt.alloc())).is_ok());
+    assert!(rt; set.len() == 2 && !set.is_empty());
+    assert!(rt; gives_third(rt.alloc(), &set)?);
+    assert!(rt; is_same(set.try_clone(rt.alloc()), &set));
     Ok(())
 }
 
 /// Bundles that are added one after the other.
-const SHARED: [(&str, u8); 5] = [
+const SHARED: &[(&str, u8)] = &[
     ("d.org", 1),
     ("b.org", 2),
     ("a.org", 3),
@@ -149,7 +172,7 @@ const SHARED: [(&str, u8); 5] = [
 ];
 
 /// The bundles that then stand.
-const STANDING: [(&str, u8); 4] = [("a.org", 3), ("b.org", 5), ("c.org", 4), ("d.org", 1)];
+const STANDING: &[(&str, u8)] = &[("a.org", 3), ("b.org", 5), ("c.org", 4), ("d.org", 1)];
 
 fn shared_root(alloc: Global, name: &str, serial: u8) -> Result<Arc<X509Bundle>, Fail> {
     let bundle = one_root(alloc, name, serial)?;
@@ -158,7 +181,7 @@ fn shared_root(alloc: Global, name: &str, serial: u8) -> Result<Arc<X509Bundle>,
 
 fn shared_set(alloc: Global) -> Result<X509BundleSet, Fail> {
     let mut set = X509BundleSet::new(alloc);
-    for (name, serial) in SHARED {
+    for &(name, serial) in SHARED {
         let bundle = shared_root(alloc, name, serial)?;
         set.add_shared(bundle)?;
     }
@@ -167,9 +190,8 @@ fn shared_set(alloc: Global) -> Result<X509BundleSet, Fail> {
 
 /// Whether the bundle of that trust domain has the authority of that serial.
 fn holds(alloc: Global, set: &X509BundleSet, name: &str, serial: u8) -> Result<bool, Fail> {
-    let domain = TrustDomain::new(alloc, name)?;
     let wanted = one_root(alloc, name, serial)?;
-    match set.get_ref(&domain) {
+    match set.get_ref(wanted.trust_domain()) {
         Some(bundle) => Ok(**bundle == wanted),
         None => Ok(false),
     }
@@ -180,7 +202,7 @@ fn holds(alloc: Global, set: &X509BundleSet, name: &str, serial: u8) -> Result<b
 fn shared_bundles(rt: HostRuntime) -> Result<(), Fail> {
     let set = shared_set(rt.alloc())?;
     assert!(rt; set.len() == 4);
-    for (name, serial) in STANDING {
+    for &(name, serial) in STANDING {
         assert!(rt; holds(rt.alloc(), &set, name, serial)?, "{name}");
     }
     Ok(())
@@ -200,13 +222,20 @@ fn next_name<'a>(bundles: &mut X509BundleIter<'a>) -> Option<&'a str> {
     Some(domain.as_str())
 }
 
+/// Whether these are the trust domains of the bundles.
+fn are_names(mut bundles: X509BundleIter<'_>, names: &[&str]) -> bool {
+    for name in names {
+        if next_name(&mut bundles) != Some(*name) {
+            return false;
+        }
+    }
+    next_name(&mut bundles).is_none()
+}
+
 #[test]
 fn bundles_stand_in_order(rt: HostRuntime) -> Result<(), Fail> {
     let set = three_bundles(rt.alloc())?;
-    let mut bundles = set.iter();
-    assert!(rt; next_name(&mut bundles) == Some("example.org"));
-    assert!(rt; next_name(&mut bundles) == Some("other.org"));
-    assert!(rt; next_name(&mut bundles).is_none());
+    assert!(rt; are_names(set.iter(), &["example.org", "other.org"]));
     assert!(rt; is_named(rt.alloc(), set.iter()));
     Ok(())
 }
@@ -237,9 +266,9 @@ fn one_crl(alloc: Global) -> Result<Vec<Bytes>, OutOfMemory> {
 
 /// The context of both SVIDs and one revocation list.
 fn context_of_two(alloc: Global) -> Result<X509Context, Fail> {
-    let svids = two_svids(alloc)?;
     let crls = one_crl(alloc)?;
     let set = Arc::new(alloc, X509BundleSet::new(alloc))?;
+    let svids = two_svids(alloc)?;
     Ok(X509Context::new(svids, set, crls))
 }
 
@@ -251,13 +280,16 @@ fn default_id(context: &X509Context) -> Option<&str> {
     }
 }
 
+/// Whether the context is of the URI, with one revocation list and no bundle.
+fn is_of_two(context: &X509Context) -> bool {
+    default_id(context) == Some(URI) && context.crls().len() == 1 && context.bundle_set().is_empty()
+}
+
 #[test]
 fn context(rt: HostRuntime) -> Result<(), Fail> {
     let context = context_of_two(rt.alloc())?;
     assert!(rt; are_indices(sorted_svids(rt.alloc(), &context), &[1, 0]));
-    assert!(rt; default_id(&context) == Some(URI));
-    assert!(rt; context.crls().len() == 1);
-    assert!(rt; context.bundle_set().is_empty());
+    assert!(rt; is_of_two(&context));
     assert!(rt; is_same(context.try_clone(rt.alloc()), &context));
     Ok(())
 }

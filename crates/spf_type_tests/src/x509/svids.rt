@@ -6,7 +6,9 @@ use crate::written::{LEAF, edited, written};
 use spf_der::write_key;
 use spf_fixtures::octets;
 use spf_io::{OutOfMemory, Text};
-use spf_x509::{Certificate, PrivateKey, X509Svid, cmp_svid_for_update, spiffe_id_from_der};
+use spf_x509::{
+    Certificate, CertificateError, PrivateKey, X509Svid, cmp_svid_for_update, spiffe_id_from_der,
+};
 use std::alloc::Global;
 use std::cmp::Ordering;
 use std::test::Fail;
@@ -53,15 +55,26 @@ fn is_of(alloc: Global, certificate: &Certificate, id: &str) -> bool {
     }
 }
 
+/// Whether the certificate is made of the same octets where they are owned.
+fn is_made_of(alloc: Global, der: Vec<u8>, certificate: &Certificate) -> bool {
+    certificate.as_bytes() == der.as_slice()
+        && is_same(Certificate::try_from_owned(alloc, der), certificate)
+}
+
+/// Whether the octets are a certificate of the URI that equals its copies.
+fn equals_its_copies(alloc: Global, der: Vec<u8>) -> Result<bool, CertificateError> {
+    let leaf = Certificate::try_from(alloc, der.as_slice())?;
+    Ok(
+        is_of(alloc, &leaf, URI)
+            && is_same(leaf.try_clone(alloc), &leaf)
+            && is_made_of(alloc, der, &leaf),
+    )
+}
+
 #[test]
 fn certificates_equal_their_copies(rt: HostRuntime) -> Result<(), Fail> {
-    let alloc = rt.alloc();
-    let der = octets(alloc, "LEAF1")?;
-    let leaf = Certificate::try_from(alloc, der.as_slice())?;
-    assert!(rt; leaf.as_bytes() == der.as_slice());
-    assert!(rt; is_of(alloc, &leaf, URI));
-    assert!(rt; is_same(leaf.try_clone(alloc), &leaf));
-    assert!(rt; is_same(Certificate::try_from_owned(alloc, der), &leaf));
+    let der = octets(rt.alloc(), "LEAF1")?;
+    assert!(rt; equals_its_copies(rt.alloc(), der)?);
     Ok(())
 }
 
@@ -86,21 +99,25 @@ fn is_name_refused(alloc: Global, names: &[&str], error: &str) -> bool {
 }
 
 /// URI names of a leaf, and the error of looking for its ID.
-const NAMES: [(&[&str], &str); 3] = [
+const NAMES: &[(&[&str], &str)] = &[
     (&["https://a", "https://a"], "MultipleUriSanEntries"),
     (&["https://a"], "MissingSpiffeId"),
     (&["SPIFFE://example.org/w"], "InvalidSpiffeId(WrongScheme)"),
 ];
 
-#[test]
-fn san_rule(rt: HostRuntime) -> Result<(), Fail> {
-    let alloc = rt.alloc();
-    for (names, error) in NAMES {
-        assert!(rt; is_name_refused(alloc, names, error), "{error}");
-    }
+/// Whether a first name of 2049 octets is refused for its length.
+fn is_long_name_refused(alloc: Global) -> Result<bool, Fail> {
     let long = String::from_utf8(vec![in alloc; b'a'; 2049]?)?;
     let oversized = "OversizedUriSan { max: 2048 }";
-    assert!(rt; is_name_refused(alloc, &[long.as_str(), "https://a"], oversized));
+    Ok(is_name_refused(alloc, &[long.as_str(), "https://a"], oversized))
+}
+
+#[test]
+fn san_rule(rt: HostRuntime) -> Result<(), Fail> {
+    for &(names, error) in NAMES {
+        assert!(rt; is_name_refused(rt.alloc(), names, error), "{error}");
+    }
+    assert!(rt; is_long_name_refused(rt.alloc())?);
     Ok(())
 }
 
@@ -120,7 +137,7 @@ fn answers(alloc: Global, chain: &str, key: &str, answer: &str) -> Result<bool, 
 }
 
 /// Chains and keys, and how they are refused.
-const CHAINS: [(&str, &str, &str); 7] = [
+const CHAINS: &[(&str, &str, &str)] = &[
     ("", "KEY1", "EmptyChain"),
     ("LEAF1", "00", "PrivateKey(DecodePkcs8(Pkcs8DecodeError))"),
     ("INTER1", "KEY1", "LeafCertificateMissingDigitalSignature"),
@@ -150,7 +167,7 @@ const CHAINS: [(&str, &str, &str); 7] = [
 
 #[test]
 fn chains(rt: HostRuntime) -> Result<(), Fail> {
-    for (chain, key, answer) in CHAINS {
+    for &(chain, key, answer) in CHAINS {
         assert!(rt; answers(rt.alloc(), chain, key, answer)?, "{chain}");
     }
     Ok(())
@@ -170,17 +187,30 @@ fn hinted(alloc: Global) -> Result<X509Svid, Fail> {
     svid_with(alloc, Some(hint))
 }
 
+/// Whether the SVID is of the URI, with the hint `internal`, the expiry 1000 and two certificates.
+fn is_hinted(svid: &X509Svid) -> bool {
+    svid.spiffe_id().as_str() == URI
+        && svid.hint() == Some("internal")
+        && svid.expiry_unix() == 1000
+        && svid.cert_chain().len() == 2
+}
+
+fn has_leaf(alloc: Global, svid: &X509Svid, name: &str) -> Result<bool, Fail> {
+    let der = octets(alloc, name)?;
+    Ok(svid.leaf().as_bytes() == der.as_slice())
+}
+
+fn has_key(alloc: Global, svid: &X509Svid, name: &str) -> Result<bool, Fail> {
+    let der = octets(alloc, name)?;
+    Ok(svid.private_key().as_bytes() == der.as_slice())
+}
+
 #[test]
 fn svid(rt: HostRuntime) -> Result<(), Fail> {
-    let leaf = octets(rt.alloc(), "LEAF1")?;
-    let key = octets(rt.alloc(), "KEY1")?;
     let svid = hinted(rt.alloc())?;
-    assert!(rt; svid.spiffe_id().as_str() == URI);
-    assert!(rt; svid.hint() == Some("internal"));
-    assert!(rt; svid.expiry_unix() == 1000);
-    assert!(rt; svid.cert_chain().len() == 2);
-    assert!(rt; svid.leaf().as_bytes() == leaf.as_slice());
-    assert!(rt; svid.private_key().as_bytes() == key.as_slice());
+    assert!(rt; is_hinted(&svid));
+    assert!(rt; has_leaf(rt.alloc(), &svid, "LEAF1")?);
+    assert!(rt; has_key(rt.alloc(), &svid, "KEY1")?);
     Ok(())
 }
 
@@ -193,7 +223,7 @@ fn is_parsed_from(alloc: Global, chain: &str, key: &str, hint: Option<&str>) -> 
 }
 
 /// A chain, a key and a hint, and whether the hinted SVID is parsed from them.
-const SOURCES: [(&str, &str, Option<&str>, bool); 7] = [
+const SOURCES: &[(&str, &str, Option<&str>, bool)] = &[
     ("LEAF1 INTER1", "KEY1", Some("internal"), true),
     ("LEAF1 INTER1", "KEY1", Some("external"), false),
     ("LEAF1 INTER1", "KEY1", None, false),
@@ -206,7 +236,7 @@ const SOURCES: [(&str, &str, Option<&str>, bool); 7] = [
 /// An SVID is parsed from its own chain, key and hint, and from nothing else.
 #[test]
 fn svid_is_parsed_from(rt: HostRuntime) -> Result<(), Fail> {
-    for (chain, key, hint, wanted) in SOURCES {
+    for &(chain, key, hint, wanted) in SOURCES {
         assert!(rt;
             is_parsed_from(rt.alloc(), chain, key, hint)? == wanted,
             "{chain} {key}"
@@ -215,12 +245,23 @@ fn svid_is_parsed_from(rt: HostRuntime) -> Result<(), Fail> {
     Ok(())
 }
 
+/// Whether the SVID without a hint comes before that one.
+fn plain_is_less(alloc: Global, other: &X509Svid) -> Result<bool, Fail> {
+    let plain = svid_with(alloc, None)?;
+    Ok(cmp_svid_for_update(&plain, other) == Ordering::Less)
+}
+
+/// Whether the SVID without a hint equals its copy.
+fn plain_is_copied(alloc: Global) -> Result<bool, Fail> {
+    let plain = svid_with(alloc, None)?;
+    Ok(is_same(plain.try_clone(alloc), &plain))
+}
+
 #[test]
 fn svids_are_ordered(rt: HostRuntime) -> Result<(), Fail> {
     let hinted = hinted(rt.alloc())?;
-    let plain = svid_with(rt.alloc(), None)?;
-    assert!(rt; cmp_svid_for_update(&plain, &hinted) == Ordering::Less);
-    assert!(rt; is_same(plain.try_clone(rt.alloc()), &plain));
+    assert!(rt; plain_is_less(rt.alloc(), &hinted)?);
+    assert!(rt; plain_is_copied(rt.alloc())?);
     Ok(())
 }
 
@@ -236,7 +277,7 @@ const ALT_NAMES: &str =
     "Certificate(UnexpectedExtension(Text { string: \"SubjectAlternativeName\" }))";
 
 /// Pieces of LEAF1, another for each, and how the chain is then refused.
-const LEAVES: [(&str, &str, &str); 12] = [
+const LEAVES: &[(&str, &str, &str)] = &[
     ("551d13", "551d0f", DUPLICATE),
     ("551d11", "551d13", DUPLICATE),
     (
@@ -268,7 +309,7 @@ fn is_leaf_refused(alloc: Global, old: &str, new: &str, error: &str) -> Result<b
 
 #[test]
 fn hostile_leaves(rt: HostRuntime) -> Result<(), Fail> {
-    for (old, new, error) in LEAVES {
+    for &(old, new, error) in LEAVES {
         assert!(rt; is_leaf_refused(rt.alloc(), old, new, error)?, "{new}");
     }
     Ok(())
