@@ -59,7 +59,7 @@ fn key_set(rt: HostRuntime) -> Result<(), Fail> {
 }
 
 /// The name of the rule that a key set breaks first; `Ok` where it breaks none.
-fn outcome(alloc: Global, keys: &str) -> Result<String, Fail> {
+pub(crate) fn outcome(alloc: Global, keys: &str) -> Result<String, Fail> {
     match bundle_of(alloc, keys) {
         Ok(_) => Ok(String::from_str(alloc, "Ok")?),
         Err(error) => Ok(format!(in alloc; "{error}")?),
