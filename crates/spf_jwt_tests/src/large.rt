@@ -72,15 +72,21 @@ fn large_key_sets(rt: HostRuntime) -> Result<(), Fail> {
     Ok(())
 }
 
-/// A bundle set of one key set of more than 16 MiB.
-fn largest(alloc: Global) -> Result<JwtBundleSet, Fail> {
-    let keys = filled(
+/// A key set of more than 16 MiB.
+fn largest_keys(alloc: Global) -> Result<String, Fail> {
+    let piece = "a".repeat(alloc, 16_384)?;
+    filled(
         alloc,
         "{\"keys\":[{\"kid\":\"k\",\"n\":\"",
-        "a",
-        16_777_216,
+        piece.as_str(),
+        1024,
         "\"}]}",
-    )?;
+    )
+}
+
+/// A bundle set of that key set.
+fn largest(alloc: Global) -> Result<JwtBundleSet, Fail> {
+    let keys = largest_keys(alloc)?;
     let domain = TrustDomain::new(alloc, "example.org")?;
     let mut set = JwtBundleSet::new(alloc);
     set.add_bundle(JwtBundle::from_jwt_authorities(alloc, domain, keys.as_bytes())?)?;
