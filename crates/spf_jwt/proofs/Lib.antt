@@ -6,5 +6,6 @@ pub mod Keys
 pub mod Later
 pub mod Octets
 pub mod Required
+pub mod Shared
 pub mod Signature
 pub mod Texts

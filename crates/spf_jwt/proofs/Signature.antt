@@ -1,9 +1,8 @@
 -- The parts of a token, of which the last has no full stop.
-use Rattle.std.proofs.Common.{◌≡◌, ℕ, ◌<◌, Bool, true, false, cond, List, [], ◌∷◌, ◌++◌, length}
-use Rattle.std.proofs.Common.{get_or, Result, Ok, Err, refl, ap, ◌∙◌, arith, not, ◌⊎◌, inl, inr}
+use Rattle.std.proofs.Common.{◌≡◌, ℕ, ◌<◌, Bool, true, false, List, [], ◌∷◌, ◌++◌, length, get_or}
+use Rattle.std.proofs.Common.{Result, Ok, Err, refl, ap, ◌∙◌, arith, not, ◌⊎◌, inl, inr}
 use Rattle.std.specs.Prelude.{◌==◌, ◌&&◌, if◌then◌else◌}
-use Rattle.std.specs.List.{before_first, after_first, position_or_len, slice_split, onto_first}
-use Rattle.std.specs.List.{list_all}
+use Rattle.std.specs.List.{before_first, after_first, position_or_len, slice_split, list_all}
 use Rattle.std.proofs.lemmas.List.Splits.{slice_split_first, slice_split_none}
 use Rattle.std.proofs.lemmas.List.Sums.{split_at_first, passes_at_first, prefix_len-le-length}
 use Rattle.std.proofs.lemmas.List.Sums.{fails_before_first}

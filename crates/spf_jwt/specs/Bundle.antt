@@ -1,14 +1,14 @@
 -- The keys of a trust domain, and the bundles of
 -- several (SPIFFE Trust Domain and Bundle section 4).
-use Rattle.std.specs.Prelude.{ℕ, map, Bool, ◌&&◌, nat_eq, List, [], Result, Ok, String}
-use Rattle.std.specs.Prelude.{string_bytes}
+use Rattle.std.specs.Prelude.{◌≡◌, ℕ, map, Bool, ◌&&◌, nat_eq, List, [], Option, None, Some, Result}
+use Rattle.std.specs.Prelude.{Ok, String, string_bytes}
 use Rattle.std.specs.Cmp.Lexicographic.{pointwise}
 use Rattle.std.specs.Arc.{arc_value}
 use Rattle.std.specs.declared.sync.Arc.{Arc}
 use Rattle.std.specs.declared.alloc.Global.{Global}
 use Rattle.spf_io.specs.Rule.{◌>>=◌}
 use Rattle.spf_api.specs.declared.jwt_error.JwtBundleError.{JwtBundleError}
-use Rattle.spf_jwt.specs.Authority.{Authority}
+use Rattle.spf_jwt.specs.Authority.{Authority, key_set_of}
 use Rattle.spf_x509.specs.Bundle.{with_entries}
 
 -- a trust domain and its keys, each with its `kid`, in the order of the `kid`
@@ -52,3 +52,8 @@ abbrev pub bundle_of : List ℕ → Result (List Authority) JwtBundleError
 bundle_of domain read =
     read >>= λ authorities.
     Ok (record { domain = domain; authorities = with_authorities [] authorities })
+
+-- the bundle is that of the key set that is kept with it, where one is
+abbrev pub IsReadFrom : Option (List ℕ) → Bundle → Type 0
+IsReadFrom None bundle = Unit {0}
+IsReadFrom (Some jwks) bundle = bundle_of bundle.domain (key_set_of jwks) ≡ Ok bundle

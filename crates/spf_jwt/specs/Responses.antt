@@ -26,13 +26,17 @@ named_bundle_of e =
     broken_as api_of_id (name_rule e.name) >>= λ domain.
     broken_as api_of_jwt_bundle (bundle_of domain (key_set_of e.bundle))
 
+-- the bundles of entries, each added in order, or the first broken rule
+abbrev pub bundles_added : List BundleEntry → Result (List (List ℕ × Bundle)) WorkloadApiError
+bundles_added entries = each named_bundle_of entries >>= λ bundles. Ok (with_bundles [] bundles)
+
 -- the bundles of a response, or the first broken rule
 unfoldable pub jwt_bundle_set_of : BundlesResponse
     → Result (List (List ℕ × Bundle)) WorkloadApiError
 jwt_bundle_set_of r =
     if length r.bundles == 0
     then Err (api.MissingRequiredField (codes "JWTBundlesResponse.bundles"))
-    else (each named_bundle_of r.bundles >>= λ bundles. Ok (with_bundles [] bundles))
+    else bundles_added r.bundles
 
 -- the fields of an entry that must be there
 unfoldable pub entry_required : JwtSvidEntry → Result (Unit {0}) WorkloadApiError

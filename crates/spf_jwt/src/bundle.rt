@@ -1,6 +1,7 @@
 //! The keys of one trust domain.
 
-ghost use Rattle.std.specs.Prelude.{◌≡◌, [], false, codes, map, option_and_then, OnErr, OnOk, Some};
+ghost use Rattle.std.specs.Prelude.{◌≡◌, [], false, codes, map, option_and_then, IsTrue, Ok, OnErr};
+ghost use Rattle.std.specs.Prelude.{OnOk, Some};
 ghost use Rattle.std.specs.Option.{option_map};
 ghost use Rattle.serde_json.specs.Find.{as_array, get};
 ghost use Rattle.serde_json.specs.View.{view, items_view};
@@ -16,7 +17,7 @@ use crate::authority::{JwtAuthority, whole_value};
 use serde_json::Value;
 use spf_api::JwtBundleError;
 use spf_id::TrustDomain;
-use spf_io::OutOfMemory;
+use spf_io::{Bytes, OutOfMemory};
 use std::alloc::Global;
 use std::collections::{BTreeMap, btree_map};
 use std::marker::Model;
@@ -27,6 +28,8 @@ use std::marker::Model;
 pub struct JwtBundle {
     trust_domain: TrustDomain,
     authorities: BTreeMap<String, JwtAuthority>,
+    /// The key set that the bundle was read from, where it is kept.
+    jwks: Option<Bytes>,
     alloc: Global,
 }
 
@@ -40,6 +43,14 @@ impl Model for JwtBundle {
       domain = b.trust_domain;
       authorities = map keyed b.authorities.entries;
     } };
+
+    ghost use Rattle.spf_jwt.specs.Bundle.{IsReadFrom};
+
+    ghost invariant = { λ b.
+        IsReadFrom b.jwks (record {
+          domain = b.trust_domain;
+          authorities = map keyed b.authorities.entries;
+        }) };
 }
 
 impl JwtBundle {
@@ -50,6 +61,7 @@ impl JwtBundle {
         JwtBundle {
             trust_domain,
             authorities: BTreeMap::new(alloc),
+            jwks: None,
             alloc,
         }
     }
@@ -70,6 +82,32 @@ impl JwtBundle {
         Ok(bundle)
     }
 
+    /// The same, keeping the key set.
+    pub fn from_jwt_authorities_owned(
+        alloc: Global,
+        trust_domain: TrustDomain,
+        jwks: Bytes,
+    ) -> Result<JwtBundle, JwtBundleError>
+        ensures { Gives is_memory_keys (λ b. b) (broken_as of_any_kind result)
+            (bundle_of trust_domain (key_set_of jwks)) }
+    {
+        let mut bundle = JwtBundle::from_jwt_authorities(alloc, trust_domain, jwks.as_slice())?;
+        bundle.jwks = Some(jwks);
+        Ok(bundle)
+    }
+
+    /// Whether this is the bundle of that trust domain, and
+    /// keeps exactly these bytes as its key set. It takes no memory.
+    pub fn is_parsed_from(&self, trust_domain: &TrustDomain, jwks: &[u8]) -> bool
+        ensures { IsTrue result
+            → bundle_of trust_domain.now (key_set_of jwks.now) ≡ Ok self.now }
+    {
+        match &self.jwks {
+            Some(kept) => *trust_domain == self.trust_domain && kept.as_slice() == jwks,
+            None => false,
+        }
+    }
+
     /// Replaces the key of its `kid`.
     pub fn add_jwt_authority(&mut self, authority: JwtAuthority) -> Result<(), OutOfMemory>
         ensures ok { OnOk result (self.new ≡ record {
@@ -83,6 +121,7 @@ impl JwtBundle {
         ensures err { OnErr result (self.new ≡ self.old) }
     {
         let key_id = String::from_str(self.alloc, authority.key_id())?;
+        self.jwks = None;
         self.authorities.insert(key_id, authority)?;
         Ok(())
     }

@@ -4,5 +4,6 @@ pub mod LineLemmas
 pub mod Loop
 pub mod Received
 pub mod ShownLemmas
+pub mod TextLemmas
 pub mod TurnLemmas
 pub mod Turned

@@ -32,17 +32,27 @@ use crate::turn::{Records, Turn, turn_of};
 use spf_feed::{Change, FollowError, Phase};
 use spf_frame::{FrameError, next_frame};
 use spf_io::{OutOfMemory, Sink, Source};
-use spf_jwt::JwtResourceLimits;
+use spf_jwt::{JwtBundleSet, JwtResourceLimits};
 use std::alloc::Global;
 use std::sync::Arc;
 
-/// The next event. Its payload is read into the buffer.
+/// The bundle set that the snapshot holds.
+fn held_set(snapshot: &Option<JwtSnapshot>) -> Option<&JwtBundleSet> {
+    match snapshot {
+        Some(snapshot) => snapshot.bundle_set(),
+        None => None,
+    }
+}
+
+/// The next event. Its payload is read into the buffer, and
+/// what it has of the bytes of the held bundle set is shared.
 fn next_event<S: Source>(
     alloc: Global,
     source: &mut S,
     payload: &mut Vec<u8>,
     phase: Phase,
     allowed: bool,
+    held: Option<&JwtBundleSet>,
 ) -> Result<Option<JwtReceived>, FrameError>
     ensures cause { FailureHasCause (S.failures source.old) (S.failures source.new) result }
     ensures allowed { OnlyAllowed allowed result }
@@ -53,7 +63,7 @@ fn next_event<S: Source>(
         Some(kind) => kind,
         None => return Ok(None),
     };
-    match event_in(alloc, kind, payload.as_slice()) {
+    match event_in(alloc, kind, payload.as_slice(), held) {
         Ok(Some(event)) => Ok(Some(event)),
         Ok(None) => Err(FrameError::BadFrame),
         Err(_) => Err(FrameError::OutOfMemory),
@@ -334,7 +344,8 @@ pub fn follow_jwt<S: Source, K: Sink, P: JwtPublisher, M: JwtMetricsRecorder>(
     let mut count = 0;
     'events: loop {
         let allowed = count < max_frames;
-        let event = match next_event(alloc, source, &mut payload, phase, allowed) {
+        let held = held_set(&snapshot);
+        let event = match next_event(alloc, source, &mut payload, phase, allowed, held) {
             Ok(Some(event)) => event,
             Ok(None) => return at_end(&snapshot, count),
             Err(e) => return Err(error_at(count, e)),

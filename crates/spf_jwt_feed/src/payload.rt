@@ -17,7 +17,7 @@ use spf_frame::frame_kind::{
 };
 use spf_frame::{read_status, read_text};
 use spf_io::OutOfMemory;
-use spf_jwt::{JwtBundleSet, jwt_bundle_set_from};
+use spf_jwt::{JwtBundleSet, jwt_bundle_set_sharing};
 use std::alloc::Global;
 
 /// The code octet of a client that could not reach its endpoint.
@@ -64,13 +64,17 @@ fn received(parsed: Result<JwtBundleSet, WorkloadApiError>) -> Result<JwtItem, O
 }
 
 /// What the bundles of a response are.
-fn item_of(alloc: Global, response: &BundlesResponse) -> Result<JwtItem, OutOfMemory>
-    ensures { IfOk result (λ i. i ≡ items_spec.item_in response.now) }
+fn item_of(
+    alloc: Global,
+    response: BundlesResponse,
+    held: Option<&JwtBundleSet>,
+) -> Result<JwtItem, OutOfMemory>
+    ensures { IfOk result (λ i. i ≡ items_spec.item_in response) }
 {
     if response.bundles.as_slice().is_empty() {
         return Ok(JwtItem::Empty);
     }
-    received(jwt_bundle_set_from(alloc, response))
+    received(jwt_bundle_set_sharing(alloc, response, held))
 }
 
 /// The bundles of a response that carries key sets.
@@ -85,13 +89,17 @@ fn key_sets(response: Response) -> BundlesResponse
 }
 
 /// What an item brings. None where the payload lays out none.
-fn item_in(alloc: Global, bytes: &[u8]) -> Result<Option<JwtItem>, OutOfMemory>
+fn item_in(
+    alloc: Global,
+    bytes: &[u8],
+    held: Option<&JwtBundleSet>,
+) -> Result<Option<JwtItem>, OutOfMemory>
     ensures { IfOk result (λ o. o ≡ item_at bytes.now) }
 {
     let Some(response) = read_payload(alloc, ResponseKind::JwtBundles, bytes)? else {
         return Ok(None);
     };
-    let item = item_of(alloc, &key_sets(response))?;
+    let item = item_of(alloc, key_sets(response), held)?;
     Ok(Some(item))
 }
 
@@ -106,12 +114,13 @@ fn when_empty(payload: &[u8], event: JwtReceived) -> Option<JwtReceived>
     }
 }
 
-/// The event that a frame lays out.
+/// The event that a frame lays out, where `held` is the bundle set that is held.
 #[tactic(auto, unfolding(spf_feed::specs::Events::event_at))]
 pub(crate) fn event_in(
     alloc: Global,
     kind: u8,
     payload: &[u8],
+    held: Option<&JwtBundleSet>,
 ) -> Result<Option<JwtReceived>, OutOfMemory>
     ensures { IfOk result (λ o. o ≡ event_at item_at kind payload.now) }
 {
@@ -120,7 +129,7 @@ pub(crate) fn event_in(
         CLIENT_FAILED => Ok(failure_in(alloc, payload)?.map(JwtReceived::ClientFailed)),
         CONNECTED => Ok(when_empty(payload, JwtReceived::Connected)),
         CONNECT_STATUS => Ok(read_status(alloc, payload)?.map(JwtReceived::ConnectStatus)),
-        ITEM => Ok(item_in(alloc, payload)?.map(JwtReceived::Item)),
+        ITEM => Ok(item_in(alloc, payload, held)?.map(JwtReceived::Item)),
         ITEM_STATUS => Ok(read_status(alloc, payload)?.map(JwtReceived::ItemStatus)),
         STREAM_END => Ok(when_empty(payload, JwtReceived::StreamEnd)),
         MOMENT => Ok(moment_in(payload).map(JwtReceived::Moment)),

@@ -11,6 +11,7 @@ use crate::standing::Standing;
 use crate::state::JwtSourceState;
 use crate::step::JwtStep;
 use spf_io::OutOfMemory;
+use spf_jwt::JwtBundleSet;
 use std::marker::Model;
 
 /// The revision, and the held bundle set or the reason of the withdrawal.
@@ -100,6 +101,14 @@ impl JwtSnapshot {
             }) }
     {
         Ok(JwtSourceState::new(self.revision, closed, self.standing.try_clone()?))
+    }
+
+    /// The held bundle set. None while withdrawn.
+    pub(crate) fn bundle_set(&self) -> Option<&JwtBundleSet> {
+        match &self.standing {
+            Standing::Permitted(set) => Some(set),
+            Standing::Withdrawn(_) => None,
+        }
     }
 
     pub(crate) fn revision(&self) -> u64

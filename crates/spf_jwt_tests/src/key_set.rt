@@ -2,7 +2,8 @@
 
 use spf_api::JwtBundleError;
 use spf_id::TrustDomain;
-use spf_jwt::JwtBundle;
+use spf_io::Bytes;
+use spf_jwt::{JwtAuthority, JwtBundle};
 use std::alloc::Global;
 use std::str;
 use std::test::Fail;
@@ -59,7 +60,7 @@ fn key_set(rt: HostRuntime) -> Result<(), Fail> {
 }
 
 /// The name of the rule that a key set breaks first; `Ok` where it breaks none.
-fn outcome(alloc: Global, keys: &str) -> Result<String, Fail> {
+pub(crate) fn outcome(alloc: Global, keys: &str) -> Result<String, Fail> {
     match bundle_of(alloc, keys) {
         Ok(_) => Ok(String::from_str(alloc, "Ok")?),
         Err(error) => Ok(format!(in alloc; "{error}")?),
@@ -94,5 +95,46 @@ fn key_sets(rt: HostRuntime) -> Result<(), Fail> {
         let found = outcome(rt.alloc(), keys)?;
         assert!(rt; found.as_str() == wanted, "{keys}: {found}");
     }
+    Ok(())
+}
+
+/// A bundle that keeps its key set.
+fn keeping(alloc: Global, keys: &str) -> Result<JwtBundle, Fail> {
+    let domain = TrustDomain::new(alloc, "example.org")?;
+    let jwks = Bytes::copy_of(alloc, keys.as_bytes())?;
+    Ok(JwtBundle::from_jwt_authorities_owned(alloc, domain, jwks)?)
+}
+
+fn is_from(alloc: Global, bundle: &JwtBundle, domain: &str, keys: &str) -> Result<bool, Fail> {
+    let domain = TrustDomain::new(alloc, domain)?;
+    Ok(bundle.is_parsed_from(&domain, keys.as_bytes()))
+}
+
+const KEPT: &str = "{\"keys\":[{\"kid\":\"k\"}]}";
+
+#[test]
+fn kept_key_set(rt: HostRuntime) -> Result<(), Fail> {
+    let bundle = keeping(rt.alloc(), KEPT)?;
+    assert!(rt; is_from(rt.alloc(), &bundle, "example.org", KEPT)?);
+    assert!(rt; !is_from(rt.alloc(), &bundle, "another.org", KEPT)?);
+    assert!(rt; !is_from(rt.alloc(), &bundle, "example.org", "{\"keys\":[]}")?);
+    assert!(rt; bundle == bundle_of(rt.alloc(), KEPT)?);
+    Ok(())
+}
+
+/// A bundle whose key set was read anew, with a key added.
+fn with_another(alloc: Global) -> Result<JwtBundle, Fail> {
+    let mut bundle = keeping(alloc, KEPT)?;
+    let key = JwtAuthority::from_jwk_json(alloc, b"{\"kid\":\"a\"}")?;
+    bundle.add_jwt_authority(key)?;
+    Ok(bundle)
+}
+
+#[test]
+fn added_key(rt: HostRuntime) -> Result<(), Fail> {
+    let bundle = with_another(rt.alloc())?;
+    let keys = keys_in(rt.alloc(), &bundle)?;
+    assert_eq!(rt; keys.as_str(), "a={\"kid\":\"a\"} k={\"kid\":\"k\"} ");
+    assert!(rt; !is_from(rt.alloc(), &bundle, "example.org", KEPT)?);
     Ok(())
 }

@@ -4,6 +4,8 @@
 #[cfg(test)]
 mod key_set;
 #[cfg(test)]
+mod large;
+#[cfg(test)]
 mod responses;
 #[cfg(test)]
 mod session;

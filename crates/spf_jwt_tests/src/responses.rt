@@ -2,7 +2,10 @@
 
 use spf_api::{BundleEntry, BundlesResponse};
 use spf_io::{Bytes, List, Text};
-use spf_jwt::{JwtBundleSet, JwtResourceLimits, jwt_bundle_set_from, validate_jwt_limits};
+use spf_jwt::{
+    JwtBundleSet, JwtResourceLimits, jwt_bundle_set_from, jwt_bundle_set_sharing,
+    validate_jwt_limits,
+};
 use std::alloc::Global;
 use std::test::Fail;
 
@@ -31,5 +34,26 @@ fn last_bundle_stands(rt: HostRuntime) -> Result<(), Fail> {
     assert_eq!(rt; set.len(), 1);
     assert!(rt; is_within(&set, 1));
     assert!(rt; !is_within(&set, 0));
+    Ok(())
+}
+
+/// The set of two trust domains, of which the second has these keys, read beside a held set.
+fn beside(alloc: Global, keys: &str, held: Option<&JwtBundleSet>) -> Result<JwtBundleSet, Fail> {
+    let first = entry(alloc, "example.org", "{\"keys\":[{\"kid\":\"k\"}]}")?;
+    let last = entry(alloc, "another.org", keys)?;
+    let bundles = List::new(vec![in alloc; first, last]?);
+    Ok(jwt_bundle_set_sharing(alloc, BundlesResponse { bundles }, held)?)
+}
+
+/// Whether a set that is read beside another is the same as one that is read alone.
+fn is_as_alone(alloc: Global, keys: &str) -> Result<bool, Fail> {
+    let held = beside(alloc, "{\"keys\":[]}", None)?;
+    Ok(beside(alloc, keys, Some(&held))? == beside(alloc, keys, None)?)
+}
+
+#[test]
+fn held_set_makes_no_difference(rt: HostRuntime) -> Result<(), Fail> {
+    assert!(rt; is_as_alone(rt.alloc(), "{\"keys\":[]}")?);
+    assert!(rt; is_as_alone(rt.alloc(), "{\"keys\":[{\"kid\":\"k\"}]}")?);
     Ok(())
 }

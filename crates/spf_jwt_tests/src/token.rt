@@ -46,7 +46,7 @@ fn token(rt: HostRuntime) -> Result<(), Fail> {
 }
 
 /// The name of the rule that a token breaks first; `Ok` where it breaks none.
-fn outcome(alloc: Global, token: &str) -> Result<String, Fail> {
+pub(crate) fn outcome(alloc: Global, token: &str) -> Result<String, Fail> {
     match JwtSvid::parse_insecure(alloc, token) {
         Ok(_) => Ok(String::from_str(alloc, "Ok")?),
         Err(error) => Ok(format!(in alloc; "{error}")?),

@@ -1,4 +1,3 @@
-use Rattle.std.specs.Option.{option_map}
 use Rattle.spf_jwt.proofs.Later.{one_later}
 use Rattle.spf_jwt.proofs.validation.last_claim.Goals as goal
 

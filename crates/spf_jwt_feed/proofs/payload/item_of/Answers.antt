@@ -4,11 +4,11 @@ use Rattle.spf_jwt_feed.proofs.payload.item_of.Goals as goal
 
 pub returns-then-is_empty : goal.returns-then-is_empty
 returns-then-is_empty c =
-    let none : (length c.args.response.now.bundles == 0) ≡ true = search rules in
-    item_empty c.args.response.now none
+    let none : (length c.args.response.bundles == 0) ≡ true = search rules in
+    item_empty c.args.response none
 
 pub returns : goal.returns
 returns c =
-    let some : (length c.args.response.now.bundles == 0) ≡ false = search rules in
-    item_given c.args.response.now c.jwt_bundle_set_from.result c.received.result some
-    c.jwt_bundle_set_from.ensures c.received.ensures
+    let some : (length c.args.response.bundles == 0) ≡ false = search rules in
+    item_given c.args.response c.jwt_bundle_set_sharing.result c.received.result some
+    c.jwt_bundle_set_sharing.ensures c.received.ensures
