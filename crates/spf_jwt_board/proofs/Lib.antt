@@ -1,0 +1,2 @@
+mod Publishing
+mod UsableLemmas

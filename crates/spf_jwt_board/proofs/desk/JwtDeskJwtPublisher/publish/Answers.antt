@@ -1,0 +1,17 @@
+use Rattle.std.proofs.Common.{Some, sym, subst}
+use Rattle.spf_history.specs.Lists.{steps_of}
+use Rattle.spf_feed.specs.Records.{RecordAppends}
+use Rattle.spf_jwt_feed.specs.Steps.{MayFollow}
+use Rattle.spf_jwt_board.proofs.Publishing.{appended}
+use Rattle.spf_jwt_board.proofs.desk.JwtDeskJwtPublisher.publish.Goals as goal
+
+pub put-requires : goal.put-requires
+put-requires g c =
+    subst (MayFollow (Some (steps_of c.args.self.now.list))) (sym c.new.ensures) c.requires
+
+pub returns-clause-appends : goal.returns-clause-appends
+returns-clause-appends g c =
+    subst (λ s. RecordAppends (Some (steps_of c.args.self.now.list))
+    (Some (steps_of c.put.new.self.list)) c.put.result s) c.new.ensures
+    (appended c.put.result c.args.self.now c.put.new.self c.new.result c.put.ensures.ok
+    c.put.ensures.err)

@@ -1,0 +1,70 @@
+//! JWT steps and their snapshot, as a board has them.
+
+use crate::shared_step::SharedStep;
+use crate::shown::Shown;
+use spf_board::{Look, Replay};
+use spf_history::Kind;
+use spf_io::OutOfMemory;
+
+/// Boards of JWT steps. No value of it is made.
+pub struct Jwt;
+
+impl Kind for Jwt {
+    type Step = SharedStep;
+
+    ghost use Rattle.spf_jwt_board.specs.Steps.{Legal};
+
+    ghost legal = { Legal };
+}
+
+impl Replay for Jwt {
+    type Snapshot = Shown;
+
+    ghost use Rattle.spf_view.specs.Standing.{kept_next};
+    ghost use Rattle.spf_jwt.specs.Bundle.{set_eq};
+    ghost use Rattle.spf_jwt_board.specs.Steps.{Replays};
+    ghost use Rattle.spf_jwt_board.specs.Laws as laws;
+
+    ghost first = { laws.first };
+
+    ghost after = { kept_next set_eq };
+
+    ghost replays = { Replays };
+
+    fn opening(step: SharedStep) -> Shown {
+        Shown::opening(step)
+    }
+
+    fn apply(snapshot: &mut Shown, step: SharedStep) {
+        snapshot.apply(step);
+    }
+
+    fn copy_step(step: &SharedStep) -> Result<SharedStep, OutOfMemory> {
+        step.try_clone()
+    }
+
+    fn copy(snapshot: &Shown) -> Result<Shown, OutOfMemory> {
+        snapshot.try_clone()
+    }
+
+    ghost replays_first = { laws.replays_first };
+
+    ghost replays_after = { laws.replays_after };
+}
+
+/// Whether a bundle set with a key is permitted.
+#[derive(Clone, Copy, Debug)]
+pub struct Usable;
+
+impl Look<Shown> for Usable {
+    type Found = bool;
+
+    ghost use Rattle.std.specs.Prelude.{◌≡◌};
+    ghost use Rattle.spf_jwt_board.specs.Steps.{is_usable};
+
+    ghost finds = { λ _ shown found. found ≡ is_usable shown };
+
+    fn look(&self, snapshot: &Shown) -> bool {
+        snapshot.is_usable()
+    }
+}

@@ -1,0 +1,21 @@
+//! The board of a JWT source: one writer publishes the steps of the
+//! supervisor, and up to 64 passes read what they replay to, without a lock.
+#![tactic(auto)]
+
+mod board;
+mod desk;
+mod kind;
+mod pass;
+mod places;
+mod shared_step;
+mod shown;
+
+pub use board::{open, settle};
+pub use desk::{JwtDesk, JwtEnded};
+pub use kind::{Jwt, Usable};
+pub use pass::JwtPass;
+pub use places::JwtPlaces;
+pub use shared_step::SharedStep;
+pub use shown::Shown;
+pub use spf_board::{BoardPlaces, PLACES, PlaceFault, RefusingPlaces};
+pub use spf_history::Front;
