@@ -1,33 +1,25 @@
 //! Asks that are answered from a source of their own.
 
-use spf_api::{GrpcStatusCode, GrpcStatusError, LinkFault, Response};
+use spf_api::GrpcStatusCode;
 use spf_gate_live::gate_live;
-use spf_io::{MemSink, MemSource, Text};
+use spf_io::{MemSink, MemSource};
 use spf_job::{InlineSpawner, RefusingSpawner, StepWords};
-use spf_link::{Answer, MemConnector, MemLink};
-use spf_responses::first_item;
+use spf_link::MemConnector;
+use spf_responses::{connector, good_link, refusing_link};
 use spf_system::{MemClock, MemPause};
 use spf_x509_board::{BoardPlaces, RefusingPlaces};
 use std::alloc::Global;
 use std::sync::Wait;
 use std::test::Fail;
 
-/// A connector with one link that gives these answers.
-fn connector(alloc: Global, answers: Vec<Answer>) -> Result<MemConnector, Fail> {
-    let link = MemLink::new(alloc, answers);
-    Ok(MemConnector::new(alloc, vec![in alloc; Ok(link)]?))
-}
-
-/// One whose link gives the item I1.
+/// A connector whose one link gives the item I1.
 fn good(alloc: Global) -> Result<MemConnector, Fail> {
-    let item = Answer::Item(Response::Context(first_item(alloc)?));
-    connector(alloc, vec![in alloc; Answer::Started, item]?)
+    connector(alloc, good_link(alloc)?)
 }
 
 /// One whose link refuses its start with this status.
 fn refusing(alloc: Global, code: GrpcStatusCode) -> Result<MemConnector, Fail> {
-    let fault = LinkFault::Status(GrpcStatusError::new(code, Text::copy_of(alloc, "no")?));
-    connector(alloc, vec![in alloc; Answer::Refused(fault)]?)
+    connector(alloc, refusing_link(alloc, code)?)
 }
 
 /// What the run stands on.

@@ -1,12 +1,12 @@
 //! Live runs over links in memory: the row watch-live, and the statuses.
 
-use spf_api::{GrpcStatusCode, GrpcStatusError, LinkFault, Response};
+use spf_api::GrpcStatusCode;
 use spf_fixtures::is_written;
-use spf_io::{MemSink, Text};
+use spf_io::MemSink;
 use spf_job::{InlineSpawner, RefusingSpawner, StepWords};
-use spf_link::{Answer, MemConnector, MemLink};
+use spf_link::MemConnector;
 use spf_live::watch_live;
-use spf_responses::first_item;
+use spf_responses::{connector, good_link, refusing_link};
 use spf_system::{MemClock, MemPause};
 use spf_x509_board::{BoardPlaces, RefusingPlaces};
 use std::alloc::Global;
@@ -23,23 +23,14 @@ fn arguments(alloc: Global, texts: &[&str]) -> Result<Vec<String>, Fail> {
     Ok(arguments)
 }
 
-/// A connector whose one link gives these answers.
-fn connector(alloc: Global, answers: Vec<Answer>) -> Result<MemConnector, Fail> {
-    let link = MemLink::new(alloc, answers);
-    Ok(MemConnector::new(alloc, vec![in alloc; Ok(link)]?))
-}
-
 /// A connector whose one link gives the item I1.
 fn good(alloc: Global) -> Result<MemConnector, Fail> {
-    let item = Answer::Item(Response::Context(first_item(alloc)?));
-    connector(alloc, vec![in alloc; Answer::Started, item]?)
+    connector(alloc, good_link(alloc)?)
 }
 
 /// A connector whose one link refuses its start with this status.
 fn refusing(alloc: Global, code: GrpcStatusCode) -> Result<MemConnector, Fail> {
-    let message = Text::copy_of(alloc, "no")?;
-    let fault = LinkFault::Status(GrpcStatusError::new(code, message));
-    connector(alloc, vec![in alloc; Answer::Refused(fault)]?)
+    connector(alloc, refusing_link(alloc, code)?)
 }
 
 /// The clock, which gives 999 three times.

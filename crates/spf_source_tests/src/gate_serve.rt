@@ -1,57 +1,45 @@
 //! Inputs that are answered from a source over doubles.
 
-use spf_api::Response;
-use spf_feed::{NoPicker, NoRecorder};
+use crate::source::opened;
 use spf_gate::{GateError, gate_serve};
 use spf_io::{MemSink, MemSource};
-use spf_job::{InlineSpawner, StepWords};
-use spf_link::{Answer, MemConnector, MemLink};
-use spf_responses::first_item;
-use spf_system::{MemClock, MemPause};
-use spf_x509_board::BoardPlaces;
-use spiffe::X509SourceBuilder;
 use std::alloc::Global;
 use std::sync::Wait;
 use std::test::Fail;
 
-/// A builder over one link that gives the item I1.
-fn builder(alloc: Global) -> Result<X509SourceBuilder<NoPicker, MemConnector, NoRecorder>, Fail> {
-    let item = Answer::Item(Response::Context(first_item(alloc)?));
-    let link = MemLink::new(alloc, vec![in alloc; Answer::Started, item]?);
-    let connector = MemConnector::new(alloc, vec![in alloc; Ok(link)]?);
-    Ok(X509SourceBuilder::new(connector))
-}
+/// The lines of an answered input, and how it ends.
+type Served = (MemSink, Result<u64, GateError>);
 
-/// What is written for an input, and how its answering ends.
-fn served<R: Wait + Copy + Drop>(
+/// What is written for an input by a source that holds the item I1, and how its answering ends.
+fn served<R: Wait + Drop>(
     rt: R,
     alloc: Global,
     input: &[u8],
     max_lines: u64,
-) -> Result<(MemSink, Result<u64, GateError>), Fail> {
-    let mut clock = MemClock::new(vec![in alloc; Some(999)]?);
-    let pause = MemPause::new(alloc, 1)?;
-    let bytes = Vec::from_slice(alloc, input)?;
-    let mut input = MemSource::new(bytes, Vec::new(alloc), Vec::new(alloc));
+) -> Result<Served, Fail> {
+    let mut input = source_of(alloc, input)?;
     let mut out = MemSink::new(alloc, 4096, Vec::new(alloc))?;
-    let mut places = BoardPlaces::new();
-    let words = StepWords::new(0);
-    let built = builder(alloc)?.build(
-        rt,
-        alloc,
-        &mut clock,
-        pause,
-        words,
-        &mut InlineSpawner,
-        &mut places,
-    );
-    match built {
-        Ok((source, mut pass, _handle)) => {
-            let end = gate_serve(alloc, &source, &mut pass, &mut input, &mut out, max_lines);
-            Ok((out, end))
-        }
-        Err(_) => Err(Fail::from("no source")),
-    }
+    let (source, mut pass, _desk, _stop) = opened(rt, alloc)?;
+    let end = gate_serve(alloc, &source, &mut pass, &mut input, &mut out, max_lines);
+    Ok((out, end))
+}
+
+fn source_of(alloc: Global, input: &[u8]) -> Result<MemSource, Fail> {
+    let bytes = Vec::from_slice(alloc, input)?;
+    Ok(MemSource::new(bytes, Vec::new(alloc), Vec::new(alloc)))
+}
+
+/// Whether these lines are written for the input, and its answering ends so.
+fn is_served<R: Wait + Drop>(
+    rt: R,
+    alloc: Global,
+    input: &[u8],
+    max_lines: u64,
+    lines: &str,
+    wanted: Result<u64, GateError>,
+) -> Result<bool, Fail> {
+    let (out, end) = served(rt, alloc, input, max_lines)?;
+    Ok(out.bytes() == lines.as_bytes() && end == wanted)
 }
 
 /// An input, the max number of its lines, what is written, and the end.
@@ -113,10 +101,11 @@ static INPUTS: [Case; 14] = [
 
 #[test]
 fn inputs(rt: HostRuntime) -> Result<(), Fail> {
-    for (input, max_lines, wanted, end) in INPUTS.iter() {
-        let (out, found) = served(rt, rt.alloc(), input, *max_lines)?;
-        assert_eq!(rt; str::from_utf8(out.bytes()), Ok(*wanted));
-        assert_eq!(rt; found, *end);
+    for &(input, max_lines, lines, end) in INPUTS.iter() {
+        assert!(rt;
+            is_served(rt, rt.alloc(), input, max_lines, lines, end)?,
+            "{lines}"
+        );
     }
     Ok(())
 }
@@ -131,17 +120,24 @@ fn long_ask(alloc: Global, count: usize) -> Result<Vec<u8>, Fail> {
     Ok(input)
 }
 
+/// Whether an ask of so many bytes after another leads to these lines, and to that end.
+fn is_long_ask_served<R: Wait + Drop>(
+    rt: R,
+    alloc: Global,
+    count: usize,
+    lines: &str,
+    wanted: Result<u64, GateError>,
+) -> Result<bool, Fail> {
+    let input = long_ask(alloc, count)?;
+    is_served(rt, alloc, input.as_slice(), 100, lines, wanted)
+}
+
 /// A line of 4,096 bytes is an ask, and a longer one is refused, after the answers before it.
 #[test]
 fn long_lines(rt: HostRuntime) -> Result<(), Fail> {
-    let alloc = rt.alloc();
-    let input = long_ask(alloc, 4096)?;
-    let (out, end) = served(rt, alloc, input.as_slice(), 100)?;
-    assert_eq!(rt; str::from_utf8(out.bytes()), Ok("bad-id 3\nbad-id 2\n"));
-    assert_eq!(rt; end, Ok(2));
-    let input = long_ask(alloc, 4097)?;
-    let (out, end) = served(rt, alloc, input.as_slice(), 100)?;
-    assert_eq!(rt; str::from_utf8(out.bytes()), Ok("bad-id 3\n"));
-    assert_eq!(rt; end, Err(GateError::LineTooLong { line: 3 }));
+    let lines = "bad-id 3\nbad-id 2\n";
+    assert!(rt; is_long_ask_served(rt, rt.alloc(), 4096, lines, Ok(2))?);
+    let too_long = Err(GateError::LineTooLong { line: 3 });
+    assert!(rt; is_long_ask_served(rt, rt.alloc(), 4097, "bad-id 3\n", too_long)?);
     Ok(())
 }

@@ -4,8 +4,16 @@
 #[cfg(test)]
 mod build;
 #[cfg(test)]
+mod building;
+#[cfg(test)]
 mod gate;
 #[cfg(test)]
+mod gate_late;
+#[cfg(test)]
 mod gate_serve;
+#[cfg(test)]
+mod record;
+#[cfg(test)]
+mod sockets;
 #[cfg(test)]
 mod source;

@@ -102,25 +102,37 @@ pub(crate) fn opened<R: Wait + Drop>(
     Ok((source, pass, desk, stop))
 }
 
+/// Whether an open source gives its values, whose SVID has expired at 1000.
+fn gives_values(source: &X509Source, pass: &mut Pass, domain: &TrustDomain) -> bool
+    requires { pass.old.book ≡ source.now.board }
+    ensures { pass.new.book ≡ pass.old.book }
+{
+    gets(source, pass, Some(999)) == (Given::Value, Given::Value, Given::Value)
+        && gets(source, pass, Some(1000)) == (Given::Value, Given::NoSvid, Given::Value)
+        && tries(source, pass, domain) == (true, true)
+        && source.is_healthy(pass, Some(999))
+        && !source.is_healthy(pass, Some(1000))
+}
+
+/// Whether a source gives nothing since it is closed.
+fn gives_nothing(source: &X509Source, pass: &mut Pass, domain: &TrustDomain) -> bool
+    requires { pass.old.book ≡ source.now.board }
+    ensures { pass.new.book ≡ pass.old.book }
+{
+    gets(source, pass, Some(999)) == (Given::Closed, Given::Closed, Given::Closed)
+        && tries(source, pass, domain) == (false, false)
+        && !source.is_healthy(pass, Some(999))
+}
+
 /// The row after-shutdown, as far as it is about the getters.
 #[test]
 fn after_shutdown(rt: HostRuntime) -> Result<(), Fail> {
-    let alloc = rt.alloc();
-    let domain = TrustDomain::new(alloc, "example.org")?;
-    let (mut source, mut pass, _desk, stop) = opened(rt, alloc)?;
-    let values = (Given::Value, Given::Value, Given::Value);
-    assert_eq!(rt; gets(&source, &mut pass, Some(999)), values);
-    let expired = (Given::Value, Given::NoSvid, Given::Value);
-    assert_eq!(rt; gets(&source, &mut pass, Some(1000)), expired);
-    assert_eq!(rt; tries(&source, &mut pass, &domain), (true, true));
-    assert!(rt; source.is_healthy(&mut pass, Some(999)));
-    assert!(rt; !source.is_healthy(&mut pass, Some(1000)));
+    let domain = TrustDomain::new(rt.alloc(), "example.org")?;
+    let (mut source, mut pass, _desk, stop) = opened(rt, rt.alloc())?;
+    assert!(rt; gives_values(&source, &mut pass, &domain));
     source.shutdown();
     assert!(rt; stop.is_set());
-    let closed = (Given::Closed, Given::Closed, Given::Closed);
-    assert_eq!(rt; gets(&source, &mut pass, Some(999)), closed);
-    assert_eq!(rt; tries(&source, &mut pass, &domain), (false, false));
-    assert!(rt; !source.is_healthy(&mut pass, Some(999)));
+    assert!(rt; gives_nothing(&source, &mut pass, &domain));
     Ok(())
 }
 
@@ -136,17 +148,35 @@ fn followed(source: &X509Source, pass: &mut Pass) -> Result<(u64, u64, bool), X5
     Ok((last, state.revision(), state.is_closed()))
 }
 
+/// Whether updates follow revision 0, and say so that the source is closed.
+fn follows_first(source: &X509Source, pass: &mut Pass, is_closed: bool) -> bool
+    requires { pass.old.book ≡ source.now.board }
+    ensures { pass.new.book ≡ pass.old.book }
+{
+    match followed(source, pass) {
+        Ok(found) => found == (0, 0, is_closed),
+        Err(_) => false,
+    }
+}
+
+/// Whether no further pass is given where no place is.
+fn lacks_place(source: &X509Source, pass: &mut Pass) -> bool
+    requires { pass.old.book ≡ source.now.board }
+{
+    match source.another_pass(pass, &mut RefusingPlaces::new()) {
+        Err(X509SourceError::NoPlace) => true,
+        _ => false,
+    }
+}
+
 /// Updates go on after the source is closed. Where no place is given there are none.
 #[test]
 fn updates_of_a_source(rt: HostRuntime) -> Result<(), Fail> {
     let (mut source, mut pass, _desk, _stop) = opened(rt, rt.alloc())?;
-    assert!(rt; followed(&source, &mut pass) == Ok((0, 0, false)));
+    assert!(rt; follows_first(&source, &mut pass, false));
     source.shutdown();
-    assert!(rt; followed(&source, &mut pass) == Ok((0, 0, true)));
-    let refused = source
-        .another_pass(&mut pass, &mut RefusingPlaces::new())
-        .err();
-    assert!(rt; refused == Some(X509SourceError::NoPlace));
+    assert!(rt; follows_first(&source, &mut pass, true));
+    assert!(rt; lacks_place(&source, &mut pass));
     Ok(())
 }
 
@@ -158,29 +188,40 @@ pub(crate) fn withdraw<R: Wait + Drop>(alloc: Global, desk: &mut Desk<R>) -> Res
     desk.publish(Step::Deny { reason })
 }
 
-/// What waits for a revision return: `changed`, and `wait_for` with those from that one on.
-fn awaited<R: Wait + Clock>(
-    rt: &R,
-    updates: &mut X509SourceUpdates,
-    least: u64,
-) -> (Result<u64, X509SourceError>, Result<u64, X509SourceError>) {
-    let taken = updates.wait_for(rt, |revision| *revision >= least);
-    (taken, updates.changed(rt))
+/// What a wait for a revision returned.
+#[derive(Clone, Copy, Debug, PartialEq, Eq)]
+enum Awaited {
+    Revision(u64),
+    Closed,
+    Other,
+}
+
+fn awaited_of(answer: Result<u64, X509SourceError>) -> Awaited {
+    match answer {
+        Ok(revision) => Awaited::Revision(revision),
+        Err(X509SourceError::Closed) => Awaited::Closed,
+        Err(_) => Awaited::Other,
+    }
+}
+
+/// What waits return: `wait_for` with the revisions from 1 on, and `changed`.
+fn waits<R: Wait + Clock>(rt: &R, updates: &mut X509SourceUpdates) -> (Awaited, Awaited) {
+    let taken = awaited_of(updates.wait_for(rt, |revision| *revision >= 1));
+    (taken, awaited_of(updates.changed(rt)))
 }
 
 /// Waits end at once where there is another revision, or the source is closed.
 #[test]
 fn waits_for_a_change(rt: HostRuntime) -> Result<(), Fail> {
-    let alloc = rt.alloc();
-    let (mut source, mut pass, mut desk, _stop) = opened(rt, alloc)?;
+    let (mut source, mut pass, mut desk, _stop) = opened(rt, rt.alloc())?;
     let mut updates = source.updated(&mut pass, &mut BoardPlaces::new())?;
     let mut late = source.updated(&mut pass, &mut BoardPlaces::new())?;
-    withdraw(alloc, &mut desk)?;
-    assert!(rt; awaited(&rt, &mut updates, 1) == (Ok(1), Ok(1)));
+    withdraw(rt.alloc(), &mut desk)?;
+    let first = Awaited::Revision(1);
+    assert!(rt; waits(&rt, &mut updates) == (first, first));
     source.shutdown();
-    let closed = || Err(X509SourceError::Closed);
-    assert!(rt; awaited(&rt, &mut late, 1) == (closed(), Ok(1)));
-    assert!(rt; awaited(&rt, &mut late, 1) == (closed(), closed()));
+    assert!(rt; waits(&rt, &mut late) == (Awaited::Closed, first));
+    assert!(rt; waits(&rt, &mut late) == (Awaited::Closed, Awaited::Closed));
     Ok(())
 }
 

@@ -1,0 +1,68 @@
+//! The record of a supervisor.
+
+use crate::building::{FixedClock, NoPause};
+use spf_feed::{NoPicker, Step};
+use spf_job::{InlineSpawner, StepWords};
+use spf_link::MemConnector;
+use spf_responses::{connector, good_link};
+use spf_x509_board::BoardPlaces;
+use spiffe::{Supervised, SupervisorEnd, X509Source};
+use std::alloc::Global;
+use std::sync::Wait;
+use std::test::Fail;
+
+/// What a record shows: how many events and steps, whether the first step accepts, and its end.
+#[derive(Clone, Copy, Debug, PartialEq, Eq)]
+struct Shown {
+    events: usize,
+    steps: usize,
+    accepts: bool,
+    is_closed: bool,
+}
+
+fn summary(record: &Supervised<NoPicker>) -> Shown {
+    Shown {
+        events: record.events().len(),
+        steps: record.steps().len(),
+        accepts: matches!(record.steps().first(), Some(Step::Accept { .. })),
+        is_closed: record.end() == SupervisorEnd::Closed,
+    }
+}
+
+/// What the record of a supervisor shows that runs where it is joined.
+fn record_at_join<R: Wait + Copy + Drop>(
+    rt: R,
+    alloc: Global,
+    connector: MemConnector,
+) -> Option<Shown> {
+    let built = X509Source::builder(connector).build(
+        rt,
+        alloc,
+        &mut FixedClock,
+        NoPause,
+        StepWords::new(0),
+        &mut InlineSpawner,
+        &mut BoardPlaces::new(),
+    );
+    let Ok((_source, mut pass, handle)) = built else {
+        return None;
+    };
+    match handle.close_and_join().into_record(&mut pass) {
+        Ok(record) => Some(summary(&record)),
+        Err(_) => None,
+    }
+}
+
+/// The row inline-record. The events are the moment, the client, the start and the item.
+#[test]
+fn inline_record(rt: HostRuntime) -> Result<(), Fail> {
+    let connector = connector(rt.alloc(), good_link(rt.alloc())?)?;
+    let wanted = Shown {
+        events: 4,
+        steps: 1,
+        accepts: true,
+        is_closed: true,
+    };
+    assert!(rt; record_at_join(rt, rt.alloc(), connector) == Some(wanted));
+    Ok(())
+}
