@@ -9,6 +9,8 @@ mod pass;
 mod places;
 mod shared_step;
 mod shown;
+#[cfg(test)]
+mod tests;
 
 pub use board::{open, settle};
 pub use desk::{JwtDesk, JwtEnded};

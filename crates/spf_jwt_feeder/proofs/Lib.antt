@@ -1,0 +1,7 @@
+pub mod FeedLemmas
+pub mod PaceLemmas
+pub mod OrderLemmas
+pub mod RunLemmas
+pub mod TellLemmas
+pub mod TimeLemmas
+pub mod TurnLemmas

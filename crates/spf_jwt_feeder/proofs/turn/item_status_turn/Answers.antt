@@ -1,0 +1,7 @@
+use Rattle.spf_jwt_feeder.proofs.TurnLemmas.{turn_of_status}
+use Rattle.spf_jwt_feeder.proofs.turn.item_status_turn.Goals as goal
+
+pub returns-clause-turn : goal.returns-clause-turn
+returns-clause-turn c =
+    turn_of_status c.args.synced c.from_status-answer.result c.args.status _ _
+    c.from_status-answer.ensures c.status_turn.ensures.turn

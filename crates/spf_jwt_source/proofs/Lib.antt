@@ -1,0 +1,6 @@
+mod Reading
+pub mod Failing
+pub mod Joining
+pub mod Leaving
+pub mod Tasks
+pub mod Untold
