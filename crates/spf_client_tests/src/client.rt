@@ -1,11 +1,12 @@
 //! The client over links of memory.
 
 use crate::link_doubles::{connector, link};
+use crate::shown::has_text;
 use spf_api::WorkloadApiError;
-use spf_client::WorkloadApiClient;
+use spf_client::{WorkloadApiClient, X509BundleStream, X509ContextStream, X509SvidStream};
 use spf_endpoint::Endpoint;
 use spf_io::Text;
-use spf_link::{MemLink, NoInterceptor};
+use spf_link::{MemConnector, MemLink, NoInterceptor};
 use spf_x509::{X509BundleSet, X509Context, X509Svid};
 use std::alloc::Global;
 use std::test::Fail;
@@ -16,205 +17,299 @@ fn client(alloc: Global, words: &[&str]) -> Result<Client, Fail> {
     Ok(WorkloadApiClient::new_with_link(None, link(alloc, words)?, NoInterceptor))
 }
 
-fn context_text(alloc: Global, context: &X509Context) -> Result<String, Fail> {
-    let svids = context.svids().len();
-    let bundles = context.bundle_set().len();
-    Ok(format!(in alloc; "{svids} SVIDs, {bundles} bundles")?)
+/// What a call of the client gives.
+#[derive(Clone, Copy, Debug)]
+enum Outcome {
+    /// So many SVIDs and bundles.
+    Context(usize, usize),
+    /// An SVID of that ID.
+    Svid(&'static str),
+    Svids(usize),
+    Bundles(usize),
+    /// An error with that text.
+    Error(&'static str),
+    /// The end of a stream.
+    Nothing,
 }
 
-fn svid_text(alloc: Global, svid: &X509Svid) -> Result<String, Fail> {
-    Ok(format!(in alloc; "{}", svid.spiffe_id())?)
+/// What a client fetches.
+trait Fetched {
+    /// Whether that is what it gives.
+    fn is_given(&self, wanted: Outcome) -> bool;
 }
 
-fn svids_text(alloc: Global, svids: &Vec<X509Svid>) -> Result<String, Fail> {
-    Ok(format!(in alloc; "{} SVIDs", svids.len())?)
-}
-
-fn bundles_text(alloc: Global, bundles: &X509BundleSet) -> Result<String, Fail> {
-    Ok(format!(in alloc; "{} bundles", bundles.len())?)
-}
-
-fn error_text(alloc: Global, e: &WorkloadApiError) -> Result<String, Fail> {
-    Ok(format!(in alloc; "{e}")?)
-}
-
-/// What the call of that name returns, as a text.
-fn fetched(alloc: Global, client: &mut Client, call: &str) -> Result<String, Fail> {
-    match call {
-        "svid" => match client.fetch_x509_svid(alloc) {
-            Ok(svid) => svid_text(alloc, &svid),
-            Err(e) => error_text(alloc, &e),
-        },
-        "svids" => match client.fetch_all_x509_svids(alloc) {
-            Ok(svids) => svids_text(alloc, &svids),
-            Err(e) => error_text(alloc, &e),
-        },
-        "context" => match client.fetch_x509_context(alloc) {
-            Ok(context) => context_text(alloc, &context),
-            Err(e) => error_text(alloc, &e),
-        },
-        _ => match client.fetch_x509_bundles(alloc) {
-            Ok(bundles) => bundles_text(alloc, &bundles),
-            Err(e) => error_text(alloc, &e),
-        },
+impl Fetched for X509Context {
+    fn is_given(&self, wanted: Outcome) -> bool {
+        match wanted {
+            Outcome::Context(svids, bundles) => {
+                self.svids().len() == svids && self.bundle_set().len() == bundles
+            }
+            _ => false,
+        }
     }
 }
 
-const UNAVAILABLE: &str = "gRPC status unavailable: ";
+impl Fetched for X509Svid {
+    fn is_given(&self, wanted: Outcome) -> bool {
+        match wanted {
+            Outcome::Svid(id) => self.spiffe_id().as_str() == id,
+            _ => false,
+        }
+    }
+}
 
-const EMPTY: &str = "empty Workload API response";
+impl Fetched for Vec<X509Svid> {
+    fn is_given(&self, wanted: Outcome) -> bool {
+        match wanted {
+            Outcome::Svids(count) => self.len() == count,
+            _ => false,
+        }
+    }
+}
 
-const NO_BUNDLES: &str =
-    "Workload API response is missing required field: X509BundlesResponse.bundles";
+impl Fetched for X509BundleSet {
+    fn is_given(&self, wanted: Outcome) -> bool {
+        match wanted {
+            Outcome::Bundles(count) => self.len() == count,
+            _ => false,
+        }
+    }
+}
 
-const BAD_KEY: &str = "failed to parse X.509 SVID: failed decoding PKCS#8 private key";
+fn is_error(alloc: Global, error: &WorkloadApiError, wanted: Outcome) -> bool {
+    match wanted {
+        Outcome::Error(text) => has_text(alloc, error, text),
+        _ => false,
+    }
+}
 
-/// Answers of the link, a call, and what it returns.
-const FETCHES: &[(&[&str], &str, &str)] = &[
-    (&["started", "first"], "context", "1 SVIDs, 1 bundles"),
-    (&["started", "first"], "svid", "spiffe://example.org/w"),
-    (&["started", "first"], "svids", "1 SVIDs"),
-    (&["started", "bundles"], "bundles", "1 bundles"),
-    (&["started", "end"], "context", EMPTY),
-    (&["started", "end"], "svid", EMPTY),
-    (&["started", "end"], "svids", EMPTY),
-    (&["started", "end"], "bundles", EMPTY),
-    (&["denied"], "context", "permission denied: no"),
-    (&["started", "denied"], "svids", "permission denied: no"),
-    (
-        &["started", "lost"],
-        "bundles",
-        "gRPC transport connection failed: gone",
-    ),
-    (&["memory"], "svid", "out of memory"),
-    (&["started", "memory"], "svid", "out of memory"),
-    (&["started", "no_bundles"], "bundles", NO_BUNDLES),
-    (&["started", "broken"], "svid", BAD_KEY),
+fn gives<T: Fetched + Drop>(
+    alloc: Global,
+    found: Result<T, WorkloadApiError>,
+    wanted: Outcome,
+) -> bool {
+    match found {
+        Ok(value) => value.is_given(wanted),
+        Err(error) => is_error(alloc, &error, wanted),
+    }
+}
+
+/// What is fetched.
+#[derive(Clone, Copy, Debug)]
+enum Call {
+    Context,
+    Svid,
+    Svids,
+    Bundles,
+}
+
+/// Whether the call gives that.
+fn fetches(alloc: Global, client: &mut Client, call: Call, wanted: Outcome) -> bool {
+    match call {
+        Call::Context => gives(alloc, client.fetch_x509_context(alloc), wanted),
+        Call::Svid => gives(alloc, client.fetch_x509_svid(alloc), wanted),
+        Call::Svids => gives(alloc, client.fetch_all_x509_svids(alloc), wanted),
+        Call::Bundles => gives(alloc, client.fetch_x509_bundles(alloc), wanted),
+    }
+}
+
+const UNAVAILABLE: Outcome = Outcome::Error("gRPC status unavailable: ");
+
+const EMPTY: Outcome = Outcome::Error("empty Workload API response");
+
+const DENIED: Outcome = Outcome::Error("permission denied: no");
+
+const LOST: Outcome = Outcome::Error("gRPC transport connection failed: gone");
+
+const MEMORY: Outcome = Outcome::Error("out of memory");
+
+const NO_BUNDLES: Outcome = Outcome::Error(
+    "Workload API response is missing required field: X509BundlesResponse.bundles",
+);
+
+const BAD_KEY: Outcome = Outcome::Error(
+    "failed to parse X.509 SVID: failed decoding PKCS#8 private key",
+);
+
+const FIRST: Outcome = Outcome::Svid("spiffe://example.org/w");
+
+/// Answers of the link, a call, and what it gives.
+const FETCHES: &[(&[&str], Call, Outcome)] = &[
+    (&["started", "first"], Call::Context, Outcome::Context(1, 1)),
+    (&["started", "first"], Call::Svid, FIRST),
+    (&["started", "first"], Call::Svids, Outcome::Svids(1)),
+    (&["started", "bundles"], Call::Bundles, Outcome::Bundles(1)),
+    (&["started", "end"], Call::Context, EMPTY),
+    (&["started", "end"], Call::Svid, EMPTY),
+    (&["started", "end"], Call::Svids, EMPTY),
+    (&["started", "end"], Call::Bundles, EMPTY),
+    (&["denied"], Call::Context, DENIED),
+    (&["started", "denied"], Call::Svids, DENIED),
+    (&["started", "lost"], Call::Bundles, LOST),
+    (&["memory"], Call::Svid, MEMORY),
+    (&["started", "memory"], Call::Svid, MEMORY),
+    (&["started", "no_bundles"], Call::Bundles, NO_BUNDLES),
+    (&["started", "broken"], Call::Svid, BAD_KEY),
     // After the last answer, and answers that do not fit the call.
-    (&[], "context", UNAVAILABLE),
-    (&["started"], "context", UNAVAILABLE),
-    (&["first"], "context", UNAVAILABLE),
-    (&["started", "started"], "context", UNAVAILABLE),
-    (&["started", "bundles"], "context", UNAVAILABLE),
-    (&["started", "first"], "bundles", UNAVAILABLE),
+    (&[], Call::Context, UNAVAILABLE),
+    (&["started"], Call::Context, UNAVAILABLE),
+    (&["first"], Call::Context, UNAVAILABLE),
+    (&["started", "started"], Call::Context, UNAVAILABLE),
+    (&["started", "bundles"], Call::Context, UNAVAILABLE),
+    (&["started", "first"], Call::Bundles, UNAVAILABLE),
 ];
+
+/// Whether the call of a client over a link with these answers gives that.
+fn is_fetched(alloc: Global, words: &[&str], call: Call, wanted: Outcome) -> Result<bool, Fail> {
+    let mut client = client(alloc, words)?;
+    Ok(fetches(alloc, &mut client, call, wanted))
+}
 
 #[test]
 fn client_fetches(rt: HostRuntime) -> Result<(), Fail> {
-    let alloc = rt.alloc();
-    for (words, call, wanted) in FETCHES {
-        let mut client = client(alloc, words)?;
-        let found = fetched(alloc, &mut client, call)?;
-        assert!(rt; found.as_str() == *wanted, "{call}: {found}");
+    for &(words, call, wanted) in FETCHES {
+        assert!(rt;
+            is_fetched(rt.alloc(), words, call, wanted)?,
+            "{words:?} {call:?}"
+        );
     }
     Ok(())
 }
 
-/// What the next calls of a stream of contexts return.
-fn contexts(alloc: Global, client: &mut Client, calls: usize) -> Result<String, Fail> {
-    let mut text = String::new(alloc);
-    let mut stream = match client.stream_x509_contexts(alloc) {
-        Ok(stream) => stream,
-        Err(e) => return error_text(alloc, &e),
-    };
-    for _ in 0..calls {
-        let item = match stream.next_item(alloc) {
-            None => String::from_str(alloc, "none")?,
-            Some(Ok(context)) => context_text(alloc, &context)?,
-            Some(Err(e)) => error_text(alloc, &e)?,
-        };
-        text.push_str(item.as_str())?;
-        text.push_str("; ")?;
-    }
-    Ok(text)
+/// A stream over a client.
+trait Stream {
+    /// Whether the next item is that.
+    fn is_next(&mut self, alloc: Global, wanted: Outcome) -> bool;
 }
 
-fn svids(alloc: Global, client: &mut Client, calls: usize) -> Result<String, Fail> {
-    let mut text = String::new(alloc);
-    let mut stream = match client.stream_x509_svids(alloc) {
-        Ok(stream) => stream,
-        Err(e) => return error_text(alloc, &e),
-    };
-    for _ in 0..calls {
-        let item = match stream.next_item(alloc) {
-            None => String::from_str(alloc, "none")?,
-            Some(Ok(svid)) => svid_text(alloc, &svid)?,
-            Some(Err(e)) => error_text(alloc, &e)?,
-        };
-        text.push_str(item.as_str())?;
-        text.push_str("; ")?;
+fn is_item<T: Fetched + Drop>(
+    alloc: Global,
+    item: Option<Result<T, WorkloadApiError>>,
+    wanted: Outcome,
+) -> bool {
+    match item {
+        Some(found) => gives(alloc, found, wanted),
+        None => matches!(wanted, Outcome::Nothing),
     }
-    Ok(text)
 }
 
-fn bundle_sets(alloc: Global, client: &mut Client, calls: usize) -> Result<String, Fail> {
-    let mut text = String::new(alloc);
-    let mut stream = match client.stream_x509_bundles(alloc) {
-        Ok(stream) => stream,
-        Err(e) => return error_text(alloc, &e),
-    };
-    for _ in 0..calls {
-        let item = match stream.next_item(alloc) {
-            None => String::from_str(alloc, "none")?,
-            Some(Ok(bundles)) => bundles_text(alloc, &bundles)?,
-            Some(Err(e)) => error_text(alloc, &e)?,
-        };
-        text.push_str(item.as_str())?;
-        text.push_str("; ")?;
+impl<'a> Stream for X509ContextStream<'a, MemLink> {
+    fn is_next(&mut self, alloc: Global, wanted: Outcome) -> bool {
+        is_item(alloc, self.next_item(alloc), wanted)
     }
-    Ok(text)
 }
 
-fn streamed(alloc: Global, client: &mut Client, call: &str, calls: usize) -> Result<String, Fail> {
+impl<'a> Stream for X509SvidStream<'a, MemLink> {
+    fn is_next(&mut self, alloc: Global, wanted: Outcome) -> bool {
+        is_item(alloc, self.next_item(alloc), wanted)
+    }
+}
+
+impl<'a> Stream for X509BundleStream<'a, MemLink> {
+    fn is_next(&mut self, alloc: Global, wanted: Outcome) -> bool {
+        is_item(alloc, self.next_item(alloc), wanted)
+    }
+}
+
+/// Whether the next items are these.
+fn are_next<S: Stream>(alloc: Global, stream: &mut S, wanted: &[Outcome]) -> bool {
+    for item in wanted {
+        if !stream.is_next(alloc, *item) {
+            return false;
+        }
+    }
+    true
+}
+
+/// Whether the items of a stream that was begun are these, or it was refused with that error.
+fn streams<S: Stream + Drop>(
+    alloc: Global,
+    begun: Result<S, WorkloadApiError>,
+    wanted: &[Outcome],
+) -> bool {
+    match begun {
+        Ok(mut stream) => are_next(alloc, &mut stream, wanted),
+        Err(error) => match wanted {
+            [only] => is_error(alloc, &error, *only),
+            _ => false,
+        },
+    }
+}
+
+/// Whether a stream of the kind that is named by one item gives these.
+fn is_streamed(
+    alloc: Global,
+    words: &[&str],
+    call: Call,
+    wanted: &[Outcome],
+) -> Result<bool, Fail> {
+    let mut client = client(alloc, words)?;
     match call {
-        "contexts" => contexts(alloc, client, calls),
-        "svids" => svids(alloc, client, calls),
-        _ => bundle_sets(alloc, client, calls),
+        Call::Context => Ok(streams(alloc, client.stream_x509_contexts(alloc), wanted)),
+        Call::Bundles => Ok(streams(alloc, client.stream_x509_bundles(alloc), wanted)),
+        _ => Ok(streams(alloc, client.stream_x509_svids(alloc), wanted)),
     }
 }
 
-/// Answers of the link, a kind of stream, and what four calls of it return.
-const STREAMS: &[(&[&str], &str, &str)] = &[
+/// Answers of the link, what a stream is of, and what its items are.
+const STREAMS: &[(&[&str], Call, &[Outcome])] = &[
     (
         &["started", "broken", "first", "end", "first"],
-        "contexts",
-        "failed to parse X.509 SVID: failed decoding PKCS#8 private key; 1 SVIDs, 1 bundles; none; \
-         none; ",
+        Call::Context,
+        &[
+            BAD_KEY,
+            Outcome::Context(1, 1),
+            Outcome::Nothing,
+            Outcome::Nothing,
+        ],
     ),
     (
         &["started", "broken", "first", "end", "first"],
-        "svids",
-        "failed to parse X.509 SVID: failed decoding PKCS#8 private key; spiffe://example.org/w; \
-         none; none; ",
+        Call::Svid,
+        &[BAD_KEY, FIRST, Outcome::Nothing, Outcome::Nothing],
     ),
     (
         &["started", "no_bundles", "bundles", "end", "bundles"],
-        "bundles",
-        "Workload API response is missing required field: X509BundlesResponse.bundles; 1 bundles; \
-         none; none; ",
+        Call::Bundles,
+        &[
+            NO_BUNDLES,
+            Outcome::Bundles(1),
+            Outcome::Nothing,
+            Outcome::Nothing,
+        ],
     ),
     (
         &["started", "memory", "first", "denied", "first"],
-        "svids",
-        "out of memory; spiffe://example.org/w; permission denied: no; none; ",
+        Call::Svid,
+        &[MEMORY, FIRST, DENIED, Outcome::Nothing],
     ),
     (
         &["started", "bundles", "first"],
-        "contexts",
-        "gRPC status unavailable: ; none; none; none; ",
+        Call::Context,
+        &[
+            UNAVAILABLE,
+            Outcome::Nothing,
+            Outcome::Nothing,
+            Outcome::Nothing,
+        ],
     ),
-    (&["denied", "started"], "contexts", "permission denied: no"),
+    (&["denied", "started"], Call::Context, &[DENIED]),
 ];
 
 #[test]
 fn client_streams(rt: HostRuntime) -> Result<(), Fail> {
-    let alloc = rt.alloc();
-    for (words, call, wanted) in STREAMS {
-        let mut client = client(alloc, words)?;
-        let found = streamed(alloc, &mut client, call, 4)?;
-        assert!(rt; found.as_str() == *wanted, "{call}: {found}");
+    for &(words, call, wanted) in STREAMS {
+        assert!(rt;
+            is_streamed(rt.alloc(), words, call, wanted)?,
+            "{words:?} {call:?}"
+        );
     }
     Ok(())
+}
+
+/// Whether the first item of a stream of contexts is that. The stream is left behind it.
+fn streams_one(alloc: Global, client: &mut Client, wanted: Outcome) -> bool {
+    streams(alloc, client.stream_x509_contexts(alloc), &[wanted])
 }
 
 /// A client fetches again, also where it has left a stream.
@@ -223,53 +318,57 @@ fn client_asks_again(rt: HostRuntime) -> Result<(), Fail> {
     let alloc = rt.alloc();
     let words = ["started", "first", "started", "first", "started", "bundles"];
     let mut client = client(alloc, &words)?;
-    assert_eq!(rt;
-        contexts(alloc, &mut client, 1)?.as_str(),
-        "1 SVIDs, 1 bundles; "
-    );
-    assert_eq!(rt;
-        fetched(alloc, &mut client, "svid")?.as_str(),
-        "spiffe://example.org/w"
-    );
-    assert_eq!(rt;
-        fetched(alloc, &mut client, "bundles")?.as_str(),
-        "1 bundles"
-    );
-    assert_eq!(rt;
-        fetched(alloc, &mut client, "bundles")?.as_str(),
-        UNAVAILABLE
-    );
+    assert!(rt; streams_one(alloc, &mut client, Outcome::Context(1, 1)));
+    assert!(rt; fetches(alloc, &mut client, Call::Svid, FIRST));
+    assert!(rt; fetches(alloc, &mut client, Call::Bundles, Outcome::Bundles(1)));
+    assert!(rt; fetches(alloc, &mut client, Call::Bundles, UNAVAILABLE));
     Ok(())
+}
+
+/// Whether a client keeps the endpoint of that path.
+fn keeps_endpoint(alloc: Global, path: &str) -> Result<bool, Fail> {
+    let endpoint = Endpoint::Unix(Text::copy_of(alloc, path)?);
+    let wanted = endpoint.try_clone(alloc)?;
+    let link = link(alloc, &[])?;
+    let client = WorkloadApiClient::new_with_link(Some(endpoint), link, NoInterceptor);
+    Ok(client.endpoint() == Some(&wanted))
 }
 
 #[test]
 fn client_endpoint(rt: HostRuntime) -> Result<(), Fail> {
-    let alloc = rt.alloc();
-    assert!(rt; client(alloc, &[])?.endpoint().is_none());
-    let path = Text::copy_of(alloc, "/foo")?;
-    let empty = link(alloc, &[])?;
-    let named = WorkloadApiClient::new_with_link(Some(Endpoint::Unix(path)), empty, NoInterceptor);
-    let wanted = Endpoint::Unix(Text::copy_of(alloc, "/foo")?);
-    assert!(rt; named.endpoint() == Some(&wanted));
+    assert!(rt; client(rt.alloc(), &[])?.endpoint().is_none());
+    assert!(rt; keeps_endpoint(rt.alloc(), "/foo")?);
     Ok(())
 }
+
+/// Whether the next client of the connector has no endpoint and fetches so many SVIDs.
+fn connects(alloc: Global, connector: &mut MemConnector, svids: usize) -> bool {
+    match WorkloadApiClient::connect_over(connector) {
+        Ok(mut client) => {
+            client.endpoint().is_none()
+                && fetches(alloc, &mut client, Call::Svids, Outcome::Svids(svids))
+        }
+        Err(_) => false,
+    }
+}
+
+/// Whether there is no next client, for that error.
+fn is_refused(alloc: Global, connector: &mut MemConnector, wanted: Outcome) -> bool {
+    match WorkloadApiClient::connect_over(connector) {
+        Ok(_) => false,
+        Err(error) => is_error(alloc, &error, wanted),
+    }
+}
+
+const NOBODY: Outcome = Outcome::Error("gRPC transport connection failed: nobody listens");
 
 #[test]
 fn client_over_a_connector(rt: HostRuntime) -> Result<(), Fail> {
     let alloc = rt.alloc();
     let mut connector = connector(alloc, &["started", "first"])?;
-    let mut client = WorkloadApiClient::connect_over(&mut connector)?;
-    assert!(rt; client.endpoint().is_none());
-    assert_eq!(rt; fetched(alloc, &mut client, "svids")?.as_str(), "1 SVIDs");
-    for wanted in [
-        "permission denied: no",
-        "gRPC transport connection failed: nobody listens",
-        UNAVAILABLE,
-    ] {
-        let Err(e) = WorkloadApiClient::connect_over(&mut connector) else {
-            return Err(Fail::from("a client"));
-        };
-        assert_eq!(rt; error_text(alloc, &e)?.as_str(), wanted);
+    assert!(rt; connects(alloc, &mut connector, 1));
+    for wanted in [DENIED, NOBODY, UNAVAILABLE] {
+        assert!(rt; is_refused(alloc, &mut connector, wanted), "{wanted:?}");
     }
     Ok(())
 }

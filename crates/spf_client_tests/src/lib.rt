@@ -8,6 +8,10 @@ mod link;
 #[cfg(test)]
 mod link_doubles;
 #[cfg(test)]
+mod serving;
+#[cfg(test)]
+mod shown;
+#[cfg(test)]
 mod socket;
 #[cfg(test)]
 mod wire;

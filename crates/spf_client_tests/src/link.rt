@@ -4,7 +4,7 @@ ghost use Rattle.spf_link.specs.Interceptor.{IsIntercepted};
 ghost use Rattle.spf_client_tests.specs.Interceptors.{set_to_false_in};
 
 use spf_api::{GrpcStatusCode, GrpcStatusError, TransportError, WorkloadApiError};
-use spf_io::Text;
+use spf_io::{OutOfMemory, Text};
 use spf_link::{
     Headers, InterceptFunction, Interceptor, InterceptorFault, InterceptorFn, MetadataAdder,
     NoInterceptor,
@@ -62,67 +62,72 @@ impl Interceptor for Expired {
     }
 }
 
-/// The headers in order, each as its name, `=`, its value and a space.
-fn spelled(alloc: Global, headers: &Headers) -> Result<String, Fail> {
-    let mut text = String::new(alloc);
-    for (name, value) in headers.entries() {
-        text.push_str(name.as_str())?;
-        text.push_str("=")?;
-        text.push_str(value.as_str())?;
-        text.push_str(" ")?;
+/// Whether these are the headers, in order, each as its name and its value.
+fn are_headers(headers: &Headers, wanted: &[(&str, &str)]) -> bool {
+    headers.entries().len() == wanted.len() && begin_with(headers, wanted)
+}
+
+/// Whether the headers begin with these, where there are as many.
+fn begin_with(headers: &Headers, wanted: &[(&str, &str)]) -> bool {
+    for ((name, value), (wanted_name, wanted_value)) in headers.entries().iter().zip(wanted) {
+        if name.as_str() != *wanted_name || value.as_str() != *wanted_value {
+            return false;
+        }
     }
-    Ok(text)
+    true
+}
+
+/// Headers that are set one after the other.
+fn headers_of(alloc: Global, entries: &[(&str, &str)]) -> Result<Headers, OutOfMemory> {
+    let mut headers = Headers::new(alloc);
+    for (name, value) in entries {
+        headers.set(name, value)?;
+    }
+    Ok(headers)
 }
 
 #[test]
 fn headers(rt: HostRuntime) -> Result<(), Fail> {
-    let alloc = rt.alloc();
-    let mut headers = Headers::new(alloc);
-    for (name, value) in [("a", "1"), ("b", "2"), ("c", "3"), ("a", "4")] {
-        headers.set(name, value)?;
-    }
-    assert_eq!(rt; spelled(alloc, &headers)?.as_str(), "a=4 b=2 c=3 ");
+    let entries = [("a", "1"), ("b", "2"), ("c", "3"), ("a", "4")];
+    let mut headers = headers_of(rt.alloc(), &entries)?;
+    assert!(rt; are_headers(&headers, &[("a", "4"), ("b", "2"), ("c", "3")]));
     headers.remove("b");
     headers.remove("B");
-    assert_eq!(rt; spelled(alloc, &headers)?.as_str(), "a=4 c=3 ");
-    assert_eq!(rt; headers.get("c"), Some("3"));
-    assert_eq!(rt; headers.get("b"), None);
+    assert!(rt; are_headers(&headers, &[("a", "4"), ("c", "3")]));
+    assert!(rt; headers.get("c") == Some("3"));
+    assert!(rt; headers.get("b").is_none());
     Ok(())
 }
 
 #[test]
 fn metadata_header(rt: HostRuntime) -> Result<(), Fail> {
-    let alloc = rt.alloc();
-    let mut headers = Headers::new(alloc);
-    headers.set("x", "1")?;
+    let mut headers = headers_of(rt.alloc(), &[("x", "1")])?;
     let interceptor = InterceptorFn::<_, SetsFalse>::new(|headers: &mut Headers| set_to_false(
         headers,
     ));
-    assert_eq!(rt; MetadataAdder::new(interceptor).call(&mut headers), Ok(()));
-    assert_eq!(rt;
-        spelled(alloc, &headers)?.as_str(),
-        "x=1 workload.spiffe.io=true "
-    );
-    assert_eq!(rt;
-        MetadataAdder::new(NoInterceptor).call(&mut headers),
-        Ok(())
-    );
-    assert_eq!(rt;
-        spelled(alloc, &headers)?.as_str(),
-        "x=1 workload.spiffe.io=true "
-    );
+    let wanted = [("x", "1"), ("workload.spiffe.io", "true")];
+    assert!(rt; MetadataAdder::new(interceptor).call(&mut headers) == Ok(()));
+    assert!(rt; are_headers(&headers, &wanted));
+    assert!(rt; MetadataAdder::new(NoInterceptor).call(&mut headers) == Ok(()));
+    assert!(rt; are_headers(&headers, &wanted));
     Ok(())
+}
+
+/// The status by which `Expired` refuses.
+fn refusal(alloc: Global) -> Result<WorkloadApiError, OutOfMemory> {
+    let message = Text::copy_of(alloc, "token expired")?;
+    let status = TransportError::status(GrpcStatusCode::Internal, message);
+    Ok(WorkloadApiError::Transport(status))
 }
 
 /// A refusal is the status of the interceptor, and no header is added.
 #[test]
 fn metadata_refused(rt: HostRuntime) -> Result<(), Fail> {
     let alloc = rt.alloc();
+    let wanted = refusal(alloc)?;
     let mut headers = Headers::new(alloc);
-    let message = Text::copy_of(alloc, "token expired")?;
-    let status = TransportError::status(GrpcStatusCode::Internal, message);
     let refused = MetadataAdder::new(Expired { alloc }).call(&mut headers);
-    assert_eq!(rt; refused, Err(WorkloadApiError::Transport(status)));
-    assert_eq!(rt; headers.entries().len(), 0);
+    assert!(rt; refused == Err(wanted));
+    assert!(rt; headers.entries().is_empty());
     Ok(())
 }

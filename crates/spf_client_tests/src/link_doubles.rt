@@ -1,11 +1,12 @@
 //! Links and connectors of memory, whose answers are spelled by words.
 
+use crate::shown::has_text;
 use spf_api::{
     BundlesResponse, ClientFault, GrpcStatusCode, GrpcStatusError, LinkFault, Response,
     TransportConnectError,
 };
-use spf_io::{List, Text};
-use spf_link::{Answer, Connector, Headers, Link, MemConnector, MemLink, Request};
+use spf_io::{List, OutOfMemory, Text};
+use spf_link::{Answer, Connector, Headers, Link, MemConnector, MemLink, Request, Start};
 use spf_responses::{FIRST, SvidRow, bundle_entries, context};
 use std::alloc::Global;
 use std::test::Fail;
@@ -18,14 +19,26 @@ const BROKEN: SvidRow<'static> = SvidRow {
     hint: "",
 };
 
-fn denied(alloc: Global) -> Result<GrpcStatusError, Fail> {
+fn denied(alloc: Global) -> Result<GrpcStatusError, OutOfMemory> {
     let message = Text::copy_of(alloc, "no")?;
     Ok(GrpcStatusError::new(GrpcStatusCode::PermissionDenied, message))
 }
 
+fn lost(alloc: Global) -> Result<TransportConnectError, OutOfMemory> {
+    let source = Text::copy_of(alloc, "gone")?;
+    Ok(TransportConnectError::new(source))
+}
+
+/// An answer of bundles.
 fn bundles(alloc: Global, rows: &[(&str, &str)]) -> Result<Answer, Fail> {
     let bundles = bundle_entries(alloc, rows)?;
     Ok(Answer::Item(Response::Bundles(BundlesResponse { bundles })))
+}
+
+/// An answer of one SVID.
+fn svid(alloc: Global, row: SvidRow<'_>) -> Result<Answer, Fail> {
+    let response = context(alloc, &[row], &[])?;
+    Ok(Answer::Item(Response::Context(response)))
 }
 
 /// The answer that the word spells.
@@ -34,22 +47,12 @@ fn answer(alloc: Global, word: &str) -> Result<Answer, Fail> {
         "started" => Ok(Answer::Started),
         "end" => Ok(Answer::End),
         "denied" => Ok(Answer::Refused(LinkFault::Status(denied(alloc)?))),
-        "lost" => {
-            let source = Text::copy_of(alloc, "gone")?;
-            let e = TransportConnectError::new(source);
-            Ok(Answer::Refused(LinkFault::Connect(e)))
-        }
+        "lost" => Ok(Answer::Refused(LinkFault::Connect(lost(alloc)?))),
         "memory" => Ok(Answer::Refused(LinkFault::OutOfMemory)),
         "no_bundles" => bundles(alloc, &[]),
         "bundles" => bundles(alloc, &[("example.org", "ROOT1")]),
-        "broken" => {
-            let response = context(alloc, &[BROKEN], &[])?;
-            Ok(Answer::Item(Response::Context(response)))
-        }
-        _ => {
-            let response = context(alloc, &[FIRST], &[])?;
-            Ok(Answer::Item(Response::Context(response)))
-        }
+        "broken" => svid(alloc, BROKEN),
+        _ => svid(alloc, FIRST),
     }
 }
 
@@ -62,33 +65,43 @@ pub fn link(alloc: Global, words: &[&str]) -> Result<MemLink, Fail> {
     Ok(MemLink::new(alloc, answers))
 }
 
+fn nobody(alloc: Global) -> Result<ClientFault, OutOfMemory> {
+    let text = Text::copy_of(alloc, "nobody listens")?;
+    Ok(ClientFault::Unreachable(text))
+}
+
 /// A connector that gives a link with these answers,
 /// then a denial and an endpoint that is not there.
 pub fn connector(alloc: Global, words: &[&str]) -> Result<MemConnector, Fail> {
     let mut links = Vec::new(alloc);
     links.push(Ok(link(alloc, words)?))?;
     links.push(Err(ClientFault::Status(denied(alloc)?)))?;
-    let text = Text::copy_of(alloc, "nobody listens")?;
-    links.push(Err(ClientFault::Unreachable(text)))?;
+    links.push(Err(nobody(alloc)?))?;
     Ok(MemConnector::new(alloc, links))
 }
 
-fn started(alloc: Global, link: &mut MemLink, request: &Request) -> Result<String, Fail> {
+/// Whether that is what a `start` with the header `a` returns: `started`, or the text of a refusal.
+fn is_started(alloc: Global, link: &mut MemLink, request: &Request, wanted: &str) -> bool {
     let mut headers = Headers::new(alloc);
-    headers.set("a", "1")?;
+    if headers.set("a", "1").is_err() {
+        return false;
+    }
     match link.start(&headers, request) {
-        Ok(()) => Ok(String::from_str(alloc, "started")?),
-        Err(e) => Ok(format!(in alloc; "{e}")?),
+        Ok(()) => wanted == "started",
+        Err(fault) => has_text(alloc, &fault, wanted),
     }
 }
 
-fn next(alloc: Global, link: &mut MemLink) -> Result<String, Fail> {
+/// Whether that is what `next` returns: `item`, `end`, or the text of a refusal.
+fn is_next(alloc: Global, link: &mut MemLink, wanted: &str) -> bool {
     match link.next() {
-        Ok(Some(_)) => Ok(String::from_str(alloc, "item")?),
-        Ok(None) => Ok(String::from_str(alloc, "end")?),
-        Err(e) => Ok(format!(in alloc; "{e}")?),
+        Ok(Some(_)) => wanted == "item",
+        Ok(None) => wanted == "end",
+        Err(fault) => has_text(alloc, &fault, wanted),
     }
 }
+
+const UNAVAILABLE: &str = "gRPC status unavailable: ";
 
 /// A `start` takes one answer, and so does each `next`: what does not fit refuses like none.
 #[test]
@@ -98,77 +111,109 @@ fn link_answers_in_turn(rt: HostRuntime) -> Result<(), Fail> {
         "first", "started", "first", "bundles", "started", "end", "first",
     ];
     let mut link = link(alloc, &words)?;
-    let request = Request::X509Svid;
-    let unavailable = "gRPC status unavailable: ";
-    assert_eq!(rt; next(alloc, &mut link)?.as_str(), unavailable);
-    assert_eq!(rt; started(alloc, &mut link, &request)?.as_str(), "started");
-    assert_eq!(rt; next(alloc, &mut link)?.as_str(), "item");
-    for _ in 0..2 {
-        assert_eq!(rt; next(alloc, &mut link)?.as_str(), unavailable);
+    assert!(rt; is_next(alloc, &mut link, UNAVAILABLE));
+    assert!(rt; is_started(alloc, &mut link, &Request::X509Svid, "started"));
+    for wanted in [
+        "item",
+        UNAVAILABLE,
+        UNAVAILABLE,
+        "end",
+        "item",
+        UNAVAILABLE,
+        UNAVAILABLE,
+    ] {
+        assert!(rt; is_next(alloc, &mut link, wanted), "{wanted}");
     }
-    for wanted in ["end", "item", unavailable, unavailable] {
-        assert_eq!(rt; next(alloc, &mut link)?.as_str(), wanted);
-    }
-    assert_eq!(rt; started(alloc, &mut link, &request)?.as_str(), unavailable);
+    assert!(rt; is_started(alloc, &mut link, &Request::X509Svid, UNAVAILABLE));
     Ok(())
+}
+
+/// A request with the audience `a` and the token `t`.
+fn validation(alloc: Global) -> Result<Request, OutOfMemory> {
+    let audience = Text::copy_of(alloc, "a")?;
+    let svid = Text::copy_of(alloc, "t")?;
+    Ok(Request::ValidateJwt { audience, svid })
+}
+
+/// Whether two starts were kept: one for SVIDs, and one with the header `a` for that request.
+fn are_kept(starts: &[Start], request: &Request) -> bool {
+    match starts {
+        [first, second] => {
+            first.request == Request::X509Svid
+                && second.request == *request
+                && second.headers.get("a") == Some("1")
+        }
+        _ => false,
+    }
 }
 
 /// Each `start` but one that is out of memory is kept with its headers.
 #[test]
 fn link_keeps_starts(rt: HostRuntime) -> Result<(), Fail> {
     let alloc = rt.alloc();
+    let request = validation(alloc)?;
     let mut link = link(alloc, &["started", "memory", "denied"])?;
-    assert_eq!(rt;
-        started(alloc, &mut link, &Request::X509Svid)?.as_str(),
-        "started"
-    );
-    assert_eq!(rt;
-        started(alloc, &mut link, &Request::JwtBundles)?.as_str(),
-        "out of memory"
-    );
-    let request = Request::ValidateJwt {
-        audience: Text::copy_of(alloc, "a")?,
-        svid: Text::copy_of(alloc, "t")?,
-    };
-    let refused = started(alloc, &mut link, &request)?;
-    assert_eq!(rt; refused.as_str(), "gRPC status permission_denied: no");
-    assert_eq!(rt; link.starts().len(), 2);
-    assert!(rt; link.starts()[0].request == Request::X509Svid);
-    assert!(rt; link.starts()[1].request == request);
-    assert_eq!(rt; link.starts()[1].headers.get("a"), Some("1"));
+    assert!(rt; is_started(alloc, &mut link, &Request::X509Svid, "started"));
+    assert!(rt; is_started(alloc, &mut link, &Request::JwtBundles, "out of memory"));
+    let denied = "gRPC status permission_denied: no";
+    assert!(rt; is_started(alloc, &mut link, &request, denied));
+    assert!(rt; are_kept(link.starts(), &request));
     Ok(())
+}
+
+/// The audiences `a` and `b`.
+fn audiences(alloc: Global) -> Result<List<Text>, OutOfMemory> {
+    let mut audiences = Vec::new(alloc);
+    for text in ["a", "b"] {
+        audiences.push(Text::copy_of(alloc, text)?)?;
+    }
+    Ok(List::new(audiences))
+}
+
+/// A request for a token of that ID for two audiences.
+fn token_request(alloc: Global) -> Result<Request, OutOfMemory> {
+    let spiffe_id = Text::copy_of(alloc, "spiffe://example.org/w")?;
+    let audience = audiences(alloc)?;
+    Ok(Request::JwtSvid {
+        spiffe_id,
+        audience,
+    })
+}
+
+fn equals_its_copy(alloc: Global, request: &Request) -> bool {
+    match request.try_clone(alloc) {
+        Ok(copy) => copy == *request,
+        Err(_) => false,
+    }
 }
 
 #[test]
 fn request_is_copied(rt: HostRuntime) -> Result<(), Fail> {
-    let alloc = rt.alloc();
-    let mut audience = Vec::new(alloc);
-    audience.push(Text::copy_of(alloc, "a")?)?;
-    audience.push(Text::copy_of(alloc, "b")?)?;
-    let request = Request::JwtSvid {
-        spiffe_id: Text::copy_of(alloc, "spiffe://example.org/w")?,
-        audience: List::new(audience),
-    };
-    assert!(rt; request.try_clone(alloc)? == request);
-    assert!(rt; Request::X509Bundles.try_clone(alloc)? == Request::X509Bundles);
+    assert!(rt; equals_its_copy(rt.alloc(), &token_request(rt.alloc())?));
+    assert!(rt; equals_its_copy(rt.alloc(), &Request::X509Bundles));
     Ok(())
+}
+
+/// Whether there is no next link, for a reason of that text.
+fn is_unreachable(alloc: Global, connector: &mut MemConnector, wanted: &str) -> bool {
+    match connector.connect() {
+        Ok(_) => false,
+        Err(fault) => has_text(alloc, &fault, wanted),
+    }
 }
 
 #[test]
 fn connector_gives_links_in_turn(rt: HostRuntime) -> Result<(), Fail> {
     let alloc = rt.alloc();
     let mut connector = connector(alloc, &["started"])?;
-    assert_eq!(rt; connector.validate(), Ok(()));
+    assert!(rt; connector.validate() == Ok(()));
     assert!(rt; connector.connect().is_ok());
     for wanted in [
         "gRPC status permission_denied: no",
         "nobody listens",
-        "gRPC status unavailable: ",
+        UNAVAILABLE,
     ] {
-        let Err(e) = connector.connect() else {
-            return Err(Fail::from("a link"));
-        };
-        assert_eq!(rt; format!(in alloc; "{e}")?.as_str(), wanted);
+        assert!(rt; is_unreachable(alloc, &mut connector, wanted), "{wanted}");
     }
     Ok(())
 }

@@ -2,62 +2,94 @@
 
 use spf_api::{LinkFault, Response};
 use spf_fixtures::octets;
-use spf_io::{MemSink, MemSource, Text};
+use spf_io::{MemSink, MemSource, OutOfMemory, Text};
 use spf_link::{Headers, Link, Request};
 use spf_responses::first_item;
 use spf_wire::WireLink;
 use std::alloc::Global;
 use std::test::Fail;
 
-/// What a link over memory reads, `s` for each `start` and
-/// `n` for each `next`, and what they return, in order.
-static CALLS: [(&str, &str, &str); 27] = [
-    ("CN I1 07 00000000", "snn", "started item end "),
-    ("0a", "s", "internal "),
-    ("", "s", "internal "),
-    ("03", "s", "internal "),
-    ("03 000000", "s", "internal "),
-    ("04 00000006 0e 00000001 78", "s", "unavailable "),
-    ("04 00000005 0c 00000000", "s", "unimplemented "),
-    ("CN IS7no", "sn", "started permission_denied "),
+/// A call of a link.
+#[derive(Clone, Copy)]
+enum Call {
+    Start,
+    Next,
+}
+
+use Call::{Next, Start};
+
+/// Calls of a link in order, each with what it returns.
+type Calls = &'static [(Call, &'static str)];
+
+/// What a link over memory reads, and what calls of it return.
+static CALLS: [(&str, Calls); 27] = [
+    (
+        "CN I1 07 00000000",
+        &[(Start, "started"), (Next, "item"), (Next, "end")],
+    ),
+    ("0a", &[(Start, "internal")]),
+    ("", &[(Start, "internal")]),
+    ("03", &[(Start, "internal")]),
+    ("03 000000", &[(Start, "internal")]),
+    ("04 00000006 0e 00000001 78", &[(Start, "unavailable")]),
+    ("04 00000005 0c 00000000", &[(Start, "unimplemented")]),
+    (
+        "CN IS7no",
+        &[(Start, "started"), (Next, "permission_denied")],
+    ),
     (
         "CN I1 I1 07 00000000 CN I1",
-        "snsn",
-        "started item started item ",
+        &[
+            (Start, "started"),
+            (Next, "item"),
+            (Start, "started"),
+            (Next, "item"),
+        ],
     ),
     (
         "CN I1 I1 CS12 CN",
-        "snss",
-        "started item unimplemented started ",
+        &[
+            (Start, "started"),
+            (Next, "item"),
+            (Start, "unimplemented"),
+            (Start, "started"),
+        ],
     ),
-    ("CN I1 0a", "sns", "started item internal "),
-    ("CN I1 0a", "ss", "started internal "),
+    (
+        "CN I1 0a",
+        &[(Start, "started"), (Next, "item"), (Start, "internal")],
+    ),
+    ("CN I1 0a", &[(Start, "started"), (Start, "internal")]),
     (
         "CN 05 00000001 ff 06 00000000 CN I1",
-        "ssn",
-        "started started item ",
+        &[(Start, "started"), (Start, "started"), (Next, "item")],
     ),
     // Kinds that may not stand.
-    ("I1", "n", "internal "),
-    ("I1", "s", "internal "),
-    ("CN CN", "sn", "started internal "),
-    ("CN CS12", "sn", "started internal "),
-    ("CL", "s", "internal "),
-    ("CN M0", "sn", "started internal "),
+    ("I1", &[(Next, "internal")]),
+    ("I1", &[(Start, "internal")]),
+    ("CN CN", &[(Start, "started"), (Next, "internal")]),
+    ("CN CS12", &[(Start, "started"), (Next, "internal")]),
+    ("CL", &[(Start, "internal")]),
+    ("CN M0", &[(Start, "started"), (Next, "internal")]),
     // Lengths past 2^24, and answers that end inside.
-    ("03 01000001", "s", "internal "),
-    ("CN 05 ffffffff", "sn", "started internal "),
-    ("CN 05 01000000 00", "sn", "started internal "),
+    ("03 01000001", &[(Start, "internal")]),
+    ("CN 05 ffffffff", &[(Start, "started"), (Next, "internal")]),
+    (
+        "CN 05 01000000 00",
+        &[(Start, "started"), (Next, "internal")],
+    ),
     // Payloads that lay out nothing.
-    ("03 00000001 00", "s", "internal "),
-    ("CN 05 00000004 ffffffff", "sn", "started internal "),
-    ("04 00000005 11 00000000", "s", "internal "),
+    ("03 00000001 00", &[(Start, "internal")]),
+    (
+        "CN 05 00000004 ffffffff",
+        &[(Start, "started"), (Next, "internal")],
+    ),
+    ("04 00000005 11 00000000", &[(Start, "internal")]),
     // Texts that are not UTF-8.
-    ("04 00000006 0e 00000001 ff", "s", "internal "),
+    ("04 00000006 0e 00000001 ff", &[(Start, "internal")]),
     (
         "CN 05 00000021 00000001 00000001 ff 00000000 00000000 00000000 00000000 00000000 00000000",
-        "sn",
-        "started internal ",
+        &[(Start, "started"), (Next, "internal")],
     ),
 ];
 
@@ -84,6 +116,8 @@ fn next_name(next: &Result<Option<Response>, LinkFault>) -> &'static str {
     }
 }
 
+/// A source of the octets that the text spells, in pieces of at
+/// most these lengths, whose reads of these numbers fail.
 fn source_of(
     alloc: Global,
     text: &str,
@@ -93,103 +127,149 @@ fn source_of(
     Ok(MemSource::new(octets(alloc, text)?, cuts, failing))
 }
 
-/// What one call returns.
-fn call_name(link: &mut WireLink<MemSource, MemSink>, headers: &Headers, call: u8) -> &'static str {
-    if call == b's' {
-        return start_name(&link.start(headers, &Request::X509Svid));
-    }
-    next_name(&link.next())
+type MemWire = WireLink<MemSource, MemSink>;
+
+/// A link over that source and a sink with room.
+fn over(alloc: Global, source: MemSource) -> Result<MemWire, Fail> {
+    let sink = MemSink::new(alloc, 200, Vec::new(alloc))?;
+    Ok(WireLink::new(alloc, source, sink))
 }
 
-/// What the calls return, one after another, over a source that gives its octets in these cuts.
-fn names(alloc: Global, source: MemSource, calls: &str) -> Result<String, Fail> {
-    let sink = MemSink::new(alloc, 100, Vec::new(alloc))?;
-    let mut link = WireLink::new(alloc, source, sink);
-    let headers = Headers::new(alloc);
-    let mut names = String::new(alloc);
-    for call in calls.as_bytes() {
-        names.push_str(call_name(&mut link, &headers, *call))?;
-        names.push_str(" ")?;
+/// What one call returns.
+fn call_name(link: &mut MemWire, headers: &Headers, call: Call) -> &'static str {
+    match call {
+        Call::Start => start_name(&link.start(headers, &Request::X509Svid)),
+        Call::Next => next_name(&link.next()),
     }
-    Ok(names)
+}
+
+/// Whether the calls return that, one after another.
+fn are_answered(alloc: Global, mut link: MemWire, calls: Calls) -> bool {
+    let headers = Headers::new(alloc);
+    for (call, wanted) in calls {
+        if call_name(&mut link, &headers, *call) != *wanted {
+            return false;
+        }
+    }
+    true
+}
+
+/// The same of calls over what the text spells.
+fn answers_whole(alloc: Global, text: &str, calls: Calls) -> Result<bool, Fail> {
+    let source = source_of(alloc, text, Vec::new(alloc), Vec::new(alloc))?;
+    Ok(are_answered(alloc, over(alloc, source)?, calls))
+}
+
+/// The same, one octet at a time.
+fn answers_in_pieces(alloc: Global, text: &str, calls: Calls) -> Result<bool, Fail> {
+    let cuts = vec![in alloc; 1usize; 600]?;
+    let source = source_of(alloc, text, cuts, Vec::new(alloc))?;
+    Ok(are_answered(alloc, over(alloc, source)?, calls))
 }
 
 #[test]
 fn answers(rt: HostRuntime) -> Result<(), Fail> {
-    let alloc = rt.alloc();
-    for (text, calls, wanted) in CALLS.iter() {
-        let source = source_of(alloc, text, Vec::new(alloc), Vec::new(alloc))?;
-        assert!(rt; names(alloc, source, calls)?.as_str() == *wanted, "{text}");
-        // One octet at a time.
-        let source = source_of(alloc, text, vec![in alloc; 1usize; 600]?, Vec::new(alloc))?;
-        assert!(rt; names(alloc, source, calls)?.as_str() == *wanted, "{text}");
+    for &(text, calls) in CALLS.iter() {
+        assert!(rt; answers_whole(rt.alloc(), text, calls)?, "{text}");
+        assert!(rt; answers_in_pieces(rt.alloc(), text, calls)?, "{text}");
     }
     Ok(())
+}
+
+/// Whether what was put is what the text spells.
+fn has_put(alloc: Global, link: &MemWire, text: &str) -> Result<bool, Fail> {
+    Ok(link.sink().bytes() == octets(alloc, text)?.as_slice())
+}
+
+/// Whether the first item is next.
+fn is_first_next(alloc: Global, link: &mut MemWire) -> Result<bool, Fail> {
+    let wanted = Response::Context(first_item(alloc)?);
+    match link.next() {
+        Ok(Some(response)) => Ok(response == wanted),
+        _ => Ok(false),
+    }
+}
+
+/// Whether a link over a source whose first read fails is unavailable.
+fn fails_at_first(alloc: Global) -> Result<bool, Fail> {
+    let failing = vec![in alloc; 1]?;
+    let source = source_of(alloc, "CN", Vec::new(alloc), failing)?;
+    Ok(are_answered(alloc, over(alloc, source)?, &[(Start, "unavailable")]))
 }
 
 #[test]
 fn wire_link(rt: HostRuntime) -> Result<(), Fail> {
     let alloc = rt.alloc();
     let source = source_of(alloc, "CN I1 07 00000000", Vec::new(alloc), Vec::new(alloc))?;
-    let sink = MemSink::new(alloc, 9, Vec::new(alloc))?;
-    let mut link = WireLink::new(alloc, source, sink);
+    let mut link = over(alloc, source)?;
     assert!(rt; link.start(&Headers::new(alloc), &Request::X509Svid).is_ok());
-    assert!(rt; link.sink().bytes() == octets(alloc, "110000000400000000")?.as_slice());
-    let item = Response::Context(first_item(alloc)?);
-    assert!(rt; link.next() == Ok(Some(item)));
+    assert!(rt; has_put(alloc, &link, "110000000400000000")?);
+    assert!(rt; is_first_next(alloc, &mut link)?);
     assert!(rt; link.next() == Ok(None));
-    let failing = source_of(alloc, "CN", Vec::new(alloc), vec![in alloc; 1]?)?;
-    assert!(rt; names(alloc, failing, "s")?.as_str() == "unavailable ");
+    assert!(rt; fails_at_first(alloc)?);
     Ok(())
 }
 
-/// The octets that a start puts.
-fn put_by(
-    alloc: Global,
-    headers: &Headers,
-    request: &Request,
-) -> Result<WireLink<MemSource, MemSink>, Fail> {
+/// Whether a start of the request puts what the text spells.
+fn puts(alloc: Global, headers: &Headers, request: &Request, text: &str) -> Result<bool, Fail> {
     let source = source_of(alloc, "CN", Vec::new(alloc), Vec::new(alloc))?;
-    let mut link = WireLink::new(alloc, source, MemSink::new(alloc, 200, Vec::new(alloc))?);
+    let mut link = over(alloc, source)?;
     match link.start(headers, request) {
-        Ok(()) => Ok(link),
-        Err(_) => Err(Fail::from("refused")),
+        Ok(()) => has_put(alloc, &link, text),
+        Err(_) => Ok(false),
     }
+}
+
+/// The header `a` with the value `bc`.
+fn one_header(alloc: Global) -> Result<Headers, OutOfMemory> {
+    let mut headers = Headers::new(alloc);
+    headers.set("a", "bc")?;
+    Ok(headers)
+}
+
+/// A request with the audience `a` and the token `t`.
+fn validation(alloc: Global) -> Result<Request, OutOfMemory> {
+    let audience = Text::copy_of(alloc, "a")?;
+    let svid = Text::copy_of(alloc, "t")?;
+    Ok(Request::ValidateJwt { audience, svid })
 }
 
 #[test]
 fn requests(rt: HostRuntime) -> Result<(), Fail> {
     let alloc = rt.alloc();
-    let mut headers = Headers::new(alloc);
-    headers.set("a", "bc")?;
-    let link = put_by(alloc, &headers, &Request::X509Bundles)?;
-    let wanted = octets(alloc, "12 0000000f 00000001 00000001 61 00000002 6263")?;
-    assert!(rt; link.sink().bytes() == wanted.as_slice());
-    let request = Request::ValidateJwt {
-        audience: Text::copy_of(alloc, "a")?,
-        svid: Text::copy_of(alloc, "t")?,
-    };
-    let link = put_by(alloc, &Headers::new(alloc), &request)?;
-    let wanted = octets(alloc, "15 0000000e 00000000 00000001 61 00000001 74")?;
-    assert!(rt; link.sink().bytes() == wanted.as_slice());
+    let header = one_header(alloc)?;
+    let wanted = "12 0000000f 00000001 00000001 61 00000002 6263";
+    assert!(rt; puts(alloc, &header, &Request::X509Bundles, wanted)?);
+    let request = validation(alloc)?;
+    let wanted = "15 0000000e 00000000 00000001 61 00000001 74";
+    assert!(rt; puts(alloc, &Headers::new(alloc), &request, wanted)?);
     Ok(())
+}
+
+/// A link over a sink whose first put fails.
+fn over_failing(alloc: Global) -> Result<MemWire, Fail> {
+    let source = source_of(alloc, "CN", Vec::new(alloc), Vec::new(alloc))?;
+    let sink = MemSink::new(alloc, 100, vec![in alloc; 1]?)?;
+    Ok(WireLink::new(alloc, source, sink))
+}
+
+/// A header whose value has 2^24 octets.
+fn long_header(alloc: Global) -> Result<Headers, Fail> {
+    let long = String::from_utf8(vec![in alloc; b'a'; 1 << 24]?)?;
+    let mut headers = Headers::new(alloc);
+    headers.set("long", long.as_str())?;
+    Ok(headers)
 }
 
 #[test]
 fn refused_before_it_is_read(rt: HostRuntime) -> Result<(), Fail> {
     let alloc = rt.alloc();
-    let mut headers = Headers::new(alloc);
-    let source = source_of(alloc, "CN", Vec::new(alloc), Vec::new(alloc))?;
-    let sink = MemSink::new(alloc, 100, vec![in alloc; 1]?)?;
-    let mut link = WireLink::new(alloc, source, sink);
-    let first = link.start(&headers, &Request::X509Svid);
-    assert!(rt; start_name(&first) == "unavailable");
-    let long = String::from_utf8(vec![in alloc; b'a'; 1 << 24]?)?;
-    headers.set("long", long.as_str())?;
-    let second = link.start(&headers, &Request::X509Svid);
-    assert!(rt; start_name(&second) == "resource_exhausted");
+    let long = long_header(alloc)?;
+    let none = Headers::new(alloc);
+    let mut link = over_failing(alloc)?;
+    assert!(rt; call_name(&mut link, &none, Call::Start) == "unavailable");
+    assert!(rt; call_name(&mut link, &long, Call::Start) == "resource_exhausted");
     assert!(rt; link.sink().bytes().is_empty());
-    headers.set("long", "short")?;
-    assert!(rt; link.start(&headers, &Request::X509Svid).is_ok());
+    assert!(rt; call_name(&mut link, &none, Call::Start) == "started");
     Ok(())
 }
