@@ -2,36 +2,35 @@
 
 use spf_api::{EndpointError, EndpointParseError, WorkloadApiError};
 use spf_endpoint::{Endpoint, from_env};
-use spf_io::Text;
+use spf_io::{OutOfMemory, Text};
 use spf_link::Headers;
 use spf_system::{
     Clock, EnvValue, Environment, MemClock, MemEnvironment, MemPause, Pause, StdClock,
     StdEnvironment, StdPause, StopFlag,
 };
+use std::alloc::Global;
 use std::test::Fail;
 use std::time::{Duration, Instant};
 
+/// Moments that a clock is made of, and then what it gives.
+const MOMENTS: [Option<i64>; 4] = [Some(5), None, Some(-1), Some(9)];
+
 #[test]
 fn clock(rt: HostRuntime) -> Result<(), Fail> {
-    let mut clock = MemClock::new(vec![in rt.alloc(); Some(5), None, Some(-1), Some(9)]?);
+    let mut clock = MemClock::new(MOMENTS.to_vec(rt.alloc())?);
     for moment in [Some(5), None, None, Some(9), None, None] {
-        assert_eq!(rt; clock.now(), moment);
+        assert!(rt; clock.now() == moment);
     }
     // 2020-01-01T00:00:00Z
     assert!(rt; StdClock::new(&rt).now() > Some(1_577_836_800));
     Ok(())
 }
 
-#[test]
-fn pause_keeps_the_first(rt: HostRuntime) -> Result<(), Fail> {
-    let mut pause = MemPause::new(rt.alloc(), 2)?;
-    for millis in [1, 2, 3] {
-        pause.pause(Duration::from_millis(millis));
-    }
-    assert_eq!(rt; pause.delays().len(), 2);
-    assert_eq!(rt; pause.delays()[0].as_millis(), 1);
-    assert_eq!(rt; pause.delays()[1].as_millis(), 2);
-    Ok(())
+/// How long the pause took.
+fn paused<P: Pause>(rt: &HostRuntime, pause: &mut P, delay: Duration) -> Result<Duration, Fail> {
+    let started = Instant::now(rt)?;
+    pause.pause(delay);
+    Ok(started.elapsed(rt)?)
 }
 
 #[test]
@@ -39,13 +38,10 @@ fn pause_ends_by_its_mark(rt: HostRuntime) -> Result<(), Fail> {
     let stop = StopFlag::new(rt.alloc())?;
     let mut pause = StdPause::new(&rt);
     pause.heed(stop.try_clone()?);
-    let started = Instant::now(&rt)?;
-    pause.pause(Duration::from_millis(20));
-    assert!(rt; started.elapsed(&rt)? >= Duration::from_millis(20));
+    let short = Duration::from_millis(20);
+    assert!(rt; paused(&rt, &mut pause, short)? >= short);
     stop.set();
-    let started = Instant::now(&rt)?;
-    pause.pause(Duration::from_secs(30));
-    assert!(rt; started.elapsed(&rt)? < Duration::from_secs(5));
+    assert!(rt; paused(&rt, &mut pause, Duration::from_secs(30))? < Duration::from_secs(5));
     Ok(())
 }
 
@@ -63,57 +59,89 @@ fn stop_flag(rt: HostRuntime) -> Result<(), Fail> {
     Ok(())
 }
 
+/// Pauses for so many milliseconds, one after the other.
+fn pause_for(pause: &mut MemPause, delays: &[u64]) {
+    for millis in delays {
+        pause.pause(Duration::from_millis(*millis));
+    }
+}
+
+/// Whether a pause with room for two keeps the first two of three delays.
+fn keeps_two(alloc: Global) -> Result<bool, OutOfMemory> {
+    let mut pause = MemPause::new(alloc, 2)?;
+    pause_for(&mut pause, &[1, 2, 3]);
+    Ok(pause.delays() == [Duration::from_millis(1), Duration::from_millis(2)].as_slice())
+}
+
+/// Whether a header that is set has its value.
+fn keeps_header(alloc: Global) -> Result<bool, OutOfMemory> {
+    let mut headers = Headers::new(alloc);
+    headers.set("name", "value")?;
+    Ok(headers.get("name") == Some("value"))
+}
+
+/// The value `text` of a variable.
+fn value_of(alloc: Global, text: &str) -> Result<EnvValue, OutOfMemory> {
+    Ok(EnvValue::Found(Text::copy_of(alloc, text)?))
+}
+
+/// Whether the value of the variable is that.
+fn has_value<E: Environment>(alloc: Global, own: &E, name: &str, wanted: &EnvValue) -> bool {
+    match own.var(alloc, name) {
+        Ok(found) => found == *wanted,
+        Err(_) => false,
+    }
+}
+
+/// Whether an environment in memory gives the value that was handed in for that variable.
+fn is_handed_in(alloc: Global, name: &str) -> Result<bool, OutOfMemory> {
+    let wanted = value_of(alloc, "unix:///foo")?;
+    let environment = MemEnvironment::new(wanted.try_clone(alloc)?);
+    Ok(has_value(alloc, &environment, name, &wanted))
+}
+
 #[test]
 fn environment(rt: HostRuntime) -> Result<(), Fail> {
-    let found = EnvValue::Found(Text::copy_of(rt.alloc(), "unix:///foo")?);
-    let memory = MemEnvironment::new(found.try_clone(rt.alloc())?);
-    assert_eq!(rt; memory.var(rt.alloc(), "ANY")?, found);
+    assert!(rt; is_handed_in(rt.alloc(), "ANY")?);
     let own = StdEnvironment::new(&rt);
-    assert_eq!(rt;
-        own.var(rt.alloc(), "SPF_TESTS_HAS_NO_SUCH_VARIABLE")?,
-        EnvValue::Missing
-    );
+    let name = "SPF_TESTS_HAS_NO_SUCH_VARIABLE";
+    assert!(rt; has_value(rt.alloc(), &own, name, &EnvValue::Missing));
     Ok(())
 }
 
 #[test]
 fn pause_header_env(rt: HostRuntime) -> Result<(), Fail> {
-    let alloc = rt.alloc();
-    let mut pause = MemPause::new(alloc, 2)?;
-    for millis in [1, 2, 3] {
-        pause.pause(Duration::from_millis(millis));
-    }
-    assert!(rt; pause.delays() == [Duration::from_millis(1), Duration::from_millis(2)].as_slice());
-    let mut headers = Headers::new(alloc);
-    headers.set("name", "value")?;
-    assert!(rt; headers.get("name") == Some("value"));
-    let found = EnvValue::Found(Text::copy_of(alloc, "unix:///foo")?);
-    let environment = MemEnvironment::new(found.try_clone(alloc)?);
-    assert!(rt; environment.var(alloc, "SPIFFE_ENDPOINT_SOCKET")? == found);
+    assert!(rt; keeps_two(rt.alloc())?);
+    assert!(rt; keeps_header(rt.alloc())?);
+    assert!(rt; is_handed_in(rt.alloc(), "SPIFFE_ENDPOINT_SOCKET")?);
     Ok(())
+}
+
+/// Whether no endpoint is found where the variable is that, for that error.
+fn is_refused(alloc: Global, value: EnvValue, wanted: &WorkloadApiError) -> bool {
+    match from_env(alloc, &MemEnvironment::new(value)) {
+        Ok(_) => false,
+        Err(error) => error == *wanted,
+    }
+}
+
+/// Whether the endpoint is the Unix socket at the path where the variable is that.
+fn is_socket(alloc: Global, value: EnvValue, path: &str) -> bool {
+    match from_env(alloc, &MemEnvironment::new(value)) {
+        Ok(Endpoint::Unix(found)) => found.as_str() == path,
+        _ => false,
+    }
 }
 
 #[test]
 fn endpoint_from_env(rt: HostRuntime) -> Result<(), Fail> {
     let alloc = rt.alloc();
-    let missing = MemEnvironment::new(EnvValue::Missing);
-    assert_eq!(rt;
-        from_env(alloc, &missing).err(),
-        Some(WorkloadApiError::MissingEndpointSocket)
-    );
-    let odd = MemEnvironment::new(EnvValue::NotUnicode);
-    assert_eq!(rt;
-        from_env(alloc, &odd).err(),
-        Some(WorkloadApiError::NotUnicodeEndpointSocket)
-    );
-    let foo = MemEnvironment::new(EnvValue::Found(Text::copy_of(alloc, "foo")?));
-    let no_uri = EndpointError::Parse(EndpointParseError);
-    assert_eq!(rt;
-        from_env(alloc, &foo).err(),
-        Some(WorkloadApiError::Endpoint(no_uri))
-    );
-    let socket = MemEnvironment::new(EnvValue::Found(Text::copy_of(alloc, "unix:///foo")?));
-    let path = Text::copy_of(alloc, "/foo")?;
-    assert_eq!(rt; from_env(alloc, &socket).ok(), Some(Endpoint::Unix(path)));
+    let missing = WorkloadApiError::MissingEndpointSocket;
+    assert!(rt; is_refused(alloc, EnvValue::Missing, &missing));
+    let odd = WorkloadApiError::NotUnicodeEndpointSocket;
+    assert!(rt; is_refused(alloc, EnvValue::NotUnicode, &odd));
+    let no_uri = WorkloadApiError::Endpoint(EndpointError::Parse(EndpointParseError));
+    assert!(rt; is_refused(alloc, value_of(alloc, "foo")?, &no_uri));
+    assert!(rt; is_socket(alloc, value_of(alloc, "unix:///foo")?, "/foo"));
     Ok(())
 }

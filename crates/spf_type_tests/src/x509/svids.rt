@@ -205,12 +205,15 @@ fn has_key(alloc: Global, svid: &X509Svid, name: &str) -> Result<bool, Fail> {
     Ok(svid.private_key().as_bytes() == der.as_slice())
 }
 
+/// Whether the hinted SVID is what it was made of.
+fn hinted_is_whole(alloc: Global) -> Result<bool, Fail> {
+    let svid = hinted(alloc)?;
+    Ok(is_hinted(&svid) && has_leaf(alloc, &svid, "LEAF1")? && has_key(alloc, &svid, "KEY1")?)
+}
+
 #[test]
 fn svid(rt: HostRuntime) -> Result<(), Fail> {
-    let svid = hinted(rt.alloc())?;
-    assert!(rt; is_hinted(&svid));
-    assert!(rt; has_leaf(rt.alloc(), &svid, "LEAF1")?);
-    assert!(rt; has_key(rt.alloc(), &svid, "KEY1")?);
+    assert!(rt; hinted_is_whole(rt.alloc())?);
     Ok(())
 }
 
@@ -251,6 +254,12 @@ fn plain_is_less(alloc: Global, other: &X509Svid) -> Result<bool, Fail> {
     Ok(cmp_svid_for_update(&plain, other) == Ordering::Less)
 }
 
+/// The same of the hinted SVID.
+fn plain_is_less_than_hinted(alloc: Global) -> Result<bool, Fail> {
+    let hinted = hinted(alloc)?;
+    plain_is_less(alloc, &hinted)
+}
+
 /// Whether the SVID without a hint equals its copy.
 fn plain_is_copied(alloc: Global) -> Result<bool, Fail> {
     let plain = svid_with(alloc, None)?;
@@ -259,8 +268,7 @@ fn plain_is_copied(alloc: Global) -> Result<bool, Fail> {
 
 #[test]
 fn svids_are_ordered(rt: HostRuntime) -> Result<(), Fail> {
-    let hinted = hinted(rt.alloc())?;
-    assert!(rt; plain_is_less(rt.alloc(), &hinted)?);
+    assert!(rt; plain_is_less_than_hinted(rt.alloc())?);
     assert!(rt; plain_is_copied(rt.alloc())?);
     Ok(())
 }
