@@ -12,8 +12,4 @@ mod gate_late;
 #[cfg(test)]
 mod gate_serve;
 #[cfg(test)]
-mod record;
-#[cfg(test)]
-mod sockets;
-#[cfg(test)]
 mod source;
