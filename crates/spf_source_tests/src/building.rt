@@ -2,7 +2,7 @@
 
 ghost use Rattle.std.specs.Prelude.{◌≡◌};
 
-use spf_api::{ClientFault, EndpointError, WorkloadApiError};
+use spf_api::ClientFault;
 use spf_feed::{NoPicker, NoRecorder, X509SourceError};
 use spf_io::OutOfMemory;
 use spf_job::{Spawner, StepWords};
@@ -62,7 +62,6 @@ pub fn connector_at_last(
 pub enum Outcome {
     Revision(u64),
     Source,
-    NoEndpoint,
     UnsupportedRpc,
     TimedOut,
     NoPlace,
@@ -70,11 +69,8 @@ pub enum Outcome {
     Other,
 }
 
-pub fn error_of(e: X509SourceError) -> Outcome {
+fn error_of(e: X509SourceError) -> Outcome {
     match e {
-        X509SourceError::Source(WorkloadApiError::Endpoint(EndpointError::Parse(_))) => {
-            Outcome::NoEndpoint
-        }
         X509SourceError::Source(_) => Outcome::Source,
         X509SourceError::UnsupportedRpc(_) => Outcome::UnsupportedRpc,
         X509SourceError::InitialSyncTimeout => Outcome::TimedOut,
@@ -85,7 +81,7 @@ pub fn error_of(e: X509SourceError) -> Outcome {
 }
 
 /// The revision of a source that was built.
-pub fn revision(source: &X509Source, pass: &mut Pass) -> Outcome
+fn revision(source: &X509Source, pass: &mut Pass) -> Outcome
     requires { pass.old.book ≡ source.now.board }
 {
     match source.state(pass) {
