@@ -120,7 +120,8 @@ fn long_ask(alloc: Global, count: usize) -> Result<Vec<u8>, Fail> {
     Ok(input)
 }
 
-/// Whether an ask of so many bytes after another leads to these lines, and to that end.
+/// Whether these lines are written, and that end is returned, where an ask of so many bytes
+/// follows another.
 fn is_long_ask_served<R: Wait + Drop>(
     rt: R,
     alloc: Global,
