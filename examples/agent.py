@@ -1,135 +1,149 @@
 #!/usr/bin/env python3
-"""A stand-in for the agent of the Workload API: plays a session to one client over a Unix socket.
+"""A stand-in for the agent of the Workload API: plays sessions over a Unix socket.
 
-    examples/agent.py [--socket PATH] [--pause SECONDS] FRAMES
+    examples/agent.py [--socket PATH] [--pause SECONDS] [--jwt FRAMES] [--token FILE] [FRAMES]
 
-FRAMES is a file of frames (docs/SESSIONS.md). Each request for X.509 SVIDs is answered with the next
-frame that accepts or refuses a connection (kinds 3 and 4); the updates and ends behind it (kinds 5 to
-7) follow, each after a pause. What a workload sees for itself (kinds 1, 2, 8 and 9) is passed over.
-After the last frame the stream is held open until the client goes. The socket is removed at the end.
+FRAMES is a file of frames (docs/SESSIONS.md) for requests of X.509 SVIDs, --jwt of JWT bundles.
+Each request gets the next frame that accepts or refuses a connection (kinds 3 and 4), and what
+follows it (kinds 5 to 7), each after a pause. What a workload sees for itself is passed over.
+After the last frame the stream is held open until the client goes; then the agent ends. With
+--token, requests of a JWT SVID and of its validation are granted by the token in FILE.
 """
 
 import argparse
+import base64
+import contextlib
+import io
+import json
 import os
 import socket
 import struct
-import sys
+import threading
 import time
 
 CONNECTED, CONNECT_STATUS, ITEM, ITEM_STATUS, STREAM_END = 3, 4, 5, 6, 7
-STARTS = (CONNECTED, CONNECT_STATUS)
-ENDS = (CONNECT_STATUS, ITEM_STATUS, STREAM_END)
-X509_SVIDS = 0x11
+STARTS, UPDATES = (CONNECTED, CONNECT_STATUS), (ITEM, ITEM_STATUS, STREAM_END)
+X509_SVIDS, JWT_SVID, JWT_BUNDLES, VALIDATION = 0x11, 0x13, 0x14, 0x15
 SECURITY_HEADER = (b"workload.spiffe.io", b"true")
+MISSING_HEADER = b"\3\0\0\0\x24security header missing from request"
+NOT_GRANTED, NOT_PLAYED = b"\3\0\0\0\x0bnot granted", b"\x0c\0\0\0\x0anot played"
 
 
-def frames_of(data):
-    """The frames of a file: pairs of a kind and a payload."""
-    at = 0
-    while at < len(data):
-        kind, length = struct.unpack_from(">BI", data, at)
-        payload = data[at + 5 : at + 5 + length]
-        if len(payload) != length:
-            sys.exit("agent: a frame is cut off")
-        yield kind, payload
-        at += 5 + length
+def number_in(file):
+    return int.from_bytes(file.read(4), "big")
 
 
-def received(connection, count):
-    """That many octets, or None where the client has gone before them."""
-    octets = b""
-    while len(octets) < count:
-        piece = connection.recv(count - len(octets))
-        if not piece:
-            return None
-        octets += piece
-    return octets
+def field_in(file):
+    return file.read(number_in(file))
 
 
-def request_of(connection):
-    """The kind and the payload of the next request, or None where the client has gone."""
-    head = received(connection, 5)
-    if head is None:
-        return None
-    kind, length = struct.unpack(">BI", head)
-    payload = received(connection, length)
-    return None if payload is None else (kind, payload)
+def field(octets):
+    return struct.pack(">I", len(octets)) + octets
 
 
-def headers_of(payload):
-    """The headers of a request: names and values, each a text with its length."""
-    (count,) = struct.unpack_from(">I", payload, 0)
-    at, texts = 4, []
-    for _ in range(2 * count):
-        (length,) = struct.unpack_from(">I", payload, at)
-        texts.append(payload[at + 4 : at + 4 + length])
-        at += 4 + length
-    return list(zip(texts[::2], texts[1::2]))
+def listed(members):
+    return struct.pack(">I", len(members)) + b"".join(members)
 
 
-def asks_for_svids(request):
-    kind, payload = request
-    return kind == X509_SVIDS and SECURITY_HEADER in headers_of(payload)
+def claim(value):
+    if isinstance(value, int):
+        return b"\3" + struct.pack(">q", value)
+    if isinstance(value, list):
+        return b"\6" + listed([claim(member) for member in value])
+    return b"\5" + field(value.encode())
+
+
+class Session:
+    """A session, which goes on with each client that asks for it."""
+
+    def __init__(self, path, pause):
+        self.frames, self.at, self.pause, self.lock = [], 0, pause, threading.Lock()
+        with open(path, "rb") as file:
+            while kind := file.read(1):
+                self.frames.append((kind[0], field_in(file)))
+        self.frames = [frame for frame in self.frames if frame[0] in STARTS + UPDATES]
+
+    def play(self, connection):
+        """Plays on from the next start of a stream to its end."""
+        with self.lock:
+            while self.at < len(self.frames) and self.frames[self.at][0] not in STARTS:
+                self.at += 1
+            for kind, payload in self.frames[self.at :]:
+                time.sleep(self.pause if kind in UPDATES else 0)
+                self.at += 1
+                send(connection, kind, payload)
+                if kind not in (CONNECTED, ITEM):
+                    return
 
 
 def send(connection, kind, payload):
-    connection.sendall(struct.pack(">BI", kind, len(payload)) + payload)
+    connection.sendall(bytes([kind]) + field(payload))
 
 
-def play(listener, frames, pause):
-    """Plays the frames to the clients that come, one after another."""
-    connection, streaming = None, False
-    for kind, payload in frames:
-        if kind in STARTS:
-            connection = next_asker(listener, connection)
-            send(connection, kind, payload)
-            streaming = kind == CONNECTED
-        elif streaming and kind in (ITEM, ITEM_STATUS, STREAM_END):
-            time.sleep(pause)
-            try:
-                send(connection, kind, payload)
-            except BrokenPipeError:
-                streaming = False
-            if kind in ENDS:
-                streaming = False
-    while connection is not None and request_of(connection) is not None:
-        pass
+def granted(kind, asked, token):
+    """The payload that grants a JWT SVID or a validation by the token, or None."""
+    claims = json.loads(base64.urlsafe_b64decode(token.split(b".")[1] + b"=="))
+    claims["aud"] = claims["aud"] if isinstance(claims["aud"], list) else [claims["aud"]]
+    subject, asked_for = claims["sub"].encode(), field_in(asked)
+    if kind == JWT_SVID and asked_for in (b"", subject):
+        return listed([field(subject) + field(token) + field(b"")])
+    if kind == VALIDATION and asked_for.decode() in claims["aud"] and field_in(asked) == token:
+        named = [field(name.encode()) + claim(value) for name, value in claims.items()]
+        return field(subject) + b"\1" + listed(named)
+    return None
 
 
-def next_asker(listener, connection):
-    """A connection on which X.509 SVIDs were just asked for: this one, or a later one."""
-    while True:
-        if connection is None:
+def serve(connection, sessions, token):
+    """Responds to the requests of one connection, one after another, until the client goes."""
+    with connection, connection.makefile("rb") as requests, contextlib.suppress(OSError):
+        while kind := requests.read(1):
+            kind, asked = kind[0], io.BytesIO(field_in(requests))
+            headers = [(field_in(asked), field_in(asked)) for _ in range(number_in(asked))]
+            if SECURITY_HEADER not in headers:
+                send(connection, CONNECT_STATUS, MISSING_HEADER)
+            elif kind in sessions:
+                sessions[kind].play(connection)
+            elif token is None or kind not in (JWT_SVID, VALIDATION):
+                send(connection, CONNECT_STATUS, NOT_PLAYED)
+            elif (response := granted(kind, asked, token)) is None:
+                send(connection, CONNECT_STATUS, NOT_GRANTED)
+            else:
+                for frame in ((CONNECTED, b""), (ITEM, response), (STREAM_END, b"")):
+                    send(connection, *frame)
+
+
+def attend(listener, sessions, token):
+    """Serves all who come, until each session was played to its end and all have gone."""
+    clients = []
+    while clients or not sessions or any(s.at < len(s.frames) for s in sessions.values()):
+        clients = [client for client in clients if client.is_alive()]
+        with contextlib.suppress(TimeoutError):
             connection, _ = listener.accept()
-        request = request_of(connection)
-        if request is None:
-            connection.close()
-            connection = None
-        elif asks_for_svids(request):
-            return connection
+            connection.settimeout(None)
+            clients.append(threading.Thread(target=serve, args=(connection, sessions, token)))
+            clients[-1].start()
 
 
 def main():
-    parser = argparse.ArgumentParser(description="Plays a session to one client.")
+    parser = argparse.ArgumentParser(description="Plays sessions to the clients of a socket.")
     parser.add_argument("--socket", default="agent.sock", help="where to listen")
-    parser.add_argument("--pause", type=float, default=1.0, help="seconds before each frame")
-    parser.add_argument("frames", help="a file of frames")
+    parser.add_argument("--pause", type=float, default=1.0, help="seconds before each update")
+    parser.add_argument("--jwt", help="a file of frames of JWT bundles")
+    parser.add_argument("--token", type=argparse.FileType("rb"), help="a file with a JWT SVID")
+    parser.add_argument("frames", nargs="?", help="a file of frames of X.509 SVIDs")
     options = parser.parse_args()
-    with open(options.frames, "rb") as file:
-        frames = list(frames_of(file.read()))
+    files = {X509_SVIDS: options.frames, JWT_BUNDLES: options.jwt}
+    sessions = {kind: Session(path, options.pause) for kind, path in files.items() if path}
     with socket.socket(socket.AF_UNIX, socket.SOCK_STREAM) as listener:
         listener.bind(options.socket)
         try:
             listener.listen()
-            play(listener, frames, options.pause)
+            listener.settimeout(0.1)
+            attend(listener, sessions, options.token and options.token.read().strip())
         finally:
             os.unlink(options.socket)
 
 
 if __name__ == "__main__":
-    try:
+    with contextlib.suppress(KeyboardInterrupt):
         main()
-    except KeyboardInterrupt:
-        pass
-    except OSError as error:
-        sys.exit(f"agent: {error}")

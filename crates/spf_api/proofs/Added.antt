@@ -10,7 +10,7 @@ use Rattle.spf_api.specs.declared.error.WorkloadApiError.{WorkloadApiError}
 use Rattle.spf_api.specs.declared.response.BundleEntry.{BundleEntry}
 use Rattle.spf_api.specs.declared.response.BundlesResponse.{BundlesResponse}
 use Rattle.spf_api.specs.declared.response.ContextResponse.{ContextResponse}
-use Rattle.spf_api.specs.Parsed.{entries_rule, svid_and_bundle_of, svids_and_bundles_of}
+use Rattle.spf_api.specs.Parsed.{entries_rule, pair_of, pairs_of}
 use Rattle.spf_api.specs.Parsed.{named_bundle_of, read_as, svids_in, bundles_in, brought_to}
 use Rattle.spf_api.specs.Parsed.{parsed_of, bundle_set_of}
 
@@ -154,12 +154,12 @@ read_err f (Err d) e is = let same : d ≡ e = cc in ap Err same
 -- the context of a response
 pub parsed_is : (r : ContextResponse) (svids : List Svid) (own all : Set)
     → entries_rule r.svids ≡ Ok tt
-    → read_as (brought_to []) (each svid_and_bundle_of r.svids) ≡ Ok (svids, own)
+    → read_as (brought_to []) (each pair_of r.svids) ≡ Ok (svids, own)
     → read_as (with_bundles own) (each named_bundle_of r.federated) ≡ Ok all
     → parsed_of r ≡ Ok (record { svids = svids; bundles = all; crls = r.crls })
-unfolding parsed_of svids_and_bundles_of
+unfolding parsed_of pairs_of
 parsed_is r svids own all kept brought named =
-    let m = read_ok (brought_to []) (each svid_and_bundle_of r.svids) (svids, own) brought in
+    let m = read_ok (brought_to []) (each pair_of r.svids) (svids, own) brought in
     let f = read_ok (with_bundles own) (each named_bundle_of r.federated) all named in
     let are : svids_in m.0 ≡ svids = ap (λ (p : List Svid × Set). p.0) m.2 in
     let owned : with_bundles [] (bundles_in m.0) ≡ own = ap (λ (p : List Svid × Set). p.1) m.2 in

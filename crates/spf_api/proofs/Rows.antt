@@ -20,7 +20,7 @@ use Rattle.spf_api.specs.Errors.{status_reading}
 use Rattle.spf_api.specs.Layout.{field_text, list_text, svid_entry_text, context_payload}
 use Rattle.spf_api.specs.Layout.{IsSvidEntry, IsBundleEntry, HasLength32, IsContext}
 use Rattle.spf_api.specs.Parsed.{required, bundle_required, fields_required, entries_rule}
-use Rattle.spf_api.specs.Parsed.{hint_rule, svids_and_bundles_of, parsed_of, bundle_set_of}
+use Rattle.spf_api.specs.Parsed.{hint_rule, pairs_of, parsed_of, bundle_set_of}
 use Rattle.spf_api.specs.Payload.{IsRead, Payload}
 use Rattle.spf_api.proofs.Spelled.{chosen}
 use Rattle.spf_api.specs.Reading.{number_at, byte_field_at, text_field_at, svid_entry_at}
@@ -166,19 +166,19 @@ far_count_lays =
 
 -- the response rule
 no_svids : parsed_of (context1 []) ≡ Err (api.MissingRequiredField (codes "X509SVIDResponse.svids"))
-unfolding context1 parsed_of svids_and_bundles_of entries_rule
+unfolding context1 parsed_of pairs_of entries_rule
 no_svids = refl
 
 -- an empty bundle of any entry comes before the other fields of all
 no_bundle : parsed_of (context1 (entry1 [] root1 ∷ entry1 key1 [] ∷ []))
     ≡ Err (api.MissingRequiredField (codes "X509SVID.bundle"))
-unfolding octets digit root1 leaf1 key1 entry1 context1 parsed_of svids_and_bundles_of entries_rule
+unfolding octets digit root1 leaf1 key1 entry1 context1 parsed_of pairs_of entries_rule
     bundle_required required
 no_bundle = refl
 
 no_key : parsed_of (context1 (entry1 [] root1 ∷ []))
     ≡ Err (api.MissingRequiredField (codes "X509SVID.x509_svid_key"))
-unfolding octets digit root1 leaf1 key1 entry1 context1 parsed_of svids_and_bundles_of entries_rule
+unfolding octets digit root1 leaf1 key1 entry1 context1 parsed_of pairs_of entries_rule
     bundle_required fields_required required
 no_key = refl
 

@@ -53,8 +53,8 @@ unfoldable pub bundle_for : List ℕ → List ℕ → Result Bundle WorkloadApiE
 bundle_for domain der = broken_as api_of_bundle (bundle_of domain (authorities_rule der))
 
 -- the SVID of an entry, and then its bundle, under the trust domain of the SVID
-unfoldable pub svid_and_bundle_of : SvidEntry → Result (Svid × Bundle) WorkloadApiError
-svid_and_bundle_of e = do
+unfoldable pub pair_of : SvidEntry → Result (Svid × Bundle) WorkloadApiError
+pair_of e = do
   svid ← svid_of_entry e
   bundle ← bundle_for svid.id.domain e.bundle
   Ok (svid, bundle)
@@ -66,11 +66,11 @@ named_bundle_of e = do
   bundle_for domain e.bundle
 
 -- the SVIDs of entries with their bundles, in order
-unfoldable pub svids_and_bundles_of : List SvidEntry
+unfoldable pub pairs_of : List SvidEntry
     → Result (List (Svid × Bundle)) WorkloadApiError
-svids_and_bundles_of entries = do
+pairs_of entries = do
   _ ← entries_rule entries
-  each svid_and_bundle_of entries
+  each pair_of entries
 
 -- the first, or else the second
 abbrev pub or_else : {A : Type 0} → Option A → Option A → Option A
@@ -112,7 +112,7 @@ last_for domain (b ∷ bundles) =
 -- last counts, and those of SVIDs come before the federated ones.
 unfoldable pub parsed_of : ContextResponse → Result Context WorkloadApiError
 parsed_of r = do
-  materials ← svids_and_bundles_of r.svids
+  materials ← pairs_of r.svids
   federated ← each named_bundle_of r.federated
   Ok (record {
     svids = svids_in materials;
@@ -122,7 +122,7 @@ parsed_of r = do
 
 -- the SVIDs of a response, whose federated entries are not looked at
 unfoldable pub svids_of : ContextResponse → Result (List Svid) WorkloadApiError
-svids_of r = read_as svids_in (svids_and_bundles_of r.svids)
+svids_of r = read_as svids_in (pairs_of r.svids)
 
 -- a list of SVIDs holds one
 abbrev pub first_of : List Svid → Result Svid WorkloadApiError

@@ -8,7 +8,7 @@ ghost use Rattle.spf_api.specs.Errors.{is_memory_api};
 ghost use Rattle.spf_api.specs.Views.{svid_entry_of, bundle_entry_of, context_of};
 ghost use Rattle.spf_api.specs.Parsed.{required, bundle_required, fields_required, kept_by_each};
 ghost use Rattle.spf_api.specs.Parsed.{entries_rule};
-ghost use Rattle.spf_api.specs.Parsed.{svid_and_bundle_of, named_bundle_of, svids_in, brought_to};
+ghost use Rattle.spf_api.specs.Parsed.{pair_of, named_bundle_of, svids_in, brought_to};
 ghost use Rattle.spf_api.specs.Parsed.{bundle_for, with_bundle, with_material};
 ghost use Rattle.spf_api.specs.Parsed.{read_as, parsed_of, svids_of, first_svid_of, bundle_set_of};
 
@@ -133,7 +133,7 @@ fn shared_material(
     held: Option<&X509Context>,
 ) -> Result<Arc<X509Svid>, WorkloadApiError>
     ensures { Gives is_memory_api (λ svid. (arc_value svid, bundles.new)) result
-        (read_as (with_material bundles.old) (svid_and_bundle_of (svid_entry_of entry.now))) }
+        (read_as (with_material bundles.old) (pair_of (svid_entry_of entry.now))) }
 {
     let same = held_svid(held, svids.len(), entry);
     let (near, known) = (near_svid(svids, held), known_svid(held, svids.len()));
@@ -152,7 +152,7 @@ fn shared_svids(
 ) -> Result<Vec<Arc<X509Svid>>, WorkloadApiError>
     ensures { Gives is_memory_api (λ v. (map arc_value v.items, bundles.new)) result
         (read_as (brought_to bundles.old)
-        (each svid_and_bundle_of (map svid_entry_of entries.now))) }
+        (each pair_of (map svid_entry_of entries.now))) }
 {
     let mut svids = Vec::new(alloc);
     for entry in entries {
@@ -197,7 +197,7 @@ fn add_named(
 /// trust domain replaces an earlier one. What `held` holds of the same bytes, SVIDs
 /// at the same index or beside it and bundles of the same trust domain, is shared
 /// with it and not read again: the result is the same with any context or none.
-#[tactic(auto, unfolding(crate::specs::Parsed::parsed_of, crate::specs::Parsed::svids_and_bundles_of))]
+#[tactic(auto, unfolding(crate::specs::Parsed::parsed_of, crate::specs::Parsed::pairs_of))]
 pub fn context_from_view_sharing(
     alloc: Global,
     view: &ContextView<'_>,
@@ -234,13 +234,13 @@ pub fn context_from(alloc: Global, r: &ContextResponse) -> Result<X509Context, W
 }
 
 /// The SVID of an entry, where the bundle of its trust domain can be read too.
-#[tactic(auto, unfolding(crate::specs::Parsed::svid_and_bundle_of))]
+#[tactic(auto, unfolding(crate::specs::Parsed::pair_of))]
 fn material(
     alloc: Global,
     entry: &SvidEntryView<'_>,
 ) -> Result<(X509Svid, X509Bundle), WorkloadApiError>
     ensures { Gives is_memory_api (λ m. (m.0, m.1)) result
-        (svid_and_bundle_of (svid_entry_of entry.now)) }
+        (pair_of (svid_entry_of entry.now)) }
 {
     let svid = parse_svid(alloc, entry)?;
     let bundle = parse_bundle(alloc, svid.spiffe_id().trust_domain(), entry.bundle)?;
@@ -253,7 +253,7 @@ fn owned_svids(
     entries: &[SvidEntryView<'_>],
 ) -> Result<Vec<X509Svid>, WorkloadApiError>
     ensures { Gives is_memory_api (λ v. v.items) result
-        (read_as svids_in (each svid_and_bundle_of (map svid_entry_of entries.now))) }
+        (read_as svids_in (each pair_of (map svid_entry_of entries.now))) }
 {
     let mut svids = Vec::new(alloc);
     for entry in entries {
@@ -264,7 +264,7 @@ fn owned_svids(
 }
 
 /// Returns the SVIDs of the response in order. Its federated entries are not read.
-#[tactic(auto, unfolding(crate::specs::Parsed::svids_of, crate::specs::Parsed::svids_and_bundles_of))]
+#[tactic(auto, unfolding(crate::specs::Parsed::svids_of, crate::specs::Parsed::pairs_of))]
 pub fn svids_from(alloc: Global, r: &ContextResponse) -> Result<Vec<X509Svid>, WorkloadApiError>
     ensures { Gives is_memory_api (λ v. v.items) result (svids_of r.now) }
 {

@@ -11,8 +11,8 @@ use Rattle.spf_x509.specs.declared.error.X509BundleError.TheVariants as bundle
 use Rattle.spf_x509.specs.Svid.{Svid}
 use Rattle.spf_api.specs.Errors.{api_of_bundle, api_of_id, api_of_svid}
 use Rattle.spf_api.specs.Parsed.{required, bundle_required, fields_required}
-use Rattle.spf_api.specs.Parsed.{entries_rule, svid_of_entry, bundle_for, svid_and_bundle_of}
-use Rattle.spf_api.specs.Parsed.{named_bundle_of, svids_and_bundles_of, read_as, parsed_of}
+use Rattle.spf_api.specs.Parsed.{entries_rule, svid_of_entry, bundle_for, pair_of}
+use Rattle.spf_api.specs.Parsed.{named_bundle_of, pairs_of, read_as, parsed_of}
 use Rattle.spf_api.specs.Parsed.{svids_of, first_of, first_svid_of, bundle_set_of}
 use Rattle.spf_api.specs.declared.error.WorkloadApiError.{WorkloadApiError}
 use Rattle.spf_api.specs.declared.error.WorkloadApiError.TheVariants as api
@@ -99,8 +99,8 @@ bundle_for_never : (domain der : List ℕ) → Never (bundle_for domain der)
 unfolding bundle_for
 bundle_for_never domain der = never_as api_of_bundle of_bundle _
 
-both_never : (e : SvidEntry) → Never (svid_and_bundle_of e)
-unfolding svid_and_bundle_of
+both_never : (e : SvidEntry) → Never (pair_of e)
+unfolding pair_of
 both_never e = never_then _ _ (svid_never e)
     (λ s. never_then _ _ (bundle_for_never _ _) (λ b. never_ok (s, b)))
 
@@ -108,10 +108,10 @@ named_never : (e : BundleEntry) → Never (named_bundle_of e)
 unfolding named_bundle_of
 named_never e = never_then _ _ (never_as api_of_id of_id _) (λ domain. bundle_for_never domain _)
 
-materials_never : (entries : List SvidEntry) → Never (svids_and_bundles_of entries)
-unfolding svids_and_bundles_of
+materials_never : (entries : List SvidEntry) → Never (pairs_of entries)
+unfolding pairs_of
 materials_never entries = never_then _ _ (entries_never entries)
-    (λ kept. never_each svid_and_bundle_of both_never entries)
+    (λ kept. never_each pair_of both_never entries)
 
 pub context_never : (r : ContextResponse) → Never (parsed_of r)
 unfolding parsed_of

@@ -23,7 +23,7 @@ use Rattle.spf_api.specs.declared.response.BundleEntry.{BundleEntry}
 use Rattle.spf_api.specs.declared.error.WorkloadApiError.{WorkloadApiError}
 use Rattle.spf_api.specs.Errors.{api_of_bundle, api_of_id, api_of_svid}
 use Rattle.spf_api.specs.Parsed.{entries_rule, hint_rule, svid_of_entry, bundle_for}
-use Rattle.spf_api.specs.Parsed.{svid_and_bundle_of, named_bundle_of, svids_and_bundles_of}
+use Rattle.spf_api.specs.Parsed.{pair_of, named_bundle_of, pairs_of}
 use Rattle.spf_api.specs.Parsed.{svids_in, bundles_in, parsed_of}
 use Rattle.spf_view.specs.Views.{Subject, Outcome, Accepted, keep_if, brings, has_synced}
 use Rattle.spf_view.specs.Views.{last_moment, denied_or_passed, outcomes, last_accepted}
@@ -35,7 +35,7 @@ use Rattle.spf_feed.proofs.PlainNames.{PlainId, bound, as_read, name_plain, svid
 
 -- ---- lists
 
-each_kept : {A B E : Type 0} (f : A → Result B E) (P : B → Type 0)
+pub each_kept : {A B E : Type 0} (f : A → Result B E) (P : B → Type 0)
     → ((x : A) (y : B) → f x ≡ Ok y → P y) → (xs : List A) (ys : List B) → each f xs ≡ Ok ys
     → AllByRecursion P ys
 each_kept {A} {B} f P holds [] ys h = let same : [] ≡ ys = cc in subst (AllByRecursion P) same tt
@@ -45,7 +45,7 @@ each_kept {A} {B} f P holds (x ∷ xs) ys h =
     let same : y ∷ others ≡ ys = cc in
     subst (AllByRecursion P) same (holds x y y_is, each_kept f P holds xs others o_is)))
 
-all_map : {A B : Type 0} (f : A → B) (P : A → Type 0) (Q : B → Type 0) → ((x : A) → P x → Q (f x))
+pub all_map : {A B : Type 0} (f : A → B) (P : A → Type 0) (Q : B → Type 0) → ((x : A) → P x → Q (f x))
     → (xs : List A) → AllByRecursion P xs → AllByRecursion Q (map f xs)
 all_map f P Q holds [] all = tt
 all_map f P Q holds (x ∷ xs) all = (holds x all.0, all_map f P Q holds xs all.1)
@@ -58,25 +58,25 @@ all_append P (x ∷ xs) ys p q = (p.0, all_append P xs ys p.1 q)
 -- ---- bundle sets
 
 -- an entry whose trust domain has no line feed
-abbrev pub PlainEntry : List ℕ × Bundle → Type 0
+abbrev pub PlainEntry : {V : Type 0} → List ℕ × V → Type 0
 PlainEntry e = Plain e.0
 
-indexed_plain : (o : Ordering) (e : List ℕ × Bundle) (es others : List (List ℕ × Bundle))
-    (k : List ℕ) (v : Bundle) → PlainEntry e → AllByRecursion PlainEntry es
+indexed_plain : {V : Type 0} (o : Ordering) (e : List ℕ × V) (es others : List (List ℕ × V))
+    (k : List ℕ) (v : V) → PlainEntry e → AllByRecursion PlainEntry es
     → AllByRecursion PlainEntry others → Plain k
     → AllByRecursion PlainEntry (match_ordering o ((k, v) ∷ e ∷ es) ((e.0, v) ∷ es) (e ∷ others))
 indexed_plain Less e es others k v p ps qs q = (q, (p, ps))
 indexed_plain Equal e es others k v p ps qs q = (p, ps)
 indexed_plain Greater e es others k v p ps qs q = (p, qs)
 
-entry_plain : (es : List (List ℕ × Bundle)) (k : List ℕ) (v : Bundle) → AllByRecursion PlainEntry es
-    → Plain k → AllByRecursion PlainEntry (with_entry es k v)
+entry_plain : {V : Type 0} (es : List (List ℕ × V)) (k : List ℕ) (v : V)
+    → AllByRecursion PlainEntry es → Plain k → AllByRecursion PlainEntry (with_entry es k v)
 entry_plain [] k v ps q = (q, tt)
 entry_plain (e ∷ es) k v ps q =
     indexed_plain (slice_cmp nat_cmp k e.0) e es (with_entry es k v) k v ps.0 ps.1
     (entry_plain es k v ps.1 q) q
 
-entries_plain : (es fs : List (List ℕ × Bundle)) → AllByRecursion PlainEntry es
+pub entries_plain : {V : Type 0} (es fs : List (List ℕ × V)) → AllByRecursion PlainEntry es
     → AllByRecursion PlainEntry fs → AllByRecursion PlainEntry (with_entries es fs)
 entries_plain es [] ps qs = ps
 entries_plain es (f ∷ fs) ps qs =
@@ -116,8 +116,8 @@ PlainSvid svid = PlainId svid.id
 abbrev PlainPair : Svid × Bundle → Type 0
 PlainPair m = PlainSvid m.0 × PlainBundle m.1
 
-pair_plain : (e : SvidEntry) (m : Svid × Bundle) → svid_and_bundle_of e ≡ Ok m → PlainPair m
-unfolding svid_and_bundle_of svid_of_entry
+pair_plain : (e : SvidEntry) (m : Svid × Bundle) → pair_of e ≡ Ok m → PlainPair m
+unfolding pair_of svid_of_entry
 pair_plain e m h =
     bound (broken_as api_of_svid (svid_of e.x509_svid e.x509_svid_key (hint_rule e.hint))) _ m h
     (λ svid s_is rest.
@@ -135,11 +135,11 @@ named_plain e b h =
     (name_plain e.name domain (as_read api_of_id (name_rule e.name) domain d_is)))
 
 pairs_plain : (entries : List SvidEntry) (ms : List (Svid × Bundle))
-    → svids_and_bundles_of entries ≡ Ok ms → AllByRecursion PlainPair ms
-unfolding svids_and_bundles_of
+    → pairs_of entries ≡ Ok ms → AllByRecursion PlainPair ms
+unfolding pairs_of
 pairs_plain entries ms h =
     bound (entries_rule entries) _ ms h
-    (λ done d_is rest. each_kept svid_and_bundle_of PlainPair pair_plain entries ms rest)
+    (λ done d_is rest. each_kept pair_of PlainPair pair_plain entries ms rest)
 
 -- the names in a context have no line feed
 abbrev pub PlainContext : Context → Type 0
@@ -150,7 +150,7 @@ parsed_plain : (r : ContextResponse) (context : Context) → parsed_of r ≡ Ok 
     → PlainContext context
 unfolding parsed_of
 parsed_plain r context h =
-    bound (svids_and_bundles_of r.svids) _ context h (λ ms m_is rest.
+    bound (pairs_of r.svids) _ context h (λ ms m_is rest.
     bound (each named_bundle_of r.federated) _ context rest (λ federated f_is made.
     let pairs = pairs_plain r.svids ms m_is in
     let svids = all_map (λ (m : Svid × Bundle). m.0) PlainPair PlainSvid (λ m p. p.0) ms pairs in
@@ -232,7 +232,7 @@ one_outcome P synced None denial os b p = passed_on P synced denial os p
 one_outcome P synced (Some m) denial os b p = b
 
 -- what holds of the material of each event holds of the last accepted one
-last_holds : {E M L D : Type 0} (s : Subject E M L D) (P : M → Type 0)
+pub last_holds : {E M L D : Type 0} (s : Subject E M L D) (P : M → Type 0)
     → ((e : E) (m : M) → s.parsed e ≡ Some m → P m) → (events : List E)
     → IfSome (last_accepted (outcomes s events)) P
 last_holds s P holds [] = tt

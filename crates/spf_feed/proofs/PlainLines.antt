@@ -97,7 +97,7 @@ chosen_plain svids (Some index) ps = member_plain svids index ps
 
 -- ---- a view
 
-denial_plain : (reason : Denial) → Plain (withdrawn_text reason)
+pub denial_plain : (reason : Denial) → Plain (withdrawn_text reason)
 denial_plain denial.NoIdentityIssued = refl
 denial_plain (denial.PermissionDenied message) = hex_plain message
 
@@ -112,7 +112,7 @@ visible_plain (Some material) None now p =
     (chosen_plain material.context.svids material.choice p.0))
 
 -- what comes before the line feed has none
-numbered : (number text : List ℕ) → Plain number → Plain text
+pub numbered : (number text : List ℕ) → Plain number → Plain text
     → IsLine (number ++ 32 ∷ (text ++ 10 ∷ []))
 numbered number text p q =
     ended (number ++ 32 ∷ (text ++ 10 ∷ [])) (number ++ 32 ∷ text)

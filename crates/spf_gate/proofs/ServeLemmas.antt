@@ -22,7 +22,8 @@ use Rattle.spf_gate.specs.Answers.{answer_line}
 use Rattle.spf_gate.specs.Lines.{lines_of, line_rule}
 use Rattle.spf_gate.specs.Policies.{ReadsPolicy, asks_rule, asks_before}
 use Rattle.spf_gate.specs.Reading.{Breaks, HasNoFeed, TakesLine, number_after}
-use Rattle.spf_gate.specs.Serving.{AnswersAsk, AreAnswers, AreAsks, AreRead, Seen, Serves}
+use Rattle.spf_gate.specs.Serving.{AnswersAsk, AreAnswers, AreAsks, AreRead, Serves}
+use Rattle.spf_x509_board.specs.Passes.{Seen}
 use Rattle.spf_gate.specs.Serving.{ServesAsks, is_cut}
 
 -- one more ask is answered

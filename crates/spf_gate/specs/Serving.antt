@@ -4,8 +4,8 @@ use Rattle.std.specs.Prelude.{length, Option, Some, None, IfSome, Result, Ok, Er
 use Rattle.std.specs.Io.KnownBytes.{Appends}
 use mathlib.Core.List.{IsPrefix}
 use Rattle.spf_io.specs.Outside.{Rose}
-use Rattle.spf_history.specs.declared.entry.Entry.{Entry}
-use Rattle.spf_feed.specs.Steps.{PlainStep, StateView}
+use Rattle.spf_feed.specs.Steps.{StateView}
+use Rattle.spf_x509_board.specs.Passes.{Seen}
 use Rattle.spf_x509_board.specs.States.{IsStateOf}
 use Rattle.spf_gate.specs.declared.rule.Rule.{Rule}
 use Rattle.spf_gate.specs.declared.gate_error.GateError.{GateError}
@@ -14,10 +14,6 @@ use Rattle.spf_gate.specs.Answers.{answer_line}
 use Rattle.spf_gate.specs.Lines.{lines_of}
 use Rattle.spf_gate.specs.Policies.{NotEnded, Policy, policy_of, asks_rule, asks_before}
 use Rattle.spf_gate.specs.Reading.{HasNoFeed}
-
--- what a pass has seen of its board
-abbrev pub Seen : Type 0
-Seen = List (Entry PlainStep)
 
 -- The text is one line for each ask, in order. Each is written by a state that was read of a legal
 -- list, which begins with the list before it; the first begins with `seen`, and the last is a

@@ -29,8 +29,8 @@ impl<K: Kind> Model for Front<K> {
 }
 
 impl<K: Kind> Front<K> {
-    ghost use Rattle.std.specs.Prelude.{◌≡◌, ◌<◌, length, MatchBool};
-    ghost use Rattle.std.specs.Bool.{OnTrue};
+    ghost use Rattle.std.specs.Prelude.{◌≡◌, ◌≢◌, ◌<◌, length, MatchBool};
+    ghost use Rattle.std.specs.Bool.{OnFalse, OnTrue};
     ghost use mathlib.Core.List.{IsPrefix};
     ghost use Rattle.spf_history.specs.Lists.{IsBoardList};
 
@@ -70,7 +70,8 @@ impl<K: Kind> Front<K> {
     /// Whether two of the same history are the same.
     pub fn is_same(&self, other: &Front<K>) -> bool
         requires { self.now.book ≡ other.now.book }
-        ensures { OnTrue result (self.now.list ≡ other.now.list) }
+        ensures same { OnTrue result (self.now.list ≡ other.now.list) }
+        ensures other { OnFalse result (self.now.list ≢ other.now.list) }
     {
         self.begins(other) && other.begins(self)
     }

@@ -2,6 +2,7 @@ pub mod EventLemmas
 pub mod HandLemmas
 pub mod LineLemmas
 pub mod Loop
+pub mod PlainLines
 pub mod Received
 pub mod ShownLemmas
 pub mod TextLemmas

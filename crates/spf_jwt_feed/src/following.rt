@@ -102,7 +102,11 @@ fn record_one<M: JwtMetricsRecorder>(
     }
 }
 
-fn record_all<M: JwtMetricsRecorder>(recorder: &mut M, records: Records) -> Result<(), OutOfMemory>
+/// Hands on the records, in order.
+pub fn record_all<M: JwtMetricsRecorder>(
+    recorder: &mut M,
+    records: Records,
+) -> Result<(), OutOfMemory>
     ensures { HandsOn (M.records recorder.old) (M.records recorder.new) result (listed records) }
 {
     if let Some(kind) = records.error {
@@ -136,7 +140,7 @@ fn take_step(snapshot: &mut Option<JwtSnapshot>, step: JwtStep) -> Change
 }
 
 /// Publishes a step, and then takes it into the snapshot.
-fn publish<P: JwtPublisher>(
+pub fn publish<P: JwtPublisher>(
     publisher: &mut P,
     snapshot: &mut Option<JwtSnapshot>,
     step: JwtStep,
@@ -150,6 +154,7 @@ fn publish<P: JwtPublisher>(
         (plain step ∷ []) }
     ensures change { IfOk result (λ c. c ≡ change_of snapshot.old (plain step)) }
     ensures kept { OnOk result (snapshot.new ≡ kept_with set_eq snapshot.old (plain step)) }
+    ensures target { P.target publisher.new ≡ P.target publisher.old }
 {
     let published = step.try_clone()?;
     publisher.publish(published)?;

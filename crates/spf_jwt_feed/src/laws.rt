@@ -6,14 +6,21 @@ ghost use Rattle.spf_api.specs.declared.response.BundlesResponse.{BundlesRespons
 ghost use Rattle.spf_jwt.specs.Bundle.{set_eq};
 ghost use Rattle.spf_view.specs.Sessions.{IsFrame};
 ghost use Rattle.spf_feed.specs.Events.{event_at};
+ghost use Rattle.spf_feed.specs.OneLine.{IsLine};
 ghost use Rattle.spf_feed.specs.Texts.{AreOctets, EventText, FrameText};
 ghost use Rattle.spf_jwt_feed.specs.Items.{Event, Rules, response_at, ItemText};
-ghost use Rattle.spf_jwt_feed.specs.Run.{stream};
+ghost use Rattle.spf_jwt_feed.specs.Run.{outputs, stream};
 ghost use Rattle.spf_jwt_feed.specs.Steps.{BundleSet};
 
 /// No change is seen exactly between equal bundle sets.
 pub fn same_is_equal()
     ensures { (a b : BundleSet) → (set_eq a b ≡ true) ↔ (a ≡ b) }
+{}
+
+/// The line of an event has one line feed, at its end.
+pub fn one_line_feed()
+    ensures { (rules : Rules) (past : List Event) (e : Event)
+        → IsLine ((outputs rules).line past e) }
 {}
 
 /// An item is read exactly where the octets are the payload of its response.

@@ -16,10 +16,11 @@ mod step;
 mod turn;
 
 pub use event::{JwtEvent, JwtItem, JwtReceived};
-pub use following::follow_jwt;
+pub use following::{follow_jwt, publish, record_all};
 pub use phase::phase_after;
 pub use record::{JwtMetricsErrorKind, JwtMetricsRecord, JwtMetricsRecorder, MemJwtRecorder};
 pub use snapshot::JwtSnapshot;
 pub use spf_feed::NoRecorder;
 pub use state::{JwtSourceError, JwtSourceState};
 pub use step::{JwtPublisher, JwtStep, MemJwtPublisher};
+pub use turn::{Records, Turn, turn_of};

@@ -24,13 +24,13 @@ use spf_jwt::{JwtBundleSet, JwtLimitKind, JwtResourceLimits, validate_jwt_limits
 
 /// The records of an event that is not accepted, in order.
 #[derive(Clone, Copy, Debug, PartialEq, Eq)]
-pub(crate) struct Records {
-    pub(crate) error: Option<JwtMetricsErrorKind>,
-    pub(crate) end: Option<JwtMetricsRecord>,
+pub struct Records {
+    pub error: Option<JwtMetricsErrorKind>,
+    pub end: Option<JwtMetricsRecord>,
 }
 
 impl Records {
-    fn none() -> Records
+    pub fn none() -> Records
         ensures { listed result ≡ [] }
     {
         Records {
@@ -92,7 +92,7 @@ fn limit_error(kind: JwtLimitKind) -> JwtMetricsErrorKind
 
 /// What an event does.
 #[derive(Debug, Drop)]
-pub(crate) enum Turn {
+pub enum Turn {
     Terminal(Terminal),
     Accepted(JwtBundleSet),
     Denied { reason: Denial, records: Records },
@@ -251,7 +251,7 @@ fn item_turn(limits: JwtResourceLimits, synced: bool, item: JwtItem) -> Turn
 }
 
 /// What an event does, where an item was accepted before it or not.
-pub(crate) fn turn_of(
+pub fn turn_of(
     limits: JwtResourceLimits,
     deadline: Option<i64>,
     synced: bool,

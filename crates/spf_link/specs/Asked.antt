@@ -15,7 +15,7 @@ use Rattle.spf_link.specs.declared.request.Start.{Start}
 -- one `start` was called with these headers and this request
 pub record Starts {S : Type 0} (link : links.Ghosts S) (old : S) (start : Start)
     (result : Result (Unit {0}) LinkFault) (new : S) : Type 0 where
-  pub gives : link.start_gives old start.headers start.request result new
+  pub gives : link.start_gives old start result new
   pub cause : HasLinkCause (link.refusals old) (link.refusals new) result
   pub starts : StartAppends (link.starts old) (link.starts new) result start
   pub kind : IfOk result (λ _. link.kind new ≡ Some (answered_by start.request))

@@ -14,6 +14,14 @@ use Rattle.spf_link.specs.declared.request.Start.{Start}
 use Rattle.spf_link.specs.declared.answer.Answer.{Answer}
 use Rattle.spf_link.specs.declared.answer.Answer.TheVariants as answer
 
+-- what a `start` returns
+abbrev pub Started : Type 0
+Started = Result (Unit {0}) LinkFault
+
+-- what a `next` returns
+abbrev pub Answered : Type 0
+Answered = Result (Option Response) LinkFault
+
 -- the call was refused, and memory did not run out
 abbrev pub IsRefusal : {T : Type 0} → Result T LinkFault → Type 0
 IsRefusal (Ok _) = ⊥

@@ -1,15 +1,12 @@
 //! A link, over which requests are answered.
 
-ghost use Rattle.std.specs.Prelude.{◌≡◌, ℕ, List, Option, Some, Result, IfOk, IfSome};
-ghost use Rattle.spf_api.specs.declared.link.LinkFault.{LinkFault as Fault};
-ghost use Rattle.spf_api.specs.declared.response.Response.{Response as Answered};
+ghost use Rattle.std.specs.Prelude.{◌≡◌, ℕ, List, Option, Some, IfOk, IfSome};
 ghost use Rattle.spf_api.specs.declared.response.ResponseKind.{ResponseKind};
 ghost use Rattle.spf_api.specs.Payload.{kind_of};
-ghost use Rattle.spf_link.specs.Headers.{Header};
 ghost use Rattle.spf_link.specs.Request.{answered_by};
-ghost use Rattle.spf_link.specs.Links.{HasLinkCause, StartAppends, Takes, started_by, next_by};
+ghost use Rattle.spf_link.specs.Links.{Started, Answered, HasLinkCause, StartAppends, Takes};
+ghost use Rattle.spf_link.specs.Links.{started_by, next_by};
 ghost use Rattle.spf_link.specs.declared.answer.Answer.{Answer};
-ghost use Rattle.spf_link.specs.declared.request.Request.{Request as Asked};
 ghost use Rattle.spf_link.specs.declared.request.Start.{Start};
 
 use crate::headers::Headers;
@@ -27,13 +24,14 @@ pub trait Link {
     // The answers to come, where they are known.
     ghost answers: { Self → Option (List Answer) };
     // What a `start` may return, and what link it may leave.
-    ghost start_gives: { Self → List Header → Asked → Result (Unit {0}) Fault → Self → Type 0 } = { λ _ _ _ _ _. Unit {0} };
+    ghost start_gives: { Self → Start → Started → Self → Type 0 } = { λ _ _ _ _. Unit {0} };
     // What a `next` may return, and what link it may leave.
-    ghost next_gives: { Self → Result (Option Answered) Fault → Self → Type 0 } = { λ _ _ _. Unit {0} };
+    ghost next_gives: { Self → Answered → Self → Type 0 } = { λ _ _ _. Unit {0} };
 
     /// Begins a request, which ends the one before.
     fn start(&mut self, headers: &Headers, request: &Request) -> Result<(), LinkFault>
-        ensures gives { start_gives self.old headers.now request.now result self.new }
+        ensures gives { start_gives self.old
+            (record { headers = headers.now; request = request.now }) result self.new }
         ensures cause { HasLinkCause (refusals self.old) (refusals self.new) result }
         ensures starts { StartAppends (starts self.old) (starts self.new) result
             (record { headers = headers.now; request = request.now }) }

@@ -153,8 +153,7 @@ impl Link for MemLink {
 
     ghost answers = { λ l. Some l.answers };
 
-    ghost start_gives = { λ old headers request result new. StartsInMemory old
-        (record { headers = headers; request = request }) result new };
+    ghost start_gives = { StartsInMemory };
 
     ghost next_gives = { NextsInMemory };
 

@@ -1,7 +1,8 @@
 -- What is seen and recorded after the lines.
 use Rattle.std.proofs.Common.{◌≡◌, refl, ℕ, List, Option, Result, Ok, Err}
 use mathlib.Core.List.{IsPrefix}
-use Rattle.spf_live.specs.Printing.{Moments, Prints, Seen, newest_list}
+use Rattle.spf_live.specs.Printing.{Moments, Prints, newest_list}
+use Rattle.spf_x509_board.specs.Passes.{Seen}
 use Rattle.spf_live.specs.declared.error.LiveError.{LiveError}
 use Rattle.spf_live.specs.declared.error.LiveError.TheVariants as errors
 use Rattle.spf_live.proofs.Printed.{prefix_self, prefix_trans, printed_none, printed_nothing}

@@ -11,7 +11,8 @@ use Rattle.spiffe.specs.declared.builder.Settings.{Settings}
 use Rattle.spiffe.specs.Building.{IsAssigned}
 use Rattle.spiffe.specs.Records.{Assigned, IsLeftBy, IsOf, IsRecord, Left, Recorded}
 use Rattle.spf_options.specs.Live.{LiveSetting}
-use Rattle.spf_live.specs.Printing.{Moments, PrintsTo, Seen}
+use Rattle.spf_live.specs.Printing.{Moments, PrintsTo}
+use Rattle.spf_x509_board.specs.Passes.{Seen}
 use Rattle.spf_live.specs.Runs.{Follows, IsSetTo, Runs}
 use Rattle.spf_live.specs.declared.error.LiveError.{LiveError}
 use Rattle.spf_live.specs.declared.error.LiveError.TheVariants as errors

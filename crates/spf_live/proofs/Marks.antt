@@ -9,7 +9,8 @@ use Rattle.spf_feed.specs.Steps.{StateView}
 use Rattle.spf_x509_board.specs.Passes.{PassView}
 use Rattle.spf_x509_board.specs.States.{IsStateOf}
 use Rattle.spiffe.specs.Reads.{IsRevision, SeesNoLess}
-use Rattle.spf_live.specs.Printing.{IsNext, Line, Moments, PrintsLine, Seen}
+use Rattle.spf_live.specs.Printing.{IsNext, Line, Moments, PrintsLine}
+use Rattle.spf_x509_board.specs.Passes.{Seen}
 use Rattle.spf_live.specs.declared.error.LiveError.{LiveError}
 use Rattle.spf_live.specs.declared.error.LiveError.TheVariants as errors
 use Rattle.spf_live.proofs.Printed.{prefix_self, prefix_trans}

@@ -12,7 +12,8 @@ use Rattle.spf_feed.specs.Shown.{view_line}
 use Rattle.spf_feed.specs.Steps.{StateView}
 use Rattle.spf_x509_board.specs.States.{IsStateOf}
 use Rattle.spf_live.specs.Printing.{AreLines, IsAbove, IsNext, Line, Moments, Printed, Prints}
-use Rattle.spf_live.specs.Printing.{PrintsLine, Seen, line_text, newest_list, newest_revision}
+use Rattle.spf_live.specs.Printing.{PrintsLine, line_text, newest_list, newest_revision}
+use Rattle.spf_x509_board.specs.Passes.{Seen}
 use Rattle.spf_live.specs.Printing.{text_of}
 use Rattle.spf_live.specs.declared.error.LiveError.{LiveError}
 use Rattle.spf_live.specs.declared.error.LiveError.TheVariants as errors

@@ -3,17 +3,13 @@ use Rattle.std.specs.Prelude.{◌≡◌, ℕ, ◌<◌, ℤ, List, [], ◌∷◌,
 use Rattle.std.specs.Prelude.{Result, Ok, Err, IfOk}
 use Rattle.std.specs.Io.KnownBytes.{Appends}
 use mathlib.Core.List.{IsPrefix}
-use Rattle.spf_history.specs.declared.entry.Entry.{Entry}
 use Rattle.spf_system.specs.Clock.{IsTime}
 use Rattle.spf_feed.specs.Shown.{view_line}
-use Rattle.spf_feed.specs.Steps.{PlainStep, StateView}
+use Rattle.spf_feed.specs.Steps.{StateView}
+use Rattle.spf_x509_board.specs.Passes.{Seen}
 use Rattle.spf_x509_board.specs.States.{IsStateOf}
 use Rattle.spf_live.specs.declared.error.LiveError.{LiveError}
 use Rattle.spf_live.specs.declared.error.LiveError.TheVariants as errors
-
--- what a pass has seen of its board
-abbrev pub Seen : Type 0
-Seen = List (Entry PlainStep)
 
 -- what the clock has yet to give, where that is known
 abbrev pub Moments : Type 0

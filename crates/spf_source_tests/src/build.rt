@@ -133,3 +133,14 @@ fn one_pause(rt: HostRuntime) -> Result<(), Fail> {
     assert!(rt; paused(rt, alloc, nobody_at_first(alloc)?)? == wanted);
     Ok(())
 }
+
+/// An endpoint that is none.
+#[test]
+fn no_endpoint(rt: HostRuntime) -> Result<(), Fail> {
+    let alloc = rt.alloc();
+    let builder = good(alloc)?.endpoint(&rt, alloc, "foo")?;
+    let mut places = BoardPlaces::new();
+    let found = try_build(rt, alloc, builder, NoPause, &mut InlineSpawner, &mut places);
+    assert!(rt; found == Outcome::NoEndpoint);
+    Ok(())
+}

@@ -2,7 +2,7 @@
 
 ghost use Rattle.std.specs.Prelude.{◌≡◌};
 
-use spf_api::ClientFault;
+use spf_api::{ClientFault, EndpointError, WorkloadApiError};
 use spf_feed::{NoPicker, NoRecorder, X509SourceError};
 use spf_io::OutOfMemory;
 use spf_job::{Spawner, StepWords};
@@ -62,6 +62,7 @@ pub fn connector_at_last(
 pub enum Outcome {
     Revision(u64),
     Source,
+    NoEndpoint,
     UnsupportedRpc,
     TimedOut,
     NoPlace,
@@ -71,6 +72,9 @@ pub enum Outcome {
 
 fn error_of(e: X509SourceError) -> Outcome {
     match e {
+        X509SourceError::Source(WorkloadApiError::Endpoint(EndpointError::Parse(_))) => {
+            Outcome::NoEndpoint
+        }
         X509SourceError::Source(_) => Outcome::Source,
         X509SourceError::UnsupportedRpc(_) => Outcome::UnsupportedRpc,
         X509SourceError::InitialSyncTimeout => Outcome::TimedOut,

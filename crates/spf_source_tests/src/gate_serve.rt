@@ -120,8 +120,7 @@ fn long_ask(alloc: Global, count: usize) -> Result<Vec<u8>, Fail> {
     Ok(input)
 }
 
-/// Whether these lines are written, and that end is returned, where an ask of so many bytes
-/// follows another.
+/// Whether an ask of `count` bytes after a first ask gives these lines and this result.
 fn is_long_ask_served<R: Wait + Drop>(
     rt: R,
     alloc: Global,

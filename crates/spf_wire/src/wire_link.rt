@@ -172,8 +172,8 @@ impl<S: Source, K: Sink> Link for WireLink<S, K> {
 
     ghost answers = { λ _. None };
 
-    ghost start_gives = { λ old headers request result new.
-        IsStarted (is_some old.asked) headers request
+    ghost start_gives = { λ old start result new.
+        IsStarted (is_some old.asked) start.headers start.request
         (record {
           left = S.left old.source;
           held = K.held old.sink;

@@ -7,10 +7,14 @@ use Rattle.spf_close.specs.Marks.{Held}
 use Rattle.spf_feed.specs.Steps.{PlainStep}
 use Rattle.spf_history.specs.declared.entry.Entry.{Entry}
 
+-- what a pass has seen of its board
+abbrev pub Seen : Type 0
+Seen = List (Entry PlainStep)
+
 -- what it has read of its board, and which mark it knows of the closed cell of its source
 pub record PassView : Type 0 where
   pub book : Book
-  pub seen : List (Entry PlainStep)
+  pub seen : Seen
   pub entered : List (Entry PlainStep)
   pub missed : ℕ
   pub enters : ℕ

@@ -1,7 +1,8 @@
 //! Generated sessions: streams of updates of any length, the same for the same seed.
 
 ghost use Rattle.std.specs.Prelude.{◌≡◌, ℕ, ◌+◌, ◌<◌, ◌++◌, ◌%◌, [], IfOk, OnOk, OnErr, pos};
-ghost use Rattle.spiffe_watch.specs.MadeSession.{roots_of, client_frames, frames_by};
+ghost use Rattle.spiffe_watch.specs.MadeSession.{roots_of, client_frames, denial_frame, end_frame};
+ghost use Rattle.spiffe_watch.specs.MadeSession.{frames_by};
 ghost use Rattle.spiffe_watch.specs.MadeSession.{generation_by, item_frame, leaf_spec};
 ghost use Rattle.spiffe_watch.specs.MadeSession.{made_session, ordered, root_spec};
 ghost use Rattle.spiffe_watch.specs.MadeSession.{intermediate_spec};
@@ -361,8 +362,25 @@ fn push_bad_item(
     Ok(())
 }
 
+/// Appends the frames of a denial.
+#[tactic(auto, using(crate::proofs::GeneratedLemmas::denial_is))]
+fn push_denial(frames: &mut Vec<u8>) -> Result<(), OutOfMemory>
+    ensures { OnOk result
+        (frames.new.items ≡ frames.old.items ++ (denial_frame ++ client_frames)) }
+{
+    push_ended(DENIED, frames)
+}
+
+/// Appends the frames of the end of a stream.
+#[tactic(auto, using(crate::proofs::GeneratedLemmas::end_is))]
+fn push_stream_end(frames: &mut Vec<u8>) -> Result<(), OutOfMemory>
+    ensures { OnOk result (frames.new.items ≡ frames.old.items ++ (end_frame ++ client_frames)) }
+{
+    push_ended(STREAM_END, frames)
+}
+
 /// Appends the frames of an operation, by a choice from 0 to 7 and the generation after it.
-#[tactic(auto, unfolding(crate::specs::MadeSession::frames_by), using(crate::proofs::GeneratedLemmas::denial_is, crate::proofs::GeneratedLemmas::end_is))]
+#[tactic(auto, unfolding(crate::specs::MadeSession::frames_by))]
 fn push_operation(
     alloc: Global,
     parts: &Parts,
@@ -376,8 +394,8 @@ fn push_operation(
     match choice {
         0..=3 => push_item(alloc, parts, Variant::Plain, generation, frames),
         4 => push_item(alloc, parts, Variant::Reordered, generation, frames),
-        5 => push_ended(DENIED, frames),
-        6 => push_ended(STREAM_END, frames),
+        5 => push_denial(frames),
+        6 => push_stream_end(frames),
         _ => push_bad_item(alloc, parts, generation, frames),
     }
 }

@@ -5,12 +5,12 @@ use Rattle.spf_io.proofs.Each.{unless}
 use Rattle.spf_id.specs.Id.{Id}
 use Rattle.spf_x509.specs.Svid.{Svid}
 use Rattle.spf_api.specs.Errors.{is_memory_api}
-use Rattle.spf_api.specs.Parsed.{bundle_for, svid_and_bundle_of, with_bundle}
+use Rattle.spf_api.specs.Parsed.{bundle_for, pair_of, with_bundle}
 use Rattle.spf_api.proofs.Added.{read_err, read_ok}
 use Rattle.spf_api.proofs.response_rule.shared_material.Goals as goal
 
 pub returns-in_err-svid : goal.returns-in_err-svid
-unfolding svid_and_bundle_of
+unfolding pair_of
 returns-in_err-svid c =
     let p = err_from_is_err_and c.from_residual.result c.from_residual.ensures.1 in
     rw (p.1, p.2)
@@ -18,7 +18,7 @@ returns-in_err-svid c =
     c.in_err-svid.ensures)
 
 pub returns-in_err-add_bundle : goal.returns-in_err-add_bundle
-unfolding svid_and_bundle_of
+unfolding pair_of
 returns-in_err-add_bundle c =
     let p = err_from_is_err_and c.from_residual-in_err-add_bundle.result
     c.from_residual-in_err-add_bundle.ensures.1 in
@@ -37,7 +37,7 @@ returns-in_err-add_bundle c =
     c.in_err-add_bundle.ensures)
 
 pub returns : goal.returns
-unfolding svid_and_bundle_of
+unfolding pair_of
 returns c =
     let domain : c.trust_domain-trust_domain.result.now
     ≡ (arc_value c.in_ok-svid.svid).id.domain =

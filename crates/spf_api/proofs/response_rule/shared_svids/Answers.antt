@@ -8,7 +8,7 @@ use Rattle.spf_io.proofs.Each.{unless}
 use Rattle.spf_x509.specs.Svid.{Svid}
 use Rattle.spf_api.specs.Errors.{is_memory_api}
 use Rattle.spf_api.specs.Views.{svid_entry_of}
-use Rattle.spf_api.specs.Parsed.{svid_and_bundle_of, read_as, brought_to, with_bundle}
+use Rattle.spf_api.specs.Parsed.{pair_of, read_as, brought_to, with_bundle}
 use Rattle.spf_api.specs.Parsed.{with_material}
 use Rattle.spf_api.proofs.Added.{Set, placed_more, brought_fails, placed_all, read_ok, read_err}
 use Rattle.spf_api.proofs.Rules.{each-map, get_or_same, no_entry}
@@ -34,13 +34,13 @@ loop-entry-preserved c =
     let pushed : map arc_value c.push.new.self.items
     ≡ map arc_value svids ++ arc_value c.in_ok-svid.svid ∷ [] =
     ap (map arc_value) c.in_ok-push.ensures.items ∙ map_push arc_value svids c.in_ok-svid.svid in
-    let rule = svid_and_bundle_of (svid_entry_of x) in
+    let rule = pair_of (svid_entry_of x) in
     let m = read_ok (with_material c.loop-entry.bundles) rule _ c.in_ok-svid.ensures in
     let svid : m.0.0 ≡ arc_value c.in_ok-svid.svid = ap (λ (p : Svid × Set). p.0) m.2 in
     let next : c.shared_material.new.bundles ≡ with_bundle c.loop-entry.bundles m.0.1 =
     ap (λ (p : Svid × Set). p.1) (sym m.2) in
     rw (pushed, ← svid)
-    (placed_more (λ v. svid_and_bundle_of (svid_entry_of v)) xs i x (map arc_value svids)
+    (placed_more (λ v. pair_of (svid_entry_of v)) xs i x (map arc_value svids)
     c.args.bundles.now c.loop-entry.bundles c.shared_material.new.bundles m.0
     c.loop-entry.invariant c.loop-entry-test.true
     (get_or_same xs i no_entry x c.loop-entry-test.true) m.1 next)
@@ -55,18 +55,18 @@ returns-in_err-svid c =
     rw (p.1, p.2)
     (unless (is_memory_api e)
     (λ broken. ap (read_as (brought_to c.args.bundles.now))
-    (each-map svid_and_bundle_of svid_entry_of xs)
-    ∙ brought_fails (λ v. svid_and_bundle_of (svid_entry_of v)) xs i x
+    (each-map pair_of svid_entry_of xs)
+    ∙ brought_fails (λ v. pair_of (svid_entry_of v)) xs i x
     (map arc_value c.loop-entry.svids.items) e (brought_to c.args.bundles.now)
     c.loop-entry.invariant.brought c.loop-entry-test.true
     (get_or_same xs i no_entry x c.loop-entry-test.true)
-    (read_err (with_material c.loop-entry.bundles) (svid_and_bundle_of (svid_entry_of x)) e broken))
+    (read_err (with_material c.loop-entry.bundles) (pair_of (svid_entry_of x)) e broken))
     c.in_err-svid.ensures)
 
 pub returns : goal.returns
 returns c =
     let xs = c.args.entries.now in
-    ap (read_as (brought_to c.args.bundles.now)) (each-map svid_and_bundle_of svid_entry_of xs)
-    ∙ placed_all (λ v. svid_and_bundle_of (svid_entry_of v)) xs c.loop-entry.entry-index
+    ap (read_as (brought_to c.args.bundles.now)) (each-map pair_of svid_entry_of xs)
+    ∙ placed_all (λ v. pair_of (svid_entry_of v)) xs c.loop-entry.entry-index
     (map arc_value c.loop-entry.svids.items) c.args.bundles.now c.loop-entry.bundles
     c.loop-entry.invariant (omega arith)

@@ -1,11 +1,11 @@
 use Rattle.std.proofs.Common.{map, take}
 use Rattle.std.specs.Arc.{arc_value}
 use Rattle.spf_api.specs.Views.{svid_entry_of}
-use Rattle.spf_api.specs.Parsed.{svid_and_bundle_of}
+use Rattle.spf_api.specs.Parsed.{pair_of}
 use Rattle.spf_api.proofs.Added.{Placed}
 use Rattle.spf_api.proofs.response_rule.shared_svids.Given as goal
 
 abbrev pub invariant-loop-entry : goal.invariant-loop-entry
 invariant-loop-entry l =
-    Placed (λ v. svid_and_bundle_of (svid_entry_of v)) (take l.entry-index l.entries)
+    Placed (λ v. pair_of (svid_entry_of v)) (take l.entry-index l.entries)
     (map arc_value l.svids.items) l.initial.bundles l.bundles

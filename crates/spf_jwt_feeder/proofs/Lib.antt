@@ -1,0 +1,6 @@
+pub mod FeedLemmas
+pub mod PaceLemmas
+pub mod OrderLemmas
+pub mod RunLemmas
+pub mod TellLemmas
+pub mod TimeLemmas

@@ -1,0 +1,334 @@
+-- What asks take of what a connector has to tell.
+use Rattle.std.proofs.Common.{◌≡◌, Bool, true, false, List, [], ◌∷◌, ◌++◌, reverse, Option, None}
+use Rattle.std.proofs.Common.{Some, Result, Ok, Err, refl, sym, ap, ◌∙◌, subst}
+use Rattle.std.proofs.Common.{cond, ◌&&◌}
+use Rattle.std.specs.Prelude.{IfOk}
+use Rattle.std.specs.Option.{option_map}
+use Rattle.spf_view.specs.Views.{has_synced}
+use Rattle.spf_view.proofs.ViewLemmas.{last_first}
+use Rattle.spf_api.specs.Refused.{Refused}
+use Rattle.spf_api.specs.declared.response.Response.{Response}
+use Rattle.spf_api.specs.declared.response.Response.TheVariants as response
+use Rattle.spf_api.specs.declared.link.ClientFault.{ClientFault}
+use Rattle.spf_api.specs.declared.link.ClientFault.TheVariants as client
+use Rattle.spf_api.specs.declared.link.LinkFault.{LinkFault}
+use Rattle.spf_api.specs.declared.link.LinkFault.TheVariants as fault
+use Rattle.spf_api.specs.declared.response.ResponseKind.{ResponseKind}
+use Rattle.spf_api.specs.declared.response.ResponseKind.TheVariants as kind
+use Rattle.spf_link.specs.Connecting.{Connects, Member, connected_by}
+use Rattle.spf_link.specs.Links.{Takes, rest_of, started_by, next_by}
+use Rattle.spf_link.specs.declared.answer.Answer.{Answer}
+use Rattle.spf_link.specs.declared.connector.Connector as connectors
+use Rattle.spf_link.specs.declared.link.Link as links
+use Rattle.spf_feed.specs.Items.{value_of}
+use Rattle.spf_jwt_feed.specs.Items.{Event, Rules, item_in, keeps_stream, subject}
+use Rattle.spf_jwt_feed.specs.Run.{ask_of, asked_by}
+use Rattle.spf_feed.specs.declared.event.SessionEvent.TheVariants as events
+use Rattle.spf_feed.specs.declared.phase.Phase.{Phase}
+use Rattle.spf_feed.specs.declared.phase.Phase.TheVariants as phases
+use Rattle.spf_feeder.specs.Asking.{Asked, refused_as}
+use Rattle.spf_jwt_feeder.specs.Asking.{AsksOnce, told_by_connect, told_by_start}
+use Rattle.spf_jwt_feeder.specs.Asking.{told_by_next}
+use Rattle.spf_feeder.specs.Coming.{Coming, Holds, LinkHolds, answers_in, left_at}
+use Rattle.spf_jwt_feeder.specs.Coming.{AllTold, IsTold}
+use Rattle.spf_jwt_feeder.specs.Coming.{left_after, told_at}
+use Rattle.spf_jwt_feeder.specs.Fed.{IsReady, Tells}
+
+-- a fact of what a call that went through gave
+pub if_ok : {T E : Type 0} (q : Result T E) (P : T → Type 0) → ((x : T) → q ≡ Ok x → P x) → IfOk q P
+if_ok (Ok x) P f = f x refl
+if_ok (Err e) P f = tt
+
+-- what a `connect` tells, and what it leaves
+connect_told : {L : Type 0} (answers : L → Option (List Answer)) (members : List Member)
+    (new : Option (List Member)) (answer : Result L ClientFault) (e : Event)
+    → Connects answers (Some members) new answer → told_by_connect answer ≡ Some e
+    → (new ≡ Some (rest_of members))
+    × (told_by_connect (connected_by members) ≡ Some e)
+    × LinkHolds answers (answers_in (connected_by members)) (value_of answer)
+connect_told answers members new (Ok link) e c told = (
+  c.0,
+  ap told_by_connect c.1.2 ∙ told,
+  c.1.1 ∙ ap (λ m. Some (answers_in m)) (sym c.1.2),
+)
+connect_told answers members new (Err client.OutOfMemory) e c told = absurd cc
+connect_told answers members new (Err (client.Status s)) e c told =
+    (c.0, ap told_by_connect c.1 ∙ told, ap answers_in c.1)
+connect_told answers members new (Err (client.Unreachable t)) e c told =
+    (c.0, ap told_by_connect c.1 ∙ told, ap answers_in c.1)
+
+-- what a call of the link tells, and what it leaves
+link_told : {T : Type 0} (coming : List Answer) (new : Option (List Answer))
+    (by : List Answer → Result T LinkFault) (tell : Result T LinkFault → Option Event)
+    (answer : Result T LinkFault) (e : Event) → Takes (Some coming) new by answer
+    → (tell (Err fault.OutOfMemory) ≡ None) → tell answer ≡ Some e
+    → (new ≡ Some (rest_of coming)) × (tell (by coming) ≡ Some e)
+link_told coming new by tell (Ok x) e t none told = (t.0, ap tell (sym t.1) ∙ told)
+link_told coming new by tell (Err fault.OutOfMemory) e t none told = absurd cc
+link_told coming new by tell (Err (fault.Status s)) e t none told =
+    (t.0, ap tell (sym t.1) ∙ told)
+link_told coming new by tell (Err (fault.Connect s)) e t none told =
+    (t.0, ap tell (sym t.1) ∙ told)
+
+-- what one ask tells and leaves, where this was to come
+pub told_holds : {S L : Type 0} (E : Type 0) (connector : connectors.Ghosts S L)
+    (link : links.Ghosts L) (ask : Phase) (old new : Asked S L) (e : Event) (coming : Coming)
+    → AsksOnce {E = E} connector link ask old (Ok e) new → IsReady link.kind ask old.link
+    → Holds connector.members link.answers coming old.connector old.link
+    → (told_at ask coming ≡ Some e)
+    × Holds connector.members link.answers (left_at ask coming) new.connector new.link
+told_holds {S} {L} E connector link phases.Client old new e coming h ready holds =
+    let told = connect_told link.answers coming.members (connector.members new.connector) h.answer e
+    (subst (λ m. Connects link.answers m (connector.members new.connector) h.answer)
+    holds.members_are h.called.members) h.told in (
+      told.1,
+      record {
+        members_are = told.0;
+        answers_are = subst
+            (λ (l : Option L). LinkHolds link.answers (answers_in (connected_by coming.members)) l)
+            (sym h.link_is) told.2;
+      },
+    )
+told_holds {S} {L} E connector link phases.Connect old new e coming h ready holds =
+    let had : link.answers h.before ≡ Some coming.answers =
+    subst (λ (l : Option L). LinkHolds link.answers coming.answers l) h.was holds.answers_are in
+    let told = link_told coming.answers (link.answers h.after) started_by told_by_start
+    h.asked.answer e
+    (subst (λ a. Takes a (link.answers h.after) started_by h.asked.answer) had
+    h.asked.called.answers) refl h.asked.told in (
+      told.1,
+      record {
+        members_are = ap connector.members h.same ∙ holds.members_are;
+        answers_are = subst
+            (λ (l : Option L). LinkHolds link.answers (rest_of coming.answers) l) (sym h.is) told.0;
+      },
+    )
+told_holds {S} {L} E connector link phases.Next old new e coming h ready holds =
+    let had : link.answers h.before ≡ Some coming.answers =
+    subst (λ (l : Option L). LinkHolds link.answers coming.answers l) h.was holds.answers_are in
+    let kind_is : link.kind h.before ≡ Some kind.JwtBundles =
+    subst (λ (l : Option L). IsReady link.kind phases.Next l) h.was ready in
+    let told = link_told coming.answers (link.answers h.after) (next_by (Some kind.JwtBundles))
+    told_by_next h.asked.answer e
+    (subst (λ k. Takes (Some coming.answers) (link.answers h.after) (next_by k) h.asked.answer)
+    kind_is
+    (subst (λ a. Takes a (link.answers h.after) (next_by (link.kind h.before)) h.asked.answer) had
+    h.asked.called.answers)) refl h.asked.told in (
+      told.1,
+      record {
+        members_are = ap connector.members h.same ∙ holds.members_are;
+        answers_are = subst
+            (λ (l : Option L). LinkHolds link.answers (rest_of coming.answers) l) (sym h.is) told.0;
+      },
+    )
+
+-- ---- what is told is neither a moment nor a close
+
+is_asked : Event → Bool
+is_asked (events.Moment m) = false
+is_asked events.Close = false
+is_asked _ = true
+
+all_asked : Option Event → Bool
+all_asked None = true
+all_asked (Some e) = is_asked e
+
+connect_asked : {L : Type 0} (r : Result L ClientFault) → all_asked (told_by_connect r) ≡ true
+unfolding is_asked all_asked
+connect_asked (Ok link) = refl
+connect_asked (Err client.OutOfMemory) = refl
+connect_asked (Err (client.Status s)) = refl
+connect_asked (Err (client.Unreachable t)) = refl
+
+start_asked : (r : Result (Unit {0}) LinkFault) → all_asked (told_by_start r) ≡ true
+unfolding is_asked all_asked
+start_asked (Ok done) = refl
+start_asked (Err fault.OutOfMemory) = refl
+start_asked (Err (fault.Status s)) = refl
+start_asked (Err (fault.Connect s)) = refl
+
+next_asked : (r : Result (Option Response) LinkFault) → all_asked (told_by_next r) ≡ true
+unfolding is_asked all_asked
+next_asked (Ok None) = refl
+next_asked (Ok (Some (response.JwtBundles r))) = refl
+next_asked (Ok (Some (response.Bundles r))) = refl
+next_asked (Ok (Some (response.JwtSvids r))) = refl
+next_asked (Ok (Some (response.Context r))) = refl
+next_asked (Ok (Some (response.Validation r))) = refl
+next_asked (Err fault.OutOfMemory) = refl
+next_asked (Err (fault.Status s)) = refl
+next_asked (Err (fault.Connect s)) = refl
+
+told_asked : (ask : Phase) (coming : Coming) (e : Event) → told_at ask coming ≡ Some e
+    → is_asked e ≡ true
+unfolding all_asked
+told_asked phases.Client coming e h =
+    sym (ap all_asked h) ∙ connect_asked (connected_by coming.members)
+told_asked phases.Connect coming e h =
+    sym (ap all_asked h) ∙ start_asked (started_by coming.answers)
+told_asked phases.Next coming e h =
+    sym (ap all_asked h) ∙ next_asked (next_by (Some kind.JwtBundles) coming.answers)
+
+left_more : (rules : Rules) (members : List Member) (past : List Event) (e : Event)
+    → is_asked e ≡ true
+    → left_after rules members (e ∷ past)
+    ≡ left_at (ask_of item_in rules past) (left_after rules members past)
+unfolding is_asked
+left_more rules members past events.ClientMade h = refl
+left_more rules members past (events.ClientFailed x) h = refl
+left_more rules members past events.Connected h = refl
+left_more rules members past (events.ConnectStatus x) h = refl
+left_more rules members past (events.Item x) h = refl
+left_more rules members past (events.ItemStatus x) h = refl
+left_more rules members past events.StreamEnd h = refl
+left_more rules members past (events.Moment x) h = absurd cc
+left_more rules members past events.Close h = absurd cc
+
+told_more : (rules : Rules) (members : List Member) (past : List Event) (e : Event)
+    → told_at (ask_of item_in rules past) (left_after rules members past) ≡ Some e
+    → IsTold rules members past e
+told_more rules members past events.ClientMade h = h
+told_more rules members past (events.ClientFailed x) h = h
+told_more rules members past events.Connected h = h
+told_more rules members past (events.ConnectStatus x) h = h
+told_more rules members past (events.Item x) h = h
+told_more rules members past (events.ItemStatus x) h = h
+told_more rules members past events.StreamEnd h = h
+told_more rules members past (events.Moment x) h = tt
+told_more rules members past events.Close h = tt
+
+-- one ask more
+pub tells_more : {S L : Type 0} (E : Type 0) (connector : connectors.Ghosts S L)
+    (link : links.Ghosts L)
+    (rules : Rules) (run : List Event) (old new : Asked S L) (e : Event) (first : List Member)
+    → AsksOnce {E = E} connector link (ask_of item_in rules (reverse run)) old (Ok e) new
+    → IsReady link.kind (ask_of item_in rules (reverse run)) old.link
+    → Tells connector.members link.answers rules run old first
+    → Tells connector.members link.answers rules (run ++ e ∷ []) new first
+tells_more E connector link rules run old new e first h ready tells =
+    let past = reverse run in
+    let ask = ask_of item_in rules past in
+    let coming = left_after rules first past in
+    let told = told_holds E connector link ask old new e coming h ready tells.rest in
+    let left = left_more rules first past e (told_asked ask coming e told.0) in
+    let more = sym (last_first run e) in
+    record {
+      told = subst (AllTold rules first) more (told_more rules first past e told.0, tells.told);
+      rest = subst (λ l.
+          Holds connector.members link.answers (left_after rules first l) new.connector new.link)
+          more
+          (subst (λ c. Holds connector.members link.answers c new.connector new.link) (sym left)
+          told.1);
+    }
+
+-- ---- where the link is asked next, it is there
+
+ready_item : {L : Type 0} (kind_of : L → Option ResponseKind) (link : L) (b : Bool)
+    → kind_of link ≡ Some kind.JwtBundles
+    → IsReady kind_of (cond b phases.Next phases.Client) (Some link)
+ready_item kind_of link true h = h
+ready_item kind_of link false h = tt
+
+ready_client : {L : Type 0} (link : links.Ghosts L) (synced : Bool) (answer : Result L ClientFault)
+    (new : Option L) (e : Event) → told_by_connect answer ≡ Some e → new ≡ value_of answer
+    → IsReady link.kind (asked_by item_in phases.Client synced e) new
+ready_client {L} link synced (Ok made) new e told is =
+    let same : events.ClientMade ≡ e = cc in
+    subst (λ x. IsReady link.kind (asked_by item_in phases.Client synced x) new) same
+    (subst (λ (l : Option L). IsReady link.kind phases.Connect l) (sym is) tt)
+ready_client link synced (Err client.OutOfMemory) new e told is = absurd cc
+ready_client link synced (Err (client.Status s)) new e told is =
+    let same : events.ClientFailed (client.Status s) ≡ e = cc in
+    subst (λ x. IsReady link.kind (asked_by item_in phases.Client synced x) new) same tt
+ready_client link synced (Err (client.Unreachable t)) new e told is =
+    let same : events.ClientFailed (client.Unreachable t) ≡ e = cc in
+    subst (λ x. IsReady link.kind (asked_by item_in phases.Client synced x) new) same tt
+
+ready_start : {L : Type 0} (link : links.Ghosts L) (synced : Bool)
+    (answer : Result (Unit {0}) LinkFault) (after : L) (e : Event) → told_by_start answer ≡ Some e
+    → IfOk answer (λ _. link.kind after ≡ Some kind.JwtBundles)
+    → IsReady link.kind (asked_by item_in phases.Connect synced e) (Some after)
+ready_start link synced (Ok done) after e told k =
+    let same : events.Connected ≡ e = cc in
+    subst (λ x. IsReady link.kind (asked_by item_in phases.Connect synced x) (Some after)) same k
+ready_start link synced (Err fault.OutOfMemory) after e told k = absurd cc
+ready_start link synced (Err (fault.Status s)) after e told k =
+    let same : events.ConnectStatus s ≡ e = cc in
+    subst (λ x. IsReady link.kind (asked_by item_in phases.Connect synced x) (Some after)) same
+    tt
+ready_start link synced (Err (fault.Connect s)) after e told k =
+    let same : option_map events.ConnectStatus (refused_as (fault.Connect s)) ≡ Some e = told in
+    by_status (refused_as (fault.Connect s)) same
+  where
+    by_status : (o : Option Refused) → option_map events.ConnectStatus o ≡ Some e
+        → IsReady link.kind (asked_by item_in phases.Connect synced e) (Some after)
+    by_status None h = absurd cc
+    by_status (Some r) h =
+        let same : events.ConnectStatus r ≡ e = cc in
+        subst (λ x. IsReady link.kind (asked_by item_in phases.Connect synced x) (Some after))
+        same tt
+
+ready_next : {L : Type 0} (link : links.Ghosts L) (synced : Bool)
+    (answer : Result (Option Response) LinkFault) (after : L) (e : Event)
+    → told_by_next answer ≡ Some e → link.kind after ≡ Some kind.JwtBundles
+    → IsReady link.kind (asked_by item_in phases.Next synced e) (Some after)
+ready_next link synced (Ok None) after e told k =
+    let same : events.StreamEnd ≡ e = cc in
+    subst (λ x. IsReady link.kind (asked_by item_in phases.Next synced x) (Some after)) same tt
+ready_next link synced (Ok (Some (response.JwtBundles r))) after e told k =
+    let same : events.Item r ≡ e = cc in
+    subst (λ x. IsReady link.kind (asked_by item_in phases.Next synced x) (Some after)) same
+    (ready_item link.kind after (synced && keeps_stream (item_in r)) k)
+ready_next link synced (Ok (Some (response.Bundles r))) after e told k = absurd cc
+ready_next link synced (Ok (Some (response.JwtSvids r))) after e told k = absurd cc
+ready_next link synced (Ok (Some (response.Context r))) after e told k = absurd cc
+ready_next link synced (Ok (Some (response.Validation r))) after e told k = absurd cc
+ready_next link synced (Err f) after e told k = by_status (refused_as f) told
+  where
+    by_status : (o : Option Refused) → option_map events.ItemStatus o ≡ Some e
+        → IsReady link.kind (asked_by item_in phases.Next synced e) (Some after)
+    by_status None h = absurd cc
+    by_status (Some r) h =
+        let same : events.ItemStatus r ≡ e = cc in
+        subst (λ x. IsReady link.kind (asked_by item_in phases.Next synced x) (Some after)) same
+        tt
+
+ready_asked : {S L : Type 0} (E : Type 0) (connector : connectors.Ghosts S L)
+    (link : links.Ghosts L)
+    (ask : Phase) (synced : Bool) (old new : Asked S L) (e : Event)
+    → AsksOnce {E = E} connector link ask old (Ok e) new → IsReady link.kind ask old.link
+    → IsReady link.kind (asked_by item_in ask synced e) new.link
+ready_asked {S} {L} E connector link phases.Client synced old new e h ready =
+    ready_client link synced h.answer new.link e h.told h.link_is
+ready_asked {S} {L} E connector link phases.Connect synced old new e h ready =
+    subst (λ (l : Option L). IsReady link.kind (asked_by item_in phases.Connect synced e) l)
+    (sym h.is)
+    (ready_start link synced h.asked.answer h.after e h.asked.told h.asked.called.kind)
+ready_asked {S} {L} E connector link phases.Next synced old new e h ready =
+    let kind_is : link.kind h.before ≡ Some kind.JwtBundles =
+    subst (λ (l : Option L). IsReady link.kind phases.Next l) h.was ready in
+    subst (λ (l : Option L). IsReady link.kind (asked_by item_in phases.Next synced e) l)
+    (sym h.is)
+    (ready_next link synced h.asked.answer h.after e h.asked.told
+    (h.asked.called.same_kind ∙ kind_is))
+
+pub ready_more : {S L : Type 0} (E : Type 0) (connector : connectors.Ghosts S L)
+    (link : links.Ghosts L)
+    (rules : Rules) (run : List Event) (old new : Asked S L) (e : Event)
+    → AsksOnce {E = E} connector link (ask_of item_in rules (reverse run)) old (Ok e) new
+    → IsReady link.kind (ask_of item_in rules (reverse run)) old.link
+    → IsReady link.kind (ask_of item_in rules (reverse (run ++ e ∷ []))) new.link
+ready_more E connector link rules run old new e h ready =
+    subst (λ l. IsReady link.kind (ask_of item_in rules l) new.link) (sym (last_first run e))
+    (ready_asked E connector link (ask_of item_in rules (reverse run))
+    (has_synced (subject rules) (reverse run)) old new e h ready)
+
+-- nothing is asked yet
+pub tells_first : {S L : Type 0} (members : S → Option (List Member))
+    (answers : L → Option (List Answer)) (rules : Rules) (connector : S) (first : List Member)
+    → members connector ≡ Some first
+    → Tells members answers rules [] (record { connector = connector; link = None }) first
+tells_first members answers rules connector first is = record {
+  told = tt;
+  rest = record { members_are = is; answers_are = refl };
+}

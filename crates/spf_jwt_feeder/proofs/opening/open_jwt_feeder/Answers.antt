@@ -1,0 +1,52 @@
+use Rattle.std.proofs.Common.{rules, ◌≡◌, [], ◌∷◌, refl, reverse, sym, ap, ◌∙◌, subst}
+use Rattle.spf_view.specs.Steps.{steps_of}
+use Rattle.spf_view.specs.Views.{has_synced}
+use Rattle.spf_feed.specs.declared.event.SessionEvent.TheVariants as events
+use Rattle.spf_jwt_feed.specs.Items.{Rules, subject}
+use Rattle.spf_jwt_feeder.specs.Kept.{rules_of}
+use Rattle.spf_jwt_feeder.specs.Orderly.{IsOneStep}
+use Rattle.spf_jwt_feeder.specs.Pacing.{KeepsPace}
+use Rattle.spf_jwt_feeder.proofs.FeedLemmas.{stops_as}
+use Rattle.spf_jwt_feeder.proofs.PaceLemmas.{passes_on}
+use Rattle.spf_jwt_feeder.proofs.TimeLemmas.{gives_moment, gives_more}
+use Rattle.spf_jwt_feeder.proofs.opening.open_jwt_feeder.Goals as goal
+
+pub synchronise-requires-clause-keeps : goal.synchronise-requires-clause-keeps
+synchronise-requires-clause-keeps g c =
+    let core = c.take_moment.new.self.core in
+    let rule : Rules = rules_of core.settings in
+    let run : core.run ≡ events.Moment c.next_moment-first.result ∷ [] = search rules in
+    subst (λ l. KeepsPace rule l c.new-pace.result) (sym run)
+    (passes_on rule [] (events.Moment c.next_moment-first.result) c.new-pace.result refl refl
+    (c.new-pace.ensures.keeps rule))
+
+pub returns-in-Ok-clause-synced : goal.returns-in-Ok-clause-synced
+returns-in-Ok-clause-synced g c =
+    (λ i. has_synced
+    (subject (rules_of (c.in-Ok.ensures.settings i)))
+    (reverse c.synchronise.new.feeder.core.run))
+    ∙ c.in-Ok.ensures.synced
+
+pub returns-in-Ok-clause-once : goal.returns-in-Ok-clause-once
+returns-in-Ok-clause-once g c =
+    subst (λ r. IsOneStep (steps_of (subject r) c.synchronise.new.feeder.core.run))
+    (λ i. rules_of (sym c.in-Ok.ensures.settings i)) c.in-Ok.ensures.once
+
+pub returns-in-Ok-clause-clock : goal.returns-in-Ok-clause-clock
+returns-in-Ok-clause-clock g c =
+    let run : c.take_moment.new.self.core.run ≡ events.Moment c.next_moment-first.result ∷ [] =
+    search rules in
+    gives_more _ _ _ [] _ _
+    (gives_moment _ _ c.next_moment-first.result [] _ c.next_moment-first.ensures.moment run)
+    c.in-Ok.ensures.clock
+
+pub returns-in-Err-clause-ended : goal.returns-in-Err-clause-ended
+returns-in-Err-clause-ended g c =
+    let moment = c.in_ok-take_moment.ensures in record {
+      deadline = c.deadline_of.result;
+      counts = search rules;
+      run = c.synchronise.new.feeder.core.run;
+      stops = stops_as _ _ c.synchronise.new.feeder.core.run c.in-Err.stop
+          (λ i. rules_of ((moment.settings ∙ ap (λ k. k.settings) c.new-feeder.ensures.core) i))
+          c.in-Err.ensures.ended;
+    }

@@ -1,0 +1,90 @@
+//! How an event ends an attempt.
+
+ghost use Rattle.std.specs.Prelude.{◌≡◌, IfOk};
+ghost use Rattle.spf_api.specs.Errors.{status_reading};
+ghost use Rattle.spf_feeder.specs.Attempts.{client_no_identity, end_with, gave_with};
+ghost use Rattle.spf_feeder.specs.Attempts.{is_no_identity};
+ghost use Rattle.spf_feeder.specs.Attempts as spec;
+
+use crate::received::copy_of_status;
+use spf_api::{ClientFault, GrpcStatusError, WorkloadApiError};
+use spf_feed::Phase;
+use spf_io::OutOfMemory;
+use spf_jwt_feed::{JwtEvent, JwtReceived};
+use spf_pace::AttemptEnd;
+use std::alloc::Global;
+
+/// Whether the status says that no identity is issued.
+fn says_no_identity(alloc: Global, status: &GrpcStatusError) -> Result<bool, OutOfMemory>
+    ensures { IfOk result (λ b. b ≡ is_no_identity (status_reading status.now)) }
+{
+    match WorkloadApiError::from_status(copy_of_status(alloc, status)?) {
+        WorkloadApiError::NoIdentityIssued => Ok(true),
+        _ => Ok(false),
+    }
+}
+
+fn failure_says_no_identity(alloc: Global, fault: &ClientFault) -> Result<bool, OutOfMemory>
+    ensures { IfOk result (λ b. b ≡ client_no_identity fault.now) }
+{
+    match fault {
+        ClientFault::Status(status) => says_no_identity(alloc, status),
+        ClientFault::Unreachable(_) | ClientFault::OutOfMemory => Ok(false),
+    }
+}
+
+/// How the item of a stream ends the attempt, where `next` stands next.
+fn item_end(next: Phase, gave_accepted: bool) -> Option<AttemptEnd>
+    ensures { result ≡ spec.item_end next gave_accepted }
+{
+    match next {
+        Phase::Next => None,
+        Phase::Client | Phase::Connect => Some(AttemptEnd::Stream {
+            gave_accepted,
+            no_identity: false,
+        }),
+    }
+}
+
+/// How an event that is not accepted ends the attempt, where `next` stands next.
+pub(crate) fn end_of(
+    alloc: Global,
+    next: Phase,
+    gave_accepted: bool,
+    event: &JwtReceived,
+) -> Result<Option<AttemptEnd>, OutOfMemory>
+    ensures { IfOk result (λ o. o ≡ end_with next gave_accepted event.now) }
+{
+    match event {
+        JwtReceived::ClientFailed(fault) => Ok(Some(AttemptEnd::Client {
+            no_identity: failure_says_no_identity(alloc, fault)?,
+        })),
+        JwtReceived::ConnectStatus(status) => Ok(Some(AttemptEnd::Connect {
+            no_identity: says_no_identity(alloc, status)?,
+        })),
+        JwtReceived::Item(_) => Ok(item_end(next, gave_accepted)),
+        JwtReceived::ItemStatus(status) => Ok(Some(AttemptEnd::Stream {
+            gave_accepted,
+            no_identity: says_no_identity(alloc, status)?,
+        })),
+        JwtReceived::StreamEnd => Ok(Some(AttemptEnd::Stream {
+            gave_accepted,
+            no_identity: false,
+        })),
+        JwtReceived::ClientMade
+        | JwtReceived::Connected
+        | JwtReceived::Moment(_)
+        | JwtReceived::Close => { Ok(None) }
+    }
+}
+
+/// Whether the stream of the last connection gave an accepted item, after an event that is accepted
+/// or not.
+pub(crate) fn gave_after(gave_accepted: bool, is_accepted: bool, event: &JwtEvent) -> bool
+    ensures { result ≡ gave_with gave_accepted is_accepted event.now }
+{
+    match event {
+        JwtEvent::Connected => false,
+        _ => is_accepted || gave_accepted,
+    }
+}

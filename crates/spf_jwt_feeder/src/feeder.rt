@@ -1,0 +1,282 @@
+//! The feeder. Its fields are private to this module: nothing else asks its connector or its link.
+
+ghost use Rattle.std.specs.Prelude.{◌≡◌, [], false, IfErr, IfSome, reverse};
+ghost use Rattle.spf_view.specs.Views.{has_synced};
+ghost use Rattle.spf_jwt_feed.specs.Items.{item_in, subject};
+ghost use Rattle.spf_jwt_feed.specs.Run.{ask_of};
+ghost use Rattle.spf_feed.specs.declared.event.SessionEvent.TheVariants as events;
+ghost use Rattle.spf_jwt_feeder.specs.Fed.{StopsBy, Tells, Turns};
+ghost use Rattle.spf_jwt_feeder.specs.Kept.{Advances, Published, core_of, rules_of};
+ghost use Rattle.spf_jwt_feed.specs.Steps.{HasStep};
+ghost use Rattle.spf_feeder.specs.Asking.{is_client};
+ghost use Rattle.spf_jwt_feeder.specs.Coming.{AllTold};
+ghost use Rattle.spf_jwt_feeder.specs.Orderly.{GoesOn, IsOrderly};
+ghost use Rattle.spf_jwt_feeder.specs.Orderly as spec;
+
+use crate::ask::ask;
+use crate::session::{JwtSessionParts, JwtSessionRules, Session};
+use spf_feed::Phase;
+use spf_feeder::Stop;
+use spf_io::OutOfMemory;
+use spf_jwt_feed::{JwtEvent, JwtMetricsRecorder, JwtPublisher};
+use spf_link::{Connector, Link};
+use spf_pace::AttemptEnd;
+use std::alloc::Global;
+use std::marker::Model;
+use std::snapshot;
+
+/// Asks a connector and its link, and publishes what they tell: one ask a turn, whose step is
+/// published before the next one.
+#[derive(Drop)]
+pub struct JwtFeeder<C: Connector + Drop, P: JwtPublisher + Drop, M: JwtMetricsRecorder + Drop>
+where
+    C::Link: Drop,
+{
+    alloc: Global,
+    connector: C,
+    link: Option<C::Link>,
+    session: Session<P, M>,
+    /// The connector as it was handed in, which contracts alone see.
+    first: snapshot::Snapshot<C>,
+}
+
+impl<C: Connector + Drop, P: JwtPublisher + Drop, M: JwtMetricsRecorder + Drop> Model
+    for JwtFeeder<C, P, M>
+where
+    C::Link: Drop,
+{
+    ghost use Rattle.std.specs.Prelude.{◌≡◌, false, IfSome, reverse};
+    ghost use Rattle.spf_jwt_feed.specs.Items.{item_in};
+    ghost use Rattle.spf_jwt_feed.specs.Run.{ask_of};
+    ghost use Rattle.spf_jwt_feeder.specs.Fed.{Fed, fed, IsReady, Tells};
+    ghost use Rattle.spf_jwt_feeder.specs.Kept.{Published, rules_of};
+
+    ghost Value = { Fed C C.Link P M };
+
+    ghost view = { λ f. fed f.connector f.link f.session f.first.value };
+
+    ghost invariant = { λ f. Published (P.steps f.session.publisher)
+        (rules_of f.session.settings) f.session.run
+        × (f.session.stuck ≡ false → IsReady C.Link.kind
+        (ask_of item_in (rules_of f.session.settings)
+        (reverse f.session.run)) f.link)
+        × (f.session.stuck ≡ false → IfSome (C.members f.first.value)
+        (λ first. Tells C.members C.Link.answers
+        (rules_of f.session.settings) f.session.run
+        (record { connector = f.connector; link = f.link }) first)) };
+}
+
+/// Whether the last of the events is a moment.
+fn ends_with_moment(events: &[JwtEvent]) -> bool
+    ensures { result ≡ spec.ends_with_moment (reverse events.now) }
+{
+    matches!(events.last(), Some(JwtEvent::Moment(_)))
+}
+
+impl<C: Connector + Drop, P: JwtPublisher + Drop, M: JwtMetricsRecorder + Drop> JwtFeeder<C, P, M>
+where
+    C::Link: Drop,
+{
+    /// A feeder that has asked nothing yet.
+    pub(crate) fn new(
+        alloc: Global,
+        connector: C,
+        publisher: P,
+        recorder: M,
+        rules: JwtSessionRules,
+    ) -> JwtFeeder<C, P, M>
+        requires unused { IfSome (P.steps publisher) (λ steps. steps ≡ []) }
+        ensures core { result.core ≡ core_of publisher recorder rules [] false }
+        ensures first { result.first ≡ connector }
+    {
+        let first = snapshot::Snapshot::of(&connector);
+        JwtFeeder {
+            alloc,
+            connector,
+            link: None,
+            session: Session::new(alloc, publisher, recorder, rules),
+            first,
+        }
+    }
+
+    /// The events so far, oldest first.
+    pub fn events(&self) -> &[JwtEvent]
+        ensures { result.now ≡ self.now.core.run }
+    {
+        self.session.events()
+    }
+
+    /// The events so far, which contracts alone see.
+    pub fn noted_events(&self) -> snapshot::Snapshot<Vec<JwtEvent>>
+        ensures { result.value.items ≡ self.now.core.run }
+    {
+        self.session.noted_events()
+    }
+
+    /// Whether an item was accepted.
+    pub(crate) fn is_synced(&self) -> bool
+        requires { self.now.core.stuck ≡ false }
+        ensures { result ≡ has_synced
+            (subject (rules_of self.now.core.settings))
+            (reverse self.now.core.run) }
+    {
+        self.session.is_synced()
+    }
+
+    /// Whether a client is asked for next.
+    pub(crate) fn asks_client(&self) -> bool
+        requires { self.now.core.stuck ≡ false }
+        ensures { result ≡ is_client (ask_of item_in
+            (rules_of self.now.core.settings)
+            (reverse self.now.core.run)) }
+    {
+        matches!(self.session.phase(), Phase::Client)
+    }
+
+    /// Whether the last event is a moment.
+    pub(crate) fn ends_with_moment(&self) -> bool
+        ensures { result ≡ spec.ends_with_moment (reverse self.now.core.run) }
+    {
+        ends_with_moment(self.session.events())
+    }
+
+    /// A moment of the clock, which stands among the events. Nothing is asked.
+    pub(crate) fn take_moment(&mut self, moment: i64) -> Result<Option<AttemptEnd>, Stop>
+        requires going { self.old.core.stuck ≡ false }
+        ensures settings { self.new.core.settings ≡ self.old.core.settings }
+        ensures first { self.new.first ≡ self.old.first }
+        ensures target { P.target self.new.core.publisher ≡ P.target self.old.core.publisher }
+        ensures asked { self.new.asked ≡ self.old.asked }
+        ensures ended { IfErr result (StopsBy
+            (rules_of self.old.core.settings) self.new.core.run) }
+        ensures advances { Advances M.records
+            (rules_of self.old.core.settings) self.old.core
+            (events.Moment moment) result self.new.core }
+    {
+        self.session.advance(JwtEvent::Moment(moment))
+    }
+
+    /// Asks once, publishes the step of the event that was told, and records it.
+    pub(crate) fn ask_once(&mut self) -> Result<Option<AttemptEnd>, Stop>
+        ensures settings { self.new.core.settings ≡ self.old.core.settings }
+        ensures first { self.new.first ≡ self.old.first }
+        ensures target { P.target self.new.core.publisher ≡ P.target self.old.core.publisher }
+        ensures published { Published (P.steps self.new.core.publisher)
+            (rules_of self.new.core.settings) self.new.core.run }
+        ensures ended { IfErr result (StopsBy
+            (rules_of self.old.core.settings) self.new.core.run) }
+        ensures goes_on { GoesOn self.old.core.run self.new.core.run }
+        ensures turn { Turns C.Connector C.Link.Link M.records
+            (rules_of self.old.core.settings) self.old result
+            self.new }
+    {
+        if self.session.is_stuck() {
+            return Err(Stop::OutOfMemory);
+        }
+        let phase = self.session.phase();
+        match ask(self.alloc, &mut self.connector, &mut self.link, phase) {
+            Ok(event) => self.session.advance(event),
+            Err(OutOfMemory) => {
+                self.session.stop();
+                Err(Stop::OutOfMemory)
+            }
+        }
+    }
+
+    /// One turn: asks once, and publishes the step of the event that was told. Once a turn was
+    /// refused, each later one is refused and asks nothing.
+    pub fn turn(&mut self) -> Result<Option<AttemptEnd>, OutOfMemory>
+        ensures settings { self.new.core.settings ≡ self.old.core.settings }
+        ensures first { self.new.first ≡ self.old.first }
+        ensures target { P.target self.new.core.publisher ≡ P.target self.old.core.publisher }
+        ensures published { Published (P.steps self.new.core.publisher)
+            (rules_of self.new.core.settings) self.new.core.run }
+        ensures tells { self.new.core.stuck ≡ false → IfSome (C.members self.new.first)
+            (Tells C.members C.Link.answers
+            (rules_of self.new.core.settings) self.new.core.run
+            self.new.asked) }
+        ensures goes_on { GoesOn self.old.core.run self.new.core.run }
+        ensures turn { Turns C.Connector C.Link.Link M.records
+            (rules_of self.old.core.settings) self.old result
+            self.new }
+    {
+        let asked = self.ask_once();
+        let _ = &self.alloc;
+        match asked {
+            Ok(end) => Ok(end),
+            Err(_) => Err(OutOfMemory),
+        }
+    }
+
+    /// The rules of its run.
+    pub fn rules(&self) -> JwtSessionRules
+        ensures { result ≡ self.now.core.settings }
+    {
+        self.session.rules()
+    }
+
+    /// The publisher, which has exactly the steps of the run.
+    pub fn publisher(&self) -> &P
+        ensures publisher { result.now ≡ self.now.core.publisher }
+        ensures published { Published (P.steps self.now.core.publisher)
+            (rules_of self.now.core.settings) self.now.core.run }
+    {
+        self.session.publisher()
+    }
+
+    /// The same with another publisher, which has published the same steps, and the publisher
+    /// until now.
+    pub fn with_publisher<Q: JwtPublisher + Drop>(self, publisher: Q) -> (JwtFeeder<C, Q, M>, P)
+        requires published { Published (Q.steps publisher)
+            (rules_of self.core.settings) self.core.run }
+        requires has_step { HasStep (Q.steps publisher) }
+        ensures core { result.0.core ≡ core_of publisher self.core.recorder self.core.settings
+            self.core.run self.core.stuck }
+        ensures asked { result.0.asked ≡ self.asked }
+        ensures first { result.0.first ≡ self.first }
+        ensures publisher { result.1 ≡ self.core.publisher }
+    {
+        let JwtFeeder {
+            alloc,
+            connector,
+            link,
+            session,
+            first,
+        } = self;
+        let (session, before) = session.with_publisher(publisher);
+        let feeder = JwtFeeder {
+            alloc,
+            connector,
+            link,
+            session,
+            first,
+        };
+        (feeder, before)
+    }
+
+    /// The publisher of a feeder that asks no more.
+    pub fn into_publisher(self) -> P
+        ensures { result ≡ self.core.publisher }
+    {
+        let JwtFeeder { session, .. } = self;
+        session.into_parts().publisher
+    }
+
+    /// What is left of a feeder that asks no more. Its connector and its link are let go.
+    pub fn into_parts(self) -> JwtSessionParts<P>
+        requires going { self.core.stuck ≡ false }
+        ensures publisher { result.publisher ≡ self.core.publisher }
+        ensures events { result.events.items ≡ self.core.run }
+        ensures rules { result.rules ≡ self.core.settings }
+        ensures published { Published (P.steps self.core.publisher)
+            (rules_of self.core.settings) self.core.run }
+        ensures orderly { IsOrderly (rules_of self.core.settings)
+            (reverse self.core.run) }
+        ensures told { IfSome (C.members self.first) (λ members. AllTold
+            (rules_of self.core.settings) members
+            (reverse self.core.run)) }
+    {
+        let JwtFeeder { session, .. } = self;
+        session.into_parts()
+    }
+}

@@ -1,0 +1,328 @@
+//! The core of a feeder: the events so far, what they published, and where they stand.
+
+ghost use Rattle.std.specs.Prelude.{◌≡◌, ◌∷◌, [], true, false, None, Some, IsTrue, IfOk, OnOk};
+ghost use Rattle.std.specs.Prelude.{IfSome, reverse, is_some, if◌then◌else◌, ◌||◌};
+ghost use Rattle.std.specs.Arc.{arc_value};
+ghost use Rattle.spf_view.specs.Views.{has_synced};
+ghost use Rattle.spf_jwt_feed.specs.Items.{item_in, subject};
+ghost use Rattle.spf_jwt_feed.specs.Run.{ask_of};
+ghost use Rattle.spf_jwt_feed.specs.Following.{update_of};
+ghost use Rattle.spf_jwt_feed.specs.Steps.{HasStep};
+ghost use Rattle.spf_jwt_feed.specs.Turns.{MayTake, listed};
+ghost use Rattle.spf_jwt_feeder.specs.Kept.{Advances, Published, PublishesTurn, accepts, core_of};
+ghost use Rattle.spf_jwt_feeder.specs.Kept.{rules_of};
+ghost use Rattle.spf_jwt_feeder.specs.Orderly.{IsOrderly, does_answer, is_moment};
+
+use crate::attempt::{end_of, gave_after};
+use crate::received::received_of;
+use spf_feed::{Change, Phase};
+use spf_feeder::Stop;
+use spf_io::OutOfMemory;
+use spf_jwt::JwtResourceLimits;
+use spf_jwt_feed::{
+    JwtEvent, JwtMetricsRecord, JwtMetricsRecorder, JwtPublisher, JwtSnapshot, JwtStep, Records,
+    Turn, phase_after, publish, record_all, turn_of,
+};
+use spf_pace::AttemptEnd;
+use std::alloc::Global;
+use std::marker::Model;
+use std::snapshot;
+use std::sync::Arc;
+
+/// The rules of a session, but for its most frames.
+#[derive(Clone, Copy, Debug, PartialEq, Eq)]
+pub struct JwtSessionRules {
+    pub limits: JwtResourceLimits,
+    pub deadline: Option<i64>,
+}
+
+/// The records of an accepted item, by what its step changed.
+fn records_of(change: Change) -> Records
+    ensures { listed result ≡ update_of change }
+{
+    match change {
+        Change::Changed => Records {
+            error: None,
+            end: Some(JwtMetricsRecord::Update),
+        },
+        Change::Opened | Change::Unchanged => Records::none(),
+    }
+}
+
+fn shared<T: Drop>(alloc: Global, value: T) -> Result<Arc<T>, OutOfMemory>
+    ensures { IfOk result (λ a. arc_value a ≡ value) }
+{
+    Ok(Arc::new(alloc, value)?)
+}
+
+/// Publishes the step of a turn, where it has one, and returns the records of the turn.
+fn publish_turn<P: JwtPublisher>(
+    alloc: Global,
+    publisher: &mut P,
+    snapshot: &mut Option<JwtSnapshot>,
+    limits: JwtResourceLimits,
+    turn: Turn,
+) -> Result<Records, Stop>
+    requires turn { MayTake limits (is_some snapshot.old) turn }
+    requires synced { IsTrue (is_some snapshot.old) → HasStep (P.steps publisher.old) }
+    ensures synced { OnOk result (IsTrue (is_some snapshot.new) → HasStep (P.steps publisher.new)) }
+    ensures published { PublishesTurn limits turn snapshot.old
+        (P.steps publisher.old) result snapshot.new (P.steps publisher.new) }
+    ensures target { P.target publisher.new ≡ P.target publisher.old }
+{
+    match turn {
+        Turn::Terminal(terminal) => Err(Stop::Terminal(terminal)),
+        Turn::Passed(records) => Ok(records),
+        Turn::Denied { reason, records } => {
+            let step = JwtStep::Deny {
+                reason: shared(alloc, reason)?,
+            };
+            publish(publisher, snapshot, step)?;
+            Ok(records)
+        }
+        Turn::Accepted(bundle_set) => {
+            let step = JwtStep::Accept {
+                bundle_set: shared(alloc, bundle_set)?,
+                limits,
+            };
+            Ok(records_of(publish(publisher, snapshot, step)?))
+        }
+    }
+}
+
+fn is_accepted(turn: &Turn) -> bool
+    ensures { result ≡ accepts turn.now }
+{
+    matches!(turn, Turn::Accepted(_))
+}
+
+/// What is left of a session.
+#[derive(Drop)]
+pub struct JwtSessionParts<P: JwtPublisher + Drop> {
+    pub publisher: P,
+    /// The events, oldest first.
+    pub events: Vec<JwtEvent>,
+    pub rules: JwtSessionRules,
+}
+
+/// The events so far, with all that they publish and record. Once a turn was refused it takes no
+/// further event.
+#[derive(Drop)]
+pub(crate) struct Session<P: JwtPublisher + Drop, M: JwtMetricsRecorder + Drop> {
+    alloc: Global,
+    publisher: P,
+    recorder: M,
+    rules: JwtSessionRules,
+    events: Vec<JwtEvent>,
+    snapshot: Option<JwtSnapshot>,
+    phase: Phase,
+    gave_accepted: bool,
+    stuck: bool,
+}
+
+impl<P: JwtPublisher + Drop, M: JwtMetricsRecorder + Drop> Model for Session<P, M> {
+    ghost use Rattle.std.specs.Prelude.{◌≡◌, false, reverse};
+    ghost use Rattle.spf_jwt_feeder.specs.Kept.{Core, core_of, Published, Going, rules_of};
+    ghost use Rattle.spf_jwt_feeder.specs.Orderly.{IsOrderly};
+
+    ghost Value = { Core P M };
+
+    ghost view = { λ s. core_of s.publisher s.recorder s.rules s.events.items s.stuck };
+
+    ghost invariant = { λ s. Published (P.steps s.publisher) (rules_of s.rules) s.events.items
+        × (s.stuck ≡ false → Going (rules_of s.rules) s.events.items (P.steps s.publisher)
+        s.snapshot s.phase s.gave_accepted)
+        × IsOrderly (rules_of s.rules) (reverse s.events.items) };
+}
+
+impl<P: JwtPublisher + Drop, M: JwtMetricsRecorder + Drop> Session<P, M> {
+    /// A session of no events yet, whose publisher has no steps.
+    pub(crate) fn new(
+        alloc: Global,
+        publisher: P,
+        recorder: M,
+        rules: JwtSessionRules,
+    ) -> Session<P, M>
+        requires unused { IfSome (P.steps publisher) (λ steps. steps ≡ []) }
+        ensures { result ≡ core_of publisher recorder rules [] false }
+    {
+        Session {
+            alloc,
+            publisher,
+            recorder,
+            rules,
+            events: Vec::new(alloc),
+            snapshot: None,
+            phase: Phase::Client,
+            gave_accepted: false,
+            stuck: false,
+        }
+    }
+
+    pub(crate) fn is_stuck(&self) -> bool
+        ensures { result ≡ self.now.stuck }
+    {
+        self.stuck
+    }
+
+    /// What is asked next.
+    pub(crate) fn phase(&self) -> Phase
+        requires { self.now.stuck ≡ false }
+        ensures { result ≡ ask_of item_in (rules_of self.now.settings)
+            (reverse self.now.run) }
+    {
+        self.phase
+    }
+
+    pub(crate) fn is_synced(&self) -> bool
+        requires { self.now.stuck ≡ false }
+        ensures { result ≡ has_synced
+            (subject (rules_of self.now.settings)) (reverse self.now.run) }
+    {
+        self.snapshot.is_some()
+    }
+
+    /// The events so far, oldest first.
+    pub(crate) fn events(&self) -> &[JwtEvent]
+        ensures { result.now ≡ self.now.run }
+    {
+        self.events.as_slice()
+    }
+
+    /// The events so far, which contracts alone see.
+    pub(crate) fn noted_events(&self) -> snapshot::Snapshot<Vec<JwtEvent>>
+        ensures { result.value.items ≡ self.now.run }
+    {
+        snapshot::Snapshot::of(&self.events)
+    }
+
+    /// The rules of the session.
+    pub(crate) fn rules(&self) -> JwtSessionRules
+        ensures { result ≡ self.now.settings }
+    {
+        self.rules
+    }
+
+    /// The publisher, which has exactly the steps of the run.
+    pub(crate) fn publisher(&self) -> &P
+        ensures publisher { result.now ≡ self.now.publisher }
+        ensures published { Published (P.steps self.now.publisher)
+            (rules_of self.now.settings) self.now.run }
+    {
+        &self.publisher
+    }
+
+    /// The same with another publisher, which has published the same steps, and the publisher
+    /// until now.
+    pub(crate) fn with_publisher<Q: JwtPublisher + Drop>(self, publisher: Q) -> (Session<Q, M>, P)
+        requires published { Published (Q.steps publisher)
+            (rules_of self.settings) self.run }
+        requires has_step { HasStep (Q.steps publisher) }
+        ensures core { result.0 ≡ core_of publisher self.recorder self.settings self.run
+            self.stuck }
+        ensures publisher { result.1 ≡ self.publisher }
+    {
+        let Session {
+            alloc,
+            publisher: before,
+            recorder,
+            rules,
+            events,
+            snapshot,
+            phase,
+            gave_accepted,
+            stuck,
+        } = self;
+        let session = Session {
+            alloc,
+            publisher,
+            recorder,
+            rules,
+            events,
+            snapshot,
+            phase,
+            gave_accepted,
+            stuck,
+        };
+        (session, before)
+    }
+
+    /// What is left of a session that goes no further.
+    pub(crate) fn into_parts(self) -> JwtSessionParts<P>
+        ensures publisher { result.publisher ≡ self.publisher }
+        ensures events { result.events.items ≡ self.run }
+        ensures rules { result.rules ≡ self.settings }
+        ensures published { Published (P.steps self.publisher)
+            (rules_of self.settings) self.run }
+        ensures orderly { IsOrderly (rules_of self.settings)
+            (reverse self.run) }
+    {
+        let Session {
+            publisher,
+            rules,
+            events,
+            ..
+        } = self;
+        JwtSessionParts {
+            publisher,
+            events,
+            rules,
+        }
+    }
+
+    /// Takes no further event.
+    pub(crate) fn stop(&mut self)
+        ensures unchanged { self.new ≡ record self.old { stuck = true } }
+        ensures published { Published (P.steps self.new.publisher)
+            (rules_of self.new.settings) self.new.run }
+    {
+        self.stuck = true;
+    }
+
+    /// One event more: its step is published, then it stands among the events, then its records are
+    /// recorded.
+    pub(crate) fn advance(&mut self, event: JwtEvent) -> Result<Option<AttemptEnd>, Stop>
+        requires going { self.old.stuck ≡ false }
+        requires fits { (is_moment event || does_answer (ask_of item_in
+            (rules_of self.old.settings) (reverse self.old.run)) event)
+            ≡ true }
+        ensures settings { self.new.settings ≡ self.old.settings }
+        ensures target { P.target self.new.publisher ≡ P.target self.old.publisher }
+        ensures published { Published (P.steps self.new.publisher)
+            (rules_of self.new.settings) self.new.run }
+        ensures advances { Advances M.records
+            (rules_of self.old.settings) self.old event result self.new }
+    {
+        self.stuck = true;
+        if self.events.reserve(1).is_err() {
+            return Err(Stop::OutOfMemory);
+        }
+        let synced = self.snapshot.is_some();
+        let received = received_of(self.alloc, &event)?;
+        let next = phase_after(self.phase, synced, &received);
+        let end = end_of(self.alloc, next, self.gave_accepted, &received)?;
+        let limits = self.rules.limits;
+        let turn = turn_of(limits, self.rules.deadline, synced, received);
+        let is_accepted = is_accepted(&turn);
+        let records = publish_turn(
+            self.alloc,
+            &mut self.publisher,
+            &mut self.snapshot,
+            limits,
+            turn,
+        )?;
+        self.gave_accepted = gave_after(self.gave_accepted, is_accepted, &event);
+        self.events.push_reserved(event);
+        self.phase = next;
+        record_all(&mut self.recorder, records)?;
+        self.stuck = false;
+        Ok(unless(is_accepted, end))
+    }
+}
+
+/// An accepted item ends no attempt.
+fn unless(is_accepted: bool, end: Option<AttemptEnd>) -> Option<AttemptEnd>
+    ensures { result ≡ (if is_accepted then None else end) }
+{
+    if is_accepted { None } else { end }
+}

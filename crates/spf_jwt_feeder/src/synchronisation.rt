@@ -1,0 +1,155 @@
+//! The initial synchronisation: attempts with a moment of the clock before each, until an item is
+//! accepted.
+
+ghost use Rattle.std.specs.Prelude.{◌≡◌, ◌≤ℤ◌, false, true, pos, IfErr, OnOk, reverse};
+ghost use Rattle.spf_view.specs.Steps.{steps_of};
+ghost use Rattle.spf_view.specs.Views.{has_synced};
+ghost use Rattle.spf_jwt_feed.specs.Items.{subject};
+ghost use Rattle.spf_jwt_feeder.specs.Fed.{StopsBy};
+ghost use Rattle.spf_jwt_feeder.specs.Kept.{rules_of};
+ghost use Rattle.spf_jwt_feeder.specs.Orderly.{IsAboutToAsk, IsOneStep, IsOpening, IsTimed};
+ghost use Rattle.spf_jwt_feeder.specs.Pacing.{KeepsPace};
+ghost use Rattle.spf_feeder.specs.Times.{TakesMoment};
+ghost use Rattle.spf_feeder.specs.Times as spec;
+ghost use Rattle.spf_jwt_feeder.specs.Times.{Gives};
+ghost use Rattle.spf_jwt_feeder.specs.declared.pace.Pace.{Pace as Paces};
+
+use crate::feeder::JwtFeeder;
+use crate::pace::Pace;
+use crate::supervisor::paced_ask;
+use rand_core::Rng;
+use spf_feeder::Stop;
+use spf_jwt_feed::{JwtMetricsRecorder, JwtPublisher};
+use spf_link::Connector;
+use spf_system::{Clock, Pause};
+use std::sync::Wait;
+use std::time::Duration;
+
+/// Asks the clock until it gives a moment, with this pause where it gives none.
+pub(crate) fn next_moment<T: Clock, W: Pause, H: Wait>(
+    rt: &H,
+    clock: &mut T,
+    pause: &mut W,
+    delay: Duration,
+) -> i64
+    ensures moment { TakesMoment (T.moments clock.old) (T.moments clock.new) result }
+    ensures range { pos 0 ≤ℤ result }
+{
+    'asks: for _ in rt.forever() {
+        match clock.now() {
+            Some(moment) => return moment,
+            None => pause.pause(delay),
+        }
+    }
+    unreachable!()
+}
+
+/// The first moment and a timeout behind it in whole seconds, rounded up. It stops at `i64::MAX`.
+pub(crate) fn deadline_after(first: i64, timeout: Duration) -> i64
+    requires { pos 0 ≤ℤ first }
+    ensures { result ≡ spec.deadline_after first timeout }
+{
+    let seconds = timeout.as_nanos().div_ceil(1_000_000_000);
+    let latest = i64::MAX as u128;
+    (first as u128 + seconds).min(latest) as i64
+}
+
+/// Where a client is asked for next, a moment of the clock stands right before it.
+fn moment_before<C, P, M, T, W, H>(
+    rt: &H,
+    feeder: &mut JwtFeeder<C, P, M>,
+    clock: &mut T,
+    pause: &mut W,
+    delay: Duration,
+) -> Result<(), Stop>
+where
+    C: Connector + Drop,
+    C::Link: Drop,
+    P: JwtPublisher + Drop,
+    M: JwtMetricsRecorder + Drop,
+    T: Clock,
+    W: Pause,
+    H: Wait,
+    requires going { feeder.old.core.stuck ≡ false }
+    requires timed { IsOpening (rules_of feeder.old.core.settings)
+        feeder.old.core.run }
+    ensures settings { feeder.new.core.settings ≡ feeder.old.core.settings }
+    ensures handed { feeder.new.first ≡ feeder.old.first }
+    ensures asked { feeder.new.asked ≡ feeder.old.asked }
+    ensures going { OnOk result (feeder.new.core.stuck ≡ false) }
+    ensures timed { OnOk result (IsAboutToAsk
+        (rules_of feeder.old.core.settings) feeder.new.core.run) }
+    ensures clock { OnOk result (Gives (T.moments clock.old) (T.moments clock.new)
+        feeder.old.core.run feeder.new.core.run) }
+    ensures paces { (pace : Paces) → KeepsPace
+        (rules_of feeder.old.core.settings) feeder.old.core.run pace
+        → OnOk result (KeepsPace
+        (rules_of feeder.old.core.settings) feeder.new.core.run
+        pace) }
+    ensures ended { IfErr result (StopsBy
+        (rules_of feeder.old.core.settings) feeder.new.core.run) }
+{
+    if !feeder.asks_client() || feeder.ends_with_moment() {
+        return Ok(());
+    }
+    let moment = next_moment(rt, clock, pause, delay);
+    match feeder.take_moment(moment) {
+        Ok(_) => Ok(()),
+        Err(stop) => Err(stop),
+    }
+}
+
+/// Asks until the first item is accepted, with a moment of the clock right before each attempt, and
+/// a pause after each that failed.
+pub(crate) fn synchronise<C, P, M, R, T, W, H>(
+    rt: &H,
+    feeder: &mut JwtFeeder<C, P, M>,
+    pace: &mut Pace,
+    random: &mut R,
+    clock: &mut T,
+    pause: &mut W,
+    delay: Duration,
+) -> Result<(), Stop>
+where
+    C: Connector + Drop,
+    C::Link: Drop,
+    P: JwtPublisher + Drop,
+    M: JwtMetricsRecorder + Drop,
+    R: Rng,
+    T: Clock,
+    W: Pause,
+    H: Wait,
+    requires going { feeder.old.core.stuck ≡ false }
+    requires keeps { KeepsPace (rules_of feeder.old.core.settings)
+        feeder.old.core.run pace.old }
+    requires timed { IsOpening (rules_of feeder.old.core.settings)
+        feeder.old.core.run }
+    ensures settings { feeder.new.core.settings ≡ feeder.old.core.settings }
+    ensures handed { feeder.new.first ≡ feeder.old.first }
+    ensures timed { OnOk result (IsTimed
+        (rules_of feeder.old.core.settings)
+        (reverse feeder.new.core.run)) }
+    ensures once { OnOk result (IsOneStep (steps_of (subject
+        (rules_of feeder.old.core.settings)) feeder.new.core.run)) }
+    ensures clock { OnOk result (Gives (T.moments clock.old) (T.moments clock.new)
+        feeder.old.core.run feeder.new.core.run) }
+    ensures bounds { pace.new.bounds ≡ pace.old.bounds }
+    ensures going { OnOk result (feeder.new.core.stuck ≡ false) }
+    ensures synced { OnOk result (has_synced
+        (subject (rules_of feeder.old.core.settings))
+        (reverse feeder.new.core.run) ≡ true) }
+    ensures paces { OnOk result (KeepsPace
+        (rules_of feeder.old.core.settings) feeder.new.core.run
+        pace.new) }
+    ensures ended { IfErr result (StopsBy
+        (rules_of feeder.old.core.settings) feeder.new.core.run) }
+{
+    'asks: for _ in rt.forever() {
+        moment_before(rt, feeder, clock, pause, delay)?;
+        paced_ask(feeder, pace, random, pause)?;
+        if feeder.is_synced() {
+            return Ok(());
+        }
+    }
+    unreachable!()
+}

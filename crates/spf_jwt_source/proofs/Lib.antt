@@ -1,0 +1,7 @@
+mod Reading
+pub mod Failing
+pub mod Joining
+pub mod Leaving
+pub mod Recording
+pub mod Tasks
+pub mod Untold

@@ -1,0 +1,54 @@
+use Rattle.std.proofs.Common.{Option, ap, ◌∙◌, sym, subst, reverse}
+use Rattle.std.specs.Prelude.{IfSome}
+use Rattle.spf_jwt_feed.specs.Items.{Rules}
+use Rattle.spf_jwt_feeder.specs.Kept.{rules_of}
+use Rattle.spf_jwt_feeder.specs.Orderly.{GoesOn, IsSynced}
+use Rattle.spf_jwt_feeder.proofs.OrderLemmas.{synced_on}
+use Rattle.spiffe.proofs.Leaving.{same_board}
+use Rattle.spf_jwt_source.specs.Records.{Assigned, IsOf, Left, Recorded}
+use Rattle.spf_jwt_source.proofs.Recording.{recorded_of_job}
+use Rattle.spf_jwt_source.proofs.job.JwtJobJob.run.Goals.{in-Some, in-None}
+use Rattle.spf_jwt_source.proofs.job.JwtJobJob.run.Goals as goal
+
+pub recorded-done-requires-clause-synced : goal.recorded-done-requires-clause-synced
+recorded-done-requires-clause-synced g c =
+    let core = c.self.inside.feeder.core in
+    let rule : Rules = rules_of core.settings in
+    let went = c.supervise-closed.ensures in
+    let run = c.supervise-closed.new.feeder.core.run in
+    subst (λ r. IsSynced r (reverse run))
+    (λ i. rules_of (sym went.settings i))
+    (synced_on rule core.run run went.goes_on c.self.invariant.1)
+
+pub returns-clause-left : goal.returns-clause-left
+returns-clause-left g c =
+    let job : Assigned g.row.C.Denot = c.args.self in
+    let same = c.self.view_is in
+    let went = c.supervise-closed.ensures in
+    let feeder = c.supervise-closed.new.feeder in
+    let board = same_board _ _ went.target ∙ ap (λ (j : Assigned g.row.C.Denot). j.board) same in
+    elim c.match-closed.branch [
+      | in-Some w ↦ record {
+        board = ap (λ (d : Left). d.past.book) w.done-is ∙ w.recorded-done.ensures.board ∙ board;
+        record_is = subst (λ (d : Left). IfSome d.recorded (IsOf g.C.Connector.members job))
+            (sym w.done-is)
+            (recorded_of_job g.C.Connector.members job feeder.first feeder.core.run
+            feeder.core.settings c.supervise-closed.new.pace w.in-Some.closed
+            w.recorded-done.result.recorded w.recorded-done.ensures.recorded
+            w.recorded-done.ensures.told
+            (went.first ∙ ap (λ (j : Assigned g.row.C.Denot). j.first) same)
+            (subst (λ run. GoesOn run feeder.core.run)
+            (ap (λ (j : Assigned g.row.C.Denot). j.run) same) went.goes_on)
+            (went.settings ∙ ap (λ (j : Assigned g.row.C.Denot). j.settings) same)
+            (went.bounds ∙ ap (λ (j : Assigned g.row.C.Denot). j.bounds) same)
+            (w.in-Some.ensures.closed.0 ∙ ap (λ (j : Assigned g.row.C.Denot). j.cell) same));
+      }
+      | in-None w ↦ record {
+        board = ap (λ (d : Left). d.past.book) w.done-is ∙ w.unrecorded-done.ensures.board
+            ∙ board;
+        record_is = subst (λ (o : Option Recorded). IfSome o (IsOf g.C.Connector.members job))
+            (sym (ap (λ (d : Left). d.recorded) w.done-is
+            ∙ w.unrecorded-done.ensures.recorded))
+            tt;
+      }
+    ]

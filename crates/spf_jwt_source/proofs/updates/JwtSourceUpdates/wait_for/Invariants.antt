@@ -1,0 +1,12 @@
+use Rattle.std.proofs.Common.{◌≡◌}
+use Rattle.spf_jwt_source.specs.Reads.{SeesNoLess}
+use Rattle.spf_jwt_source.proofs.updates.JwtSourceUpdates.wait_for.Given as goal
+
+abbrev pub invariant-changes : goal.invariant-changes
+invariant-changes g l = record {
+  next : (goal.iterator-changes g).can_next l.iterator';
+  finite : (goal.iterator-changes g).is_finite l.iterator';
+  callable : goal.F-IsAlwaysCallable g l.f;
+  cell : l.self.cell ≡ l.fn.self.cell;
+  pass : SeesNoLess l.fn.self.pass l.self.pass;
+}

@@ -1,0 +1,5 @@
+pub mod Shutdowns
+pub mod Sources
+pub mod Building
+pub mod Records
+pub mod Reads

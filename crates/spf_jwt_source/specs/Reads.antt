@@ -1,0 +1,158 @@
+-- What the calls of a source return, and what they do to the pass that they are lent.
+use Rattle.std.specs.Prelude.{◌≡◌, ◌≢◌, ◌⊎◌, ◌≤◌, ℕ, Bool, false, List, Option, Some, None}
+use Rattle.std.specs.Prelude.{Result, Ok, Err, IfSome, IsSomeAnd, is_some}
+use Rattle.std.specs.Option.{option_map, option_and_then}
+use Rattle.std.specs.Arc.{arc_value}
+use Rattle.std.specs.declared.alloc.Global.{Global}
+use Rattle.std.specs.declared.sync.Arc.{Arc}
+use mathlib.Core.List.{IsPrefix}
+use Rattle.spf_io.specs.declared.memory.OutOfMemory.{OutOfMemory}
+use Rattle.spf_view.specs.Views.{View}
+use Rattle.spf_view.specs.Standing.{held_in, reason_of}
+use Rattle.spf_x509.specs.Bundle.{find_entry}
+use Rattle.spf_board.specs.Passes.{Peeks, Renews, Rose}
+use Rattle.spf_close.specs.Marks.{held}
+use Rattle.spf_close.specs.declared.maker.Maker.TheVariants as makers
+use Rattle.spf_feed.specs.declared.step.Denial.{Denial}
+use Rattle.spf_jwt.specs.Bundle.{Bundle}
+use Rattle.spf_jwt_feed.specs.declared.state.JwtSourceError.{JwtSourceError}
+use Rattle.spf_jwt_feed.specs.declared.state.JwtSourceError.TheVariants as errors
+use Rattle.spf_jwt_feed.specs.States.{StateView}
+use Rattle.spf_jwt_feed.specs.Steps.{BundleSet}
+use Rattle.spf_jwt_board.specs.Passes.{PassView, read_of}
+use Rattle.spf_jwt_board.specs.Steps.{Legal, Replays, is_usable}
+use Rattle.spf_jwt_board.specs.States.{IsStateOf}
+use Rattle.spf_jwt.specs.Token.{Svid}
+use Rattle.spf_link.specs.declared.connector.Connector as connectors
+use Rattle.spf_link.specs.declared.link.Link as links
+use Rattle.spf_link.specs.declared.request.Request.{Request}
+use Rattle.spf_jwt_client.specs.Fetching.{FetchesJwt, Held}
+use Rattle.spiffe.specs.Sources.{Source}
+use Rattle.spf_jwt_source.specs.Sources.{Updates}
+
+-- A pass that is told whether the source of this cell is closed: it knows a mark of the cell, or
+-- none, and all else of it is as before.
+pub record LooksAt (cell : ℕ) (old new : PassView) : Type 0 where
+  pub read : new ≡ record old { closed = new.closed }
+  pub mark : IfSome new.closed (λ known. known.cell ≡ cell)
+
+-- a caller closed this cell, which the pass knows by a note
+abbrev pub IsClosedByCaller : ℕ → PassView → Type 0
+IsClosedByCaller cell pass = pass.closed ≡ Some (held cell makers.Caller)
+
+-- Why a call refuses without a read: a caller closed the cell, or memory ran out.
+abbrev pub HasClosedCause : ℕ → PassView → JwtSourceError → Type 0
+HasClosedCause cell pass errors.Closed = IsClosedByCaller cell pass
+HasClosedCause cell pass errors.OutOfMemory = Unit {0}
+HasClosedCause cell pass _ = ⊥
+
+-- A state says that the source of this cell is closed exactly where a mark of it is known.
+pub record SaysClosed (cell : ℕ) (pass : PassView) (closed : Bool) : Type 0 where
+  pub mark : IfSome pass.closed (λ known. known.cell ≡ cell)
+  pub exact : closed ≡ is_some pass.closed
+
+-- a pass that has seen no less than before, of the same board
+pub record SeesNoLess (old new : PassView) : Type 0 where
+  pub book : new.book ≡ old.book
+  pub seen : IsPrefix old.seen new.seen
+  pub entered : IsPrefix old.entered new.entered
+
+-- something is so of a state that the pass has read, and it knows of no mark of the closed cell
+pub record Reads (old new : PassView) (holds : View BundleSet Denial → Type 0) : Type 0 where
+  pub state : StateView
+  pub read : IsStateOf new.seen state.closed state
+  pub renews : Renews Legal (read_of old) (read_of new)
+  pub is_so : holds state.view
+  pub open_source : new.closed ≡ None
+
+-- What a getter returns: what the getter of a state returns that the pass has read. Where a caller
+-- closed this cell, the pass knows that by a note, and nothing is read.
+abbrev pub Gets : {T : Type 0} → (View BundleSet Denial → Result T JwtSourceError → Type 0)
+    → ℕ → PassView → PassView → Result T JwtSourceError → Type 0
+Gets answer cell old new (Err errors.Closed) =
+    new ≡ record old { closed = Some (held cell makers.Caller) }
+Gets answer cell old new (Err errors.OutOfMemory) = Unit {0}
+Gets answer cell old new (Err e) = Reads old new (λ view. answer view (Err e))
+Gets answer cell old new (Ok x) = Reads old new (λ view. answer view (Ok x))
+
+-- the bundle of a trust domain, or the reason of the withdrawal
+abbrev pub BundleAnswer : View BundleSet Denial → List ℕ
+    → Result (Option (Arc Bundle Global)) JwtSourceError → Type 0
+BundleAnswer view domain (Ok bundle) =
+    option_and_then (find_entry domain) (held_in view) ≡ option_map arc_value bundle
+BundleAnswer view domain (Err (errors.Withdrawn reason)) = reason_of view ≡ Some (arc_value reason)
+BundleAnswer view domain (Err errors.OutOfMemory) = Unit {0}
+BundleAnswer view domain (Err _) = ⊥
+
+-- the bundle of a trust domain, and none where there is no bundle or nothing is held
+abbrev pub TriesBundle : List ℕ → ℕ → PassView → PassView
+    → Result (Option (Arc Bundle Global)) OutOfMemory → Type 0
+TriesBundle domain cell old new (Ok (Some bundle)) =
+    Gets (λ view. BundleAnswer view domain) cell old new (Ok (Some bundle))
+TriesBundle domain cell old new (Ok None) =
+    Gets (λ view. BundleAnswer view domain) cell old new (Ok None)
+    ⊎ ((e : JwtSourceError) × (e ≢ errors.OutOfMemory)
+    × Gets (λ view. BundleAnswer view domain) cell old new (Err e))
+TriesBundle domain cell old new (Err e) = Unit {0}
+
+-- Whether a source is healthy: where a mark of its cell is known it is not, and nothing is read;
+-- otherwise what is published is usable, which the pass does not keep.
+abbrev pub IsHealthy : ℕ → PassView → PassView → Bool → Type 0
+IsHealthy cell old new healthy =
+    ((healthy ≡ false) × IsSomeAnd new.closed (λ known. known.cell ≡ cell)
+    × (new ≡ record old { closed = new.closed }))
+    ⊎ ((new.closed ≡ None)
+    × Peeks Legal Replays (λ shown found. found ≡ is_usable shown)
+    (read_of old) (read_of new) healthy)
+
+-- No place comes only where the count of refused places rose, and no other error but out of memory.
+abbrev pub HasPlaceCause : {T : Type 0} → ℕ → ℕ → Result T JwtSourceError → Type 0
+HasPlaceCause before now (Ok p) = before ≤ now
+HasPlaceCause before now (Err errors.NoPlace) = (before ≤ now) × Rose before now
+HasPlaceCause before now (Err errors.OutOfMemory) = before ≤ now
+HasPlaceCause before now (Err _) = ⊥
+
+-- the revision of the state that a pass has read
+abbrev pub IsRevision : PassView → ℕ → Type 0
+IsRevision pass revision =
+    (state : StateView) × IsStateOf pass.seen state.closed state × (revision ≡ state.revision)
+
+-- a pass that has read, once it had seen no less than before
+pub record ReadsOn (old new : PassView) : Type 0 where
+  pub between : PassView
+  pub seen : SeesNoLess old between
+  pub renews : Renews Legal (read_of between) (read_of new)
+
+-- Why a wait for another revision than this one ends without it: a caller closed the cell, and this
+-- one was read even so; or memory ran out.
+abbrev pub Stays : ℕ → ℕ → PassView → PassView → JwtSourceError → Type 0
+Stays cell revision old new errors.Closed =
+    IsClosedByCaller cell new × IsRevision new revision × ReadsOn old new
+Stays cell revision old new errors.OutOfMemory = Unit {0}
+Stays cell revision old new _ = ⊥
+
+-- Updates of a source: their pass is of its board and has seen at least what the giver has seen,
+-- and the revision of what it has read is marked as seen.
+pub record Follows (source : Source) (giver : PassView) (updates : Updates) : Type 0 where
+  pub cell : updates.cell ≡ source.cell
+  pub board : updates.pass.book ≡ source.board
+  pub seen : IsPrefix giver.seen updates.pass.seen
+  pub marked : IsRevision updates.pass updates.marked
+
+-- what a source gives to a pass that has read a state
+abbrev pub OfState : PassView → (View BundleSet Denial → Type 0) → Type 0
+OfState pass holds =
+    (state : StateView) × IsStateOf pass.seen state.closed state × holds state.view
+
+-- a source that is closed: out of memory, where no caller closed it
+abbrev pub IsClosing : {T : Type 0} → Result T JwtSourceError → Type 0
+IsClosing (Err errors.Closed) = Unit {0}
+IsClosing (Err errors.OutOfMemory) = Unit {0}
+IsClosing _ = ⊥
+
+-- A live fetch: where the source is closed the fetcher is left as it was, and otherwise the result
+-- is that of the fetcher.
+abbrev pub FetchesLive : {S L : Type 0} → connectors.Ghosts S L → links.Ghosts L → Request
+    → Held S L → Result Svid JwtSourceError → Held S L → Type 0
+FetchesLive connector link request old result new =
+    (IsClosing result × (new ≡ old)) ⊎ FetchesJwt connector link request old result new

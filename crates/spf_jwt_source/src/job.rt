@@ -1,0 +1,207 @@
+//! What the thread of a supervisor does.
+
+ghost use Rattle.std.specs.Prelude.{◌≡◌, false, true, IfOk, IfSome, None, Some, reverse};
+ghost use mathlib.Core.List.{IsPrefix};
+ghost use Rattle.spf_close.specs.declared.maker.Maker.TheVariants as makers;
+ghost use Rattle.spf_jwt_feeder.specs.Coming.{AllTold};
+ghost use Rattle.spf_jwt_feeder.specs.Kept.{rules_of};
+ghost use Rattle.spf_jwt_feeder.specs.Orderly.{IsSynced};
+ghost use Rattle.spf_jwt_feeder.specs.Pacing.{KeepsPace};
+ghost use Rattle.spf_history.specs.Lists.{is_ended, steps_of};
+ghost use Rattle.spf_jwt_source.specs.Records.{IsLeftBy, IsRecord, assigned, task_of};
+ghost use Rattle.spiffe.specs.Records.{untold};
+
+use crate::publishing::BoardPublisher;
+use crate::record::JwtSupervised;
+use rand_core::Rng;
+use spf_close::{Bell, Closed, Closer, Watch};
+use spf_io::OutOfMemory;
+use spf_job::Job;
+use spf_jwt_board::{JwtEnded, JwtPass, settle};
+use spf_jwt_feed::JwtMetricsRecorder;
+use spf_jwt_feeder::{JwtFeeder, JwtSessionParts, Pace, supervise};
+use spf_link::Connector;
+use spf_system::Pause;
+use std::marker::Model;
+use std::sync::Wait;
+
+/// What a supervisor leaves: its ended writer, and its record, where memory did not run out.
+#[derive(Drop)]
+pub struct JwtDone<R: Wait + Drop> {
+    ended: JwtEnded<R>,
+    supervised: Option<JwtSupervised>,
+}
+
+impl<R: Wait + Drop> Model for JwtDone<R> {
+    ghost use Rattle.std.specs.Prelude.{◌≡◌, IfSome};
+    ghost use Rattle.spf_history.specs.Lists.{steps_of};
+    ghost use Rattle.spf_jwt_source.specs.Records.{IsRecord, Left, left_of};
+
+    ghost Value = { Left };
+
+    ghost view = { λ d. left_of d.ended d.supervised };
+
+    ghost invariant = { λ d. IfSome d.supervised (λ r.
+        (r.steps ≡ steps_of d.ended.list) × IsRecord r) };
+}
+
+impl<R: Wait + Drop> JwtDone<R> {
+    /// The record, where the pass of the same source is told of all that was published: its steps
+    /// are what the pass has then seen, and it never sees more.
+    pub fn into_record(self, pass: &mut JwtPass) -> Result<JwtSupervised, OutOfMemory>
+        requires { pass.old.book ≡ self.past.book }
+        ensures record { IfOk result (λ r. self.recorded ≡ Some r) }
+        ensures kept { IfOk result IsRecord }
+        ensures settled { IfOk result (λ r. (r.steps ≡ steps_of pass.new.seen)
+            × (is_ended pass.new.seen ≡ true)) }
+        ensures book { pass.new.book ≡ pass.old.book }
+        ensures seen { IsPrefix pass.old.seen pass.new.seen }
+    {
+        let JwtDone { ended, supervised } = self;
+        settle(ended, pass)?;
+        supervised.ok_or(OutOfMemory)
+    }
+}
+
+/// Asks the connector and its link, publishes on the board, and ends where a caller closes the
+/// source or memory runs out.
+#[derive(Drop)]
+pub struct JwtJob<C, M, W, N, R>
+where
+    C: Connector + Drop,
+    C::Link: Drop,
+    M: JwtMetricsRecorder + Drop,
+    W: Pause + Drop,
+    N: Rng + Drop,
+    R: Wait + Drop,
+{
+    pub(crate) feeder: JwtFeeder<C, BoardPublisher<R>, M>,
+    pub(crate) pace: Pace,
+    pub(crate) pause: W,
+    pub(crate) random: N,
+    pub(crate) watch: Watch,
+    pub(crate) closer: Closer,
+    pub(crate) bell: Bell,
+    pub(crate) rt: R,
+}
+
+impl<C, M, W, N, R> Model for JwtJob<C, M, W, N, R>
+where
+    C: Connector + Drop,
+    C::Link: Drop,
+    M: JwtMetricsRecorder + Drop,
+    W: Pause + Drop,
+    N: Rng + Drop,
+    R: Wait + Drop,
+{
+    ghost use Rattle.std.specs.Prelude.{◌≡◌, false, reverse};
+    ghost use Rattle.spf_jwt_feeder.specs.Kept.{rules_of};
+    ghost use Rattle.spf_jwt_feeder.specs.Orderly.{IsSynced};
+    ghost use Rattle.spf_jwt_feeder.specs.Pacing.{KeepsPace};
+    ghost use Rattle.spf_jwt_source.specs.Records.{Assigned, assigned};
+
+    ghost Value = { Assigned C };
+
+    ghost view = { λ j. assigned j.feeder.core.publisher.book j.watch j.feeder.core.run
+        j.feeder.core.settings j.pace.bounds j.feeder.first };
+
+    ghost invariant = { λ j. (j.feeder.core.stuck ≡ false)
+        × IsSynced (rules_of j.feeder.core.settings)
+        (reverse j.feeder.core.run)
+        × KeepsPace (rules_of j.feeder.core.settings)
+        j.feeder.core.run j.pace };
+}
+
+/// What is left where a caller closed the source.
+fn recorded<C, M, R>(
+    feeder: JwtFeeder<C, BoardPublisher<R>, M>,
+    pace: Pace,
+    closed: Closed,
+) -> JwtDone<R>
+where
+    C: Connector + Drop,
+    C::Link: Drop,
+    M: JwtMetricsRecorder + Drop,
+    R: Wait + Drop,
+    requires going { feeder.core.stuck ≡ false }
+    requires synced { IsSynced (rules_of feeder.core.settings)
+        (reverse feeder.core.run) }
+    requires paces { KeepsPace (rules_of feeder.core.settings)
+        feeder.core.run pace }
+    requires maker { closed.maker ≡ makers.Caller }
+    ensures board { result.past.book ≡ feeder.core.publisher.book }
+    ensures recorded { IfSome result.recorded (λ r. (r.run ≡ feeder.core.run)
+        × (r.settings ≡ feeder.core.settings)
+        × (r.pace ≡ pace) × (r.closed ≡ closed)) }
+    ensures told { IfSome (C.members feeder.first) (λ m. AllTold
+        (rules_of feeder.core.settings) m (reverse feeder.core.run)) }
+{
+    let JwtSessionParts {
+        publisher,
+        events,
+        rules,
+    } = feeder.into_parts();
+    let (ended, steps) = publisher.finish();
+    let record = JwtSupervised::new(events, steps, rules, pace, closed);
+    JwtDone {
+        ended,
+        supervised: Some(record),
+    }
+}
+
+/// What is left where memory ran out.
+fn unrecorded<C, M, R>(feeder: JwtFeeder<C, BoardPublisher<R>, M>) -> JwtDone<R>
+where
+    C: Connector + Drop,
+    C::Link: Drop,
+    M: JwtMetricsRecorder + Drop,
+    R: Wait + Drop,
+    ensures board { result.past.book ≡ feeder.core.publisher.book }
+    ensures recorded { result.recorded ≡ None }
+{
+    let (ended, _steps) = feeder.into_publisher().finish();
+    JwtDone {
+        ended,
+        supervised: None,
+    }
+}
+
+impl<C, M, W, N, R> Job for JwtJob<C, M, W, N, R>
+where
+    C: Connector + Drop,
+    C::Link: Drop,
+    M: JwtMetricsRecorder + Drop,
+    W: Pause + Drop,
+    N: Rng + Drop,
+    R: Wait + Drop,
+{
+    type Done = JwtDone<R>;
+
+    ghost use Rattle.spf_jwt_source.specs.Records.{IsLeftBy};
+
+    ghost may_give = { IsLeftBy C.members };
+
+    fn run(self) -> JwtDone<R>
+        ensures left { IsLeftBy C.members self result }
+        ensures task { IsLeftBy untold (task_of self) result }
+    {
+        let JwtJob {
+            mut feeder,
+            mut pace,
+            mut pause,
+            mut random,
+            watch,
+            mut closer,
+            bell,
+            rt,
+        } = self;
+        let closed = supervise(&rt, &mut feeder, &mut pace, &mut random, &mut pause, &watch);
+        let done = match closed {
+            Some(closed) => recorded(feeder, pace, closed),
+            None => unrecorded(feeder),
+        };
+        closer.close();
+        bell.ring();
+        done
+    }
+}

@@ -1,0 +1,24 @@
+//! Live sources of JWT bundles: handles, their reads and fetches, the updates of one reader,
+//! builders, and the supervisor with its record.
+#![tactic(auto)]
+
+mod builder;
+mod closing;
+mod handle;
+mod job;
+mod opening;
+mod publishing;
+mod record;
+mod sockets;
+mod source;
+mod task;
+mod updates;
+
+pub use builder::{JwtSettings, JwtSourceBuilder};
+pub use handle::{JwtPendingHandle, JwtSupervisorHandle};
+pub use job::{JwtDone, JwtJob};
+pub use record::JwtSupervised;
+pub use source::JwtSource;
+pub use spiffe::SupervisorEnd;
+pub use task::JwtTask;
+pub use updates::JwtSourceUpdates;

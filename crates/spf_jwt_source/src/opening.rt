@@ -1,0 +1,287 @@
+//! The parts of building a source.
+
+ghost use Rattle.std.specs.Prelude.{◌≡◌, [], false, Err, IfErr, IfOk, None, Ok, Some};
+ghost use Rattle.std.specs.Prelude.{map, reverse, ◌∷◌};
+ghost use Rattle.spf_view.specs.Steps.{steps_of};
+ghost use Rattle.spf_history.specs.Lists.{steps_of as board_steps};
+ghost use Rattle.spf_jwt_feed.specs.Items.{subject};
+ghost use Rattle.spf_jwt_feed.specs.Steps.{MayFollow, plain};
+ghost use Rattle.spf_jwt_feeder.specs.Kept.{rules_of};
+ghost use Rattle.spf_feeder.specs.Opened.{HasDeadline};
+ghost use Rattle.spf_jwt_feeder.specs.Orderly.{IsOneStep, IsSynced};
+ghost use Rattle.spf_jwt_feeder.specs.Pacing.{KeepsPace};
+ghost use Rattle.spf_jwt_feeder.specs.Times.{Gives};
+ghost use Rattle.spf_close.specs.declared.maker.Maker.TheVariants as makers;
+ghost use Rattle.spf_jwt_source.specs.Building.{IsBuilt, SyncFails, refused_as, stopped_as};
+ghost use Rattle.spf_jwt_source.specs.Reads.{HasPlaceCause};
+
+use crate::builder::JwtSettings;
+use crate::closing::Closing;
+use crate::job::JwtJob;
+use crate::publishing::BoardPublisher;
+use crate::source::JwtSource;
+use rand_core::Rng;
+use spf_api::{EndpointError, WorkloadApiError};
+use spf_close::{Bell, Closer, Watch, closed_cell};
+use spf_feed::Terminal;
+use spf_io::OutOfMemory;
+use spf_jwt_board::{Front, Jwt, JwtPass, JwtPlaces, PlaceFault, SharedStep, open};
+use spf_jwt_feed::{JwtMetricsRecorder, JwtSourceError, JwtStep, MemJwtPublisher};
+use spf_jwt_feeder::{JwtFeeder, JwtOpening, Pace, Stop, open_jwt_feeder};
+use spf_link::Connector;
+use spf_system::{Clock, Pause, StopFlag};
+use std::alloc::Global;
+use std::sync::Wait;
+
+/// The error of a refused endpoint.
+fn refused_endpoint(e: EndpointError) -> JwtSourceError
+    ensures { result ≡ refused_as e }
+{
+    match e {
+        EndpointError::OutOfMemory => JwtSourceError::OutOfMemory,
+        e => JwtSourceError::Source(WorkloadApiError::Endpoint(e)),
+    }
+}
+
+/// The error of a synchronisation that stopped. No close is told there.
+fn stopped(stop: Stop) -> JwtSourceError
+    ensures { result ≡ stopped_as stop }
+{
+    match stop {
+        Stop::Terminal(Terminal::Source(e)) => JwtSourceError::Source(e),
+        Stop::Terminal(Terminal::UnsupportedRpc(e)) => JwtSourceError::UnsupportedRpc(e),
+        Stop::Terminal(Terminal::InitialSyncTimeout) => JwtSourceError::InitialSyncTimeout,
+        Stop::Terminal(Terminal::Closed) | Stop::OutOfMemory => JwtSourceError::OutOfMemory,
+    }
+}
+
+/// Validates the connector, lets it and the pause heed the mark, and synchronises. A single wait
+/// takes at most the timeout meanwhile.
+pub(crate) fn synchronised<C, M, T, W, N, R>(
+    rt: &R,
+    alloc: Global,
+    connector: C,
+    recorder: M,
+    settings: JwtSettings,
+    stop: &StopFlag,
+    clock: &mut T,
+    pause: &mut W,
+    random: &mut N,
+) -> Result<(JwtFeeder<C, MemJwtPublisher, M>, Pace), JwtSourceError>
+where
+    C: Connector + Drop,
+    C::Link: Drop,
+    M: JwtMetricsRecorder + Drop,
+    T: Clock,
+    W: Pause,
+    N: Rng,
+    R: Wait,
+    ensures limits { IfOk result (λ r. r.0.core.settings.limits ≡ settings.limits) }
+    ensures deadline { IfOk result (λ r. HasDeadline settings.timeout r.0.core.settings.deadline) }
+    ensures bounds { IfOk result (λ r. r.1.bounds ≡ settings.bounds) }
+    ensures members { IfOk result (λ r. C.members r.0.first ≡ C.members connector) }
+    ensures going { IfOk result (λ r. r.0.core.stuck ≡ false) }
+    ensures synced { IfOk result (λ r. IsSynced
+        (rules_of r.0.core.settings) (reverse r.0.core.run)) }
+    ensures once { IfOk result (λ r. IsOneStep (steps_of (subject
+        (rules_of r.0.core.settings)) r.0.core.run)) }
+    ensures paces { IfOk result (λ r. KeepsPace
+        (rules_of r.0.core.settings) r.0.core.run r.1) }
+    ensures clock { IfOk result (λ r. Gives (T.moments clock.old) (T.moments clock.new) []
+        r.0.core.run) }
+    ensures endpoint { IfOk result (λ _. C.validates connector ≡ Ok tt) }
+    ensures failed { IfErr result (SyncFails settings (C.validates connector)) }
+{
+    let mut connector = connector;
+    if let Err(e) = connector.validate() {
+        return Err(refused_endpoint(e));
+    }
+    connector.heed(stop.try_clone()?);
+    pause.heed(stop.try_clone()?);
+    let opening = JwtOpening {
+        limits: settings.limits,
+        bounds: settings.bounds,
+        timeout: settings.timeout,
+    };
+    stop.limit(settings.timeout);
+    let opened = open_jwt_feeder(
+        rt,
+        alloc,
+        connector,
+        MemJwtPublisher::new(alloc),
+        recorder,
+        opening,
+        random,
+        clock,
+        pause,
+    );
+    stop.limit(None);
+    match opened {
+        Ok(opened) => Ok(opened),
+        Err(stop) => Err(stopped(stop)),
+    }
+}
+
+/// The one step of a publisher, and once more among the steps.
+fn first_step(
+    publisher: &MemJwtPublisher,
+    steps: &mut Vec<JwtStep>,
+) -> Result<SharedStep, OutOfMemory>
+    requires once { IsOneStep publisher.now.steps }
+    requires none { steps.old.items ≡ [] }
+    ensures step { IfOk result (λ step. publisher.now.steps ≡ step ∷ []) }
+    ensures kept { IfOk result (λ step. map plain steps.new.items ≡ step ∷ []) }
+    ensures first { IfOk result (MayFollow (Some [])) }
+{
+    let Some((first, _)) = publisher.steps().split_first() else {
+        unreachable!()
+    };
+    steps.push(first.try_clone()?)?;
+    Ok(SharedStep::new(first.try_clone()?))
+}
+
+/// The feeder on a board of its own, on which its one step is published, with the board's front and
+/// its first pass.
+pub(crate) fn on_board<C, M, R>(
+    rt: R,
+    alloc: Global,
+    feeder: JwtFeeder<C, MemJwtPublisher, M>,
+    bell: Bell,
+) -> Result<(JwtFeeder<C, BoardPublisher<R>, M>, Front<Jwt>, JwtPass), OutOfMemory>
+where
+    C: Connector + Drop,
+    C::Link: Drop,
+    M: JwtMetricsRecorder + Drop,
+    R: Wait + Drop,
+    requires once { IsOneStep (steps_of (subject
+        (rules_of feeder.core.settings)) feeder.core.run) }
+    ensures settings { IfOk result (λ r. r.0.core.settings ≡ feeder.core.settings) }
+    ensures run { IfOk result (λ r. r.0.core.run ≡ feeder.core.run) }
+    ensures stuck { IfOk result (λ r. r.0.core.stuck ≡ feeder.core.stuck) }
+    ensures first { IfOk result (λ r. r.0.first ≡ feeder.first) }
+    ensures board { IfOk result (λ r. (r.0.core.publisher.book ≡ r.1.book)
+        × (r.2.book ≡ r.1.book)) }
+    ensures seen { IfOk result (λ r. board_steps r.2.seen ≡ steps_of (subject
+        (rules_of feeder.core.settings)) feeder.core.run) }
+{
+    let mut steps = Vec::new(alloc);
+    let first = first_step(feeder.publisher(), &mut steps)?;
+    let (desk, pass) = open(alloc, rt, first)?;
+    let front = desk.front();
+    let publisher = BoardPublisher::new(desk, steps, bell);
+    let (feeder, _first) = feeder.with_publisher(publisher);
+    Ok((feeder, front, pass))
+}
+
+/// What closes a source, ends the waits of its supervisor, and wakes those who wait for a change:
+/// all of one cell. It is made before anything is asked.
+#[derive(Drop)]
+pub(crate) struct Cells {
+    caller: Closer,
+    closing: Closing,
+    closer: Closer,
+    watch: Watch,
+    pub(crate) stop: StopFlag,
+    source_bell: Bell,
+    publisher_bell: Bell,
+    job_bell: Bell,
+}
+
+pub(crate) fn open_cells(alloc: Global) -> Result<Cells, OutOfMemory>
+    ensures makers { IfOk result (λ c. c.caller.maker ≡ makers.Caller) }
+    ensures one { IfOk result (λ c. (c.caller.cell ≡ c.watch) × (c.closing ≡ c.watch)) }
+{
+    let stop = StopFlag::new(alloc)?;
+    let bell = Bell::new(alloc)?;
+    let (mut caller, closer, watch) = closed_cell(alloc)?;
+    let closing = Closing::new(caller.another(alloc)?, stop.try_clone()?, bell.try_clone()?);
+    Ok(Cells {
+        caller,
+        closing,
+        closer,
+        watch,
+        stop,
+        source_bell: bell.try_clone()?,
+        publisher_bell: bell.try_clone()?,
+        job_bell: bell,
+    })
+}
+
+/// The source, its first pass, what closes it, and its job.
+pub(crate) fn joined<C, M, W, N, R, L>(
+    rt: R,
+    alloc: Global,
+    cells: Cells,
+    feeder: JwtFeeder<C, MemJwtPublisher, M>,
+    pace: Pace,
+    pause: W,
+    random: N,
+    places: &mut L,
+) -> Result<(JwtSource, JwtPass, Closing, JwtJob<C, M, W, N, R>), JwtSourceError>
+where
+    C: Connector + Drop,
+    C::Link: Drop,
+    M: JwtMetricsRecorder + Drop,
+    W: Pause + Drop,
+    N: Rng + Drop,
+    R: Wait + Copy + Drop,
+    L: JwtPlaces,
+    requires maker { cells.caller.maker ≡ makers.Caller }
+    requires one { (cells.caller.cell ≡ cells.watch) × (cells.closing ≡ cells.watch) }
+    requires going { feeder.core.stuck ≡ false }
+    requires synced { IsSynced (rules_of feeder.core.settings)
+        (reverse feeder.core.run) }
+    requires once { IsOneStep (steps_of (subject
+        (rules_of feeder.core.settings)) feeder.core.run) }
+    requires paces { KeepsPace (rules_of feeder.core.settings)
+        feeder.core.run pace }
+    ensures built { IfOk result (λ r. IsBuilt r.0 r.1 r.2 r.3) }
+    ensures job { IfOk result (λ r. (r.3.settings ≡ feeder.core.settings)
+        × (r.3.run ≡ feeder.core.run)
+        × (r.3.bounds ≡ pace.bounds) × (r.3.first ≡ feeder.first)) }
+    ensures cause { HasPlaceCause (L.refusals places.old) (L.refusals places.new) result }
+{
+    let Cells {
+        caller,
+        closing,
+        closer,
+        watch,
+        stop,
+        source_bell,
+        publisher_bell,
+        job_bell,
+    } = cells;
+    let (feeder, front, first) = on_board(rt, alloc, feeder, publisher_bell)?;
+    let pass = placed(first, places)?;
+    let source = JwtSource::over(alloc, front, caller, stop, source_bell)?;
+    let job = JwtJob {
+        feeder,
+        pace,
+        pause,
+        random,
+        watch,
+        closer,
+        bell: job_bell,
+        rt,
+    };
+    Ok((source, pass, closing, job))
+}
+
+/// The pass from its places, with all places that the first pass has.
+pub(crate) fn placed<L: JwtPlaces>(
+    first: JwtPass,
+    places: &mut L,
+) -> Result<JwtPass, JwtSourceError>
+    ensures pass { IfOk result (λ p. (p.book ≡ first.book) × (p.seen ≡ first.seen)) }
+    ensures cause { HasPlaceCause (L.refusals places.old) (L.refusals places.new) result }
+{
+    let mut giver = first;
+    match places.take(&mut giver) {
+        Ok(mut pass) => {
+            giver.give_back(&mut pass);
+            Ok(pass)
+        }
+        Err(PlaceFault::Refused) => Err(JwtSourceError::NoPlace),
+        Err(PlaceFault::OutOfMemory) => Err(JwtSourceError::OutOfMemory),
+    }
+}

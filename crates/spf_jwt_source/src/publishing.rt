@@ -1,0 +1,114 @@
+//! The publisher of a supervisor: its steps stand on the board, and in its record.
+
+ghost use Rattle.std.specs.Prelude.{◌≡◌, Some, map};
+ghost use Rattle.spf_history.specs.Lists.{steps_of};
+ghost use Rattle.spf_feed.specs.Records.{RecordAppends};
+ghost use Rattle.spf_jwt_feed.specs.Steps.{MayFollow, plain};
+
+use spf_close::Bell;
+use spf_io::OutOfMemory;
+use spf_jwt_board::{Front, Jwt, JwtDesk, JwtEnded};
+use spf_jwt_feed::{JwtPublisher, JwtStep};
+use std::marker::Model;
+use std::sync::Wait;
+
+/// Publishes each step on a board, keeps it, and wakes those who wait for a change. Contracts see
+/// what is published.
+#[derive(Drop)]
+pub struct BoardPublisher<R: Wait + Drop> {
+    desk: JwtDesk<R>,
+    steps: Vec<JwtStep>,
+    bell: Bell,
+    // After a refused publish nothing more is published, not even the end.
+    is_refused: bool,
+}
+
+impl<R: Wait + Drop> Model for BoardPublisher<R> {
+    ghost use Rattle.std.specs.Prelude.{◌≡◌, map};
+    ghost use Rattle.spf_history.specs.Lists.{steps_of};
+    ghost use Rattle.spf_history.specs.Past.{Past};
+    ghost use Rattle.spf_jwt_feed.specs.Steps.{PlainStep, plain};
+
+    ghost Value = { Past PlainStep };
+
+    ghost view = { λ p. p.desk };
+
+    ghost invariant = { λ p. map plain p.steps.items ≡ steps_of p.desk.list };
+}
+
+impl<R: Wait + Drop> BoardPublisher<R> {
+    /// A publisher on a board whose steps so far are these.
+    pub(crate) fn new(desk: JwtDesk<R>, steps: Vec<JwtStep>, bell: Bell) -> BoardPublisher<R>
+        requires { map plain steps.items ≡ steps_of desk.list }
+        ensures { result ≡ desk }
+    {
+        BoardPublisher {
+            desk,
+            steps,
+            bell,
+            is_refused: false,
+        }
+    }
+
+    /// What is published.
+    pub(crate) fn front(&self) -> Front<Jwt>
+        ensures { result ≡ self.now }
+    {
+        self.desk.front()
+    }
+
+    /// Publishes the end, and gives the steps.
+    pub(crate) fn finish(self) -> (JwtEnded<R>, Vec<JwtStep>)
+        ensures steps { map plain result.1.items ≡ steps_of self.list }
+        ensures board { (result.0.book ≡ self.book)
+            × (steps_of result.0.list ≡ steps_of self.list) }
+    {
+        let BoardPublisher {
+            desk,
+            steps,
+            bell: _bell,
+            is_refused,
+        } = self;
+        (ended(desk, is_refused), steps)
+    }
+}
+
+/// What publishes nothing more. The end is published, unless a step was refused.
+fn ended<R: Wait + Drop>(desk: JwtDesk<R>, is_refused: bool) -> JwtEnded<R>
+    ensures board { (result.book ≡ desk.book) × (steps_of result.list ≡ steps_of desk.list) }
+{
+    if is_refused { desk.stop() } else { desk.end() }
+}
+
+impl<R: Wait + Drop> JwtPublisher for BoardPublisher<R> {
+    ghost use Rattle.std.specs.Prelude.{◌≡◌, Some};
+    ghost use Rattle.spf_history.specs.Lists.{steps_of};
+    ghost use Rattle.spf_feed.specs.Records.{RecordAppends};
+    ghost use Rattle.spf_jwt_feed.specs.Steps.{MayFollow, plain};
+    ghost use Rattle.spiffe.specs.Boards.{numbers_of};
+
+    ghost steps = { λ p. Some (steps_of p.list) };
+
+    ghost target = { λ p. numbers_of p.book };
+
+    fn publish(&mut self, step: JwtStep) -> Result<(), OutOfMemory>
+        requires { MayFollow (Some (steps_of self.old.list)) (plain step) }
+        ensures appends { RecordAppends (Some (steps_of self.old.list))
+            (Some (steps_of self.new.list)) result (plain step) }
+        ensures target { numbers_of self.new.book ≡ numbers_of self.old.book }
+    {
+        self.steps.reserve(1)?;
+        let kept = step.try_clone()?;
+        match self.desk.publish(step) {
+            Ok(()) => {
+                self.steps.push_reserved(kept);
+                self.bell.ring();
+                Ok(())
+            }
+            Err(e) => {
+                self.is_refused = true;
+                Err(e)
+            }
+        }
+    }
+}

@@ -1,0 +1,283 @@
+//! A handle of a live source of JWT bundles.
+
+ghost use Rattle.std.specs.Prelude.{◌≡◌, IfOk, None, OnOk};
+ghost use Rattle.std.specs.Option.{option_map};
+ghost use Rattle.spf_close.specs.declared.maker.Maker.TheVariants as makers;
+ghost use Rattle.spf_board.specs.Passes.{Renews};
+ghost use Rattle.spf_jwt_feed.specs.States.{SetAnswer};
+ghost use Rattle.spf_jwt_board.specs.Passes.{read_of};
+ghost use Rattle.spf_jwt_board.specs.Steps.{Legal};
+ghost use Rattle.spf_jwt_board.specs.States.{IsStateOf};
+ghost use Rattle.spf_jwt_client.specs.Fetching.{HasFetchCause};
+ghost use Rattle.spf_jwt_client.specs.Requests.{jwt_request};
+ghost use Rattle.spf_jwt_source.specs.Reads.{BundleAnswer, FetchesLive, Gets, IsHealthy};
+ghost use Rattle.spf_jwt_source.specs.Reads.{SaysClosed};
+ghost use Rattle.spf_jwt_source.specs.Reads.{Follows, HasPlaceCause, SeesNoLess, TriesBundle};
+
+use crate::closing::{Closing, LastHandle, check_open, look};
+use crate::updates::JwtSourceUpdates;
+use spf_close::{Bell, Closer, Maker, Watch};
+use spf_id::{SpiffeId, TrustDomain};
+use spf_io::{OutOfMemory, Text};
+use spf_jwt::{JwtBundle, JwtBundleSet, JwtSvid};
+use spf_jwt_board::{Front, Jwt, JwtPass, JwtPlaces, PlaceFault};
+use spf_jwt_client::JwtFetcher;
+use spf_jwt_feed::{JwtSourceError, JwtSourceState};
+use spf_link::Connector;
+use spf_system::StopFlag;
+use spf_x509::BundleSource;
+use std::alloc::Global;
+use std::fmt;
+use std::marker::Model;
+use std::sync::Arc;
+
+/// A handle of a source. What it gives is read through a pass of its board, without a lock. When
+/// the last handle is let go, the source is closed.
+#[derive(Drop)]
+pub struct JwtSource {
+    front: Front<Jwt>,
+    watch: Watch,
+    closing: Closing,
+    last: Arc<LastHandle>,
+    alloc: Global,
+}
+
+impl Model for JwtSource {
+    ghost use Rattle.std.specs.Prelude.{◌≡◌};
+    ghost use Rattle.spiffe.specs.Sources.{Source};
+
+    ghost Value = { Source };
+
+    ghost view = { λ s. record { board = s.front.book; cell = s.watch } };
+
+    ghost invariant = { λ s. s.closing ≡ s.watch };
+}
+
+impl fmt::Debug for JwtSource {
+    fn fmt<W: fmt::Write>(&self, f: &mut fmt::Formatter<W>) -> fmt::Result {
+        write!(f, "JwtSource")
+    }
+}
+
+impl JwtSource {
+    /// A source over a board that its caller publishes on, and the cell that the closer closes. The
+    /// bell is rung at each change. `JwtSourceBuilder` makes all of this.
+    pub fn over(
+        alloc: Global,
+        front: Front<Jwt>,
+        mut closer: Closer,
+        stop: StopFlag,
+        bell: Bell,
+    ) -> Result<JwtSource, OutOfMemory>
+        requires { closer.maker ≡ makers.Caller }
+        ensures { IfOk result (λ s. (s.board ≡ front.book) × (s.cell ≡ closer.cell)) }
+    {
+        let watch = closer.watch()?;
+        let last = Closing::new(closer.another(alloc)?, stop.try_clone()?, bell.try_clone()?);
+        Ok(JwtSource {
+            front,
+            watch,
+            closing: Closing::new(closer, stop, bell),
+            last: Arc::new(alloc, LastHandle::new(last))?,
+            alloc,
+        })
+    }
+
+    /// The state that is published now, read through the pass.
+    pub fn state(&self, pass: &mut JwtPass) -> Result<JwtSourceState, OutOfMemory>
+        requires { pass.old.book ≡ self.now.board }
+        ensures state { IfOk result (λ s. IsStateOf pass.new.seen s.closed s) }
+        ensures closed { IfOk result (λ s. SaysClosed self.now.cell pass.new s.closed) }
+        ensures renews { OnOk result (Renews Legal (read_of pass.old) (read_of pass.new)) }
+        ensures pass { SeesNoLess pass.old pass.new }
+    {
+        let closed = look(&self.watch, pass);
+        pass.state(closed)
+    }
+
+    /// The bundle set that is held. Closed comes first.
+    pub fn bundle_set(&self, pass: &mut JwtPass) -> Result<Arc<JwtBundleSet>, JwtSourceError>
+        requires { pass.old.book ≡ self.now.board }
+        ensures gets { Gets SetAnswer self.now.cell pass.old pass.new result }
+        ensures pass { SeesNoLess pass.old pass.new }
+    {
+        check_open(&self.watch, pass)?;
+        let state = pass.state(false)?;
+        state.bundle_set()
+    }
+
+    /// A share of the bundle of the trust domain in the held bundle set. Closed comes first.
+    fn bundle_of(
+        &self,
+        pass: &mut JwtPass,
+        trust_domain: &TrustDomain,
+    ) -> Result<Option<Arc<JwtBundle>>, JwtSourceError>
+        requires { pass.old.book ≡ self.now.board }
+        ensures gets { Gets (λ view. BundleAnswer view trust_domain.now) self.now.cell pass.old
+            pass.new result }
+        ensures pass { SeesNoLess pass.old pass.new }
+    {
+        let bundle_set = self.bundle_set(pass)?;
+        Ok(bundle_set.get(trust_domain)?)
+    }
+
+    /// The bundle of the trust domain in the held bundle set, None where there is none.
+    pub fn try_bundle_for_trust_domain(
+        &self,
+        pass: &mut JwtPass,
+        trust_domain: &TrustDomain,
+    ) -> Result<Option<Arc<JwtBundle>>, OutOfMemory>
+        requires { pass.old.book ≡ self.now.board }
+        ensures tries { TriesBundle trust_domain.now self.now.cell pass.old pass.new result }
+        ensures pass { SeesNoLess pass.old pass.new }
+    {
+        match self.bundle_of(pass, trust_domain) {
+            Ok(bundle) => Ok(bundle),
+            Err(JwtSourceError::OutOfMemory) => Err(OutOfMemory),
+            Err(_) => Ok(None),
+        }
+    }
+
+    /// Whether a bundle set with a key is permitted. A closed source is not healthy. It takes no
+    /// memory, and the pass keeps nothing of what it reads.
+    pub fn is_healthy(&self, pass: &mut JwtPass) -> bool
+        requires { pass.old.book ≡ self.now.board }
+        ensures healthy { IsHealthy self.now.cell pass.old pass.new result }
+        ensures book { pass.new.book ≡ pass.old.book }
+    {
+        if look(&self.watch, pass) {
+            return false;
+        }
+        pass.is_usable()
+    }
+
+    /// Another pass of the source, which has seen what the giver has seen.
+    pub fn another_pass<H: JwtPlaces>(
+        &self,
+        giver: &mut JwtPass,
+        places: &mut H,
+    ) -> Result<JwtPass, JwtSourceError>
+        requires { giver.old.book ≡ self.now.board }
+        ensures giver { giver.new ≡ giver.old }
+        ensures pass { IfOk result (λ p. (p.book ≡ self.now.board) × (p.seen ≡ giver.old.seen)) }
+        ensures cause { HasPlaceCause (H.refusals places.old) (H.refusals places.new) result }
+    {
+        match places.take(giver) {
+            Ok(pass) => Ok(pass),
+            Err(PlaceFault::Refused) => Err(JwtSourceError::NoPlace),
+            Err(PlaceFault::OutOfMemory) => Err(JwtSourceError::OutOfMemory),
+        }
+    }
+
+    /// Updates of the source, with a pass that has seen what the giver has seen. What is published
+    /// now is read, and its revision is marked as seen.
+    pub fn updated<H: JwtPlaces>(
+        &self,
+        giver: &mut JwtPass,
+        places: &mut H,
+    ) -> Result<JwtSourceUpdates, JwtSourceError>
+        requires { giver.old.book ≡ self.now.board }
+        ensures giver { giver.new ≡ giver.old }
+        ensures updates { IfOk result (Follows self.now giver.old) }
+        ensures cause { HasPlaceCause (H.refusals places.old) (H.refusals places.new) result }
+    {
+        let pass = self.another_pass(giver, places)?;
+        let bell = self.closing.bell()?;
+        let mut updates = JwtSourceUpdates::new(self.watch.try_clone()?, pass, bell);
+        updates.state()?;
+        Ok(updates)
+    }
+
+    /// Fetches a JWT-SVID for the audience, of any identity of the workload. Closed comes first,
+    /// and then the fetcher asks nothing.
+    pub fn fetch_jwt_svid<F: Connector>(
+        &self,
+        alloc: Global,
+        fetcher: &mut JwtFetcher<F>,
+        audience: &[Text],
+    ) -> Result<JwtSvid, JwtSourceError>
+    where
+        F::Link: Drop,
+        ensures fetches { FetchesLive F.Connector F.Link.Link (jwt_request audience.now None)
+            (record { connector = fetcher.old.connector; client = fetcher.old.client }) result
+            (record { connector = fetcher.new.connector; client = fetcher.new.client }) }
+        ensures cause { HasFetchCause (F.refusals fetcher.old.connector)
+            (F.refusals fetcher.new.connector) result }
+    {
+        self.fetch_jwt_svid_with_id(alloc, fetcher, audience, None)
+    }
+
+    /// The same of that identity.
+    pub fn fetch_jwt_svid_with_id<F: Connector>(
+        &self,
+        alloc: Global,
+        fetcher: &mut JwtFetcher<F>,
+        audience: &[Text],
+        id: Option<&SpiffeId>,
+    ) -> Result<JwtSvid, JwtSourceError>
+    where
+        F::Link: Drop,
+        ensures fetches { FetchesLive F.Connector F.Link.Link
+            (jwt_request audience.now (option_map (λ i. i.now) id.entry))
+            (record { connector = fetcher.old.connector; client = fetcher.old.client }) result
+            (record { connector = fetcher.new.connector; client = fetcher.new.client }) }
+        ensures cause { HasFetchCause (F.refusals fetcher.old.connector)
+            (F.refusals fetcher.new.connector) result }
+    {
+        let Some(closed) = self.watch.look() else {
+            return fetcher.fetch_with_id(alloc, audience, id);
+        };
+        match closed.maker() {
+            Maker::Caller => Err(JwtSourceError::Closed),
+            Maker::Supervisor => Err(JwtSourceError::OutOfMemory),
+        }
+    }
+
+    /// Closes the source, and with it ends its supervisor.
+    pub fn shutdown(&mut self)
+        ensures { self.new ≡ self.old }
+    {
+        self.closing.close();
+    }
+
+    /// Another handle of the same source. It takes no place.
+    pub fn try_clone(&mut self) -> Result<JwtSource, OutOfMemory>
+        ensures unchanged { self.new ≡ self.old }
+        ensures same { IfOk result (λ s. s ≡ self.old) }
+    {
+        Ok(JwtSource {
+            front: self.front.again(),
+            watch: self.watch.try_clone()?,
+            closing: self.closing.another(self.alloc)?,
+            last: Arc::try_clone(&self.last)?,
+            alloc: self.alloc,
+        })
+    }
+}
+
+impl BundleSource for JwtSource {
+    type Item = JwtBundle;
+
+    type Error = JwtSourceError;
+
+    type Seen = JwtPass;
+
+    ghost use Rattle.std.specs.Prelude.{◌≡◌};
+    ghost use Rattle.std.specs.Option.{option_and_then};
+    ghost use Rattle.spf_view.specs.Standing.{held_in};
+    ghost use Rattle.spf_x509.specs.Bundle.{find_entry};
+    ghost use Rattle.spf_jwt_source.specs.Reads.{OfState};
+
+    ghost fits = { λ source pass. pass.book ≡ source.board };
+
+    ghost answers = { λ _ pass domain bundle. OfState pass (λ view.
+        option_and_then (find_entry domain) (held_in view) ≡ bundle) };
+
+    fn bundle_for_trust_domain(
+        &self,
+        seen: &mut JwtPass,
+        trust_domain: &TrustDomain,
+    ) -> Result<Option<Arc<JwtBundle>>, JwtSourceError> {
+        self.bundle_of(seen, trust_domain)
+    }
+}

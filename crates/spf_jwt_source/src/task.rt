@@ -1,0 +1,69 @@
+//! What a supervisor is given, as contracts see it.
+
+ghost use Rattle.std.specs.Prelude.{◌≡◌};
+ghost use Rattle.spf_jwt_source.specs.Records.{task_of};
+
+use crate::job::{JwtDone, JwtJob};
+use rand_core::Rng;
+use spf_close::Watch;
+use spf_jwt_board::{Front, Jwt};
+use spf_jwt_feed::{JwtEvent, JwtMetricsRecorder};
+use spf_jwt_feeder::{JwtSessionRules, Pace};
+use spf_link::Connector;
+use spf_system::Pause;
+use std::marker::Model;
+use std::snapshot::Snapshot;
+use std::sync::Wait;
+use std::thread::Promise;
+
+/// What a supervisor is given, its connector aside. Contracts alone see it. It is a promise of what
+/// a thread leaves that runs the job.
+#[derive(Drop)]
+pub struct JwtTask {
+    front: Snapshot<Front<Jwt>>,
+    watch: Snapshot<Watch>,
+    events: Snapshot<Vec<JwtEvent>>,
+    rules: Snapshot<JwtSessionRules>,
+    pace: Snapshot<Pace>,
+}
+
+impl Model for JwtTask {
+    ghost use Rattle.spf_jwt_source.specs.Records.{Assigned, assigned};
+
+    ghost Value = { Assigned (Unit {0}) };
+
+    ghost view = { λ t. assigned t.front.value.book t.watch.value t.events.value.items
+        t.rules.value t.pace.value.bounds tt };
+}
+
+impl<R: Wait + Drop> Promise<JwtDone<R>> for JwtTask {
+    ghost use Rattle.spiffe.specs.Records.{untold};
+    ghost use Rattle.spf_jwt_source.specs.Records.{IsLeftBy};
+
+    ghost kept_by = { λ task done. IsLeftBy untold task done };
+}
+
+impl<C, M, W, N, R> JwtJob<C, M, W, N, R>
+where
+    C: Connector + Drop,
+    C::Link: Drop,
+    M: JwtMetricsRecorder + Drop,
+    W: Pause + Drop,
+    N: Rng + Drop,
+    R: Wait + Drop,
+{
+    /// What it is given, its connector aside.
+    pub fn task(&self) -> JwtTask
+        ensures { result ≡ task_of self.now }
+    {
+        let front = self.feeder.publisher().front();
+        let rules = self.feeder.rules();
+        JwtTask {
+            front: Snapshot::of(&front),
+            watch: Snapshot::of(&self.watch),
+            events: self.feeder.noted_events(),
+            rules: Snapshot::of(&rules),
+            pace: Snapshot::of(&self.pace),
+        }
+    }
+}

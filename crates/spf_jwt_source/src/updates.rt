@@ -1,0 +1,234 @@
+//! What one reader follows of a source: its own pass, and the revision that it has seen.
+
+ghost use Rattle.std.specs.Prelude.{◌≡◌, ◌≢◌, ◌⊎◌, true, IfErr, IfOk, MatchOption, OnErr, OnOk};
+ghost use Rattle.std.specs.Fn.{CalledAt};
+ghost use Rattle.spf_board.specs.Passes.{Renews};
+ghost use Rattle.spf_jwt_board.specs.Passes.{read_of};
+ghost use Rattle.spf_jwt_board.specs.Steps.{Legal};
+ghost use Rattle.spf_jwt_board.specs.States.{IsStateOf};
+ghost use Rattle.spf_jwt_source.specs.Reads.{HasClosedCause, IsRevision, ReadsOn, SaysClosed};
+ghost use Rattle.spf_jwt_source.specs.Reads.{SeesNoLess};
+ghost use Rattle.spf_jwt_source.specs.Reads.{Stays};
+
+use crate::closing::{check_open, look};
+use spf_close::{Bell, Watch};
+use spf_io::OutOfMemory;
+use spf_jwt_board::JwtPass;
+use spf_jwt_feed::{JwtSourceError, JwtSourceState};
+use std::fmt;
+use std::marker::Model;
+use std::sync::Wait;
+use std::time::Clock;
+
+/// The updates of a source, read through a pass of their own. One revision is marked as seen.
+#[derive(Drop)]
+pub struct JwtSourceUpdates {
+    watch: Watch,
+    pass: JwtPass,
+    marked: u64,
+    bell: Bell,
+}
+
+impl Model for JwtSourceUpdates {
+    ghost use Rattle.spf_jwt_source.specs.Sources.{Updates};
+
+    ghost Value = { Updates };
+
+    ghost view = { λ u. record { cell = u.watch; pass = u.pass; marked = u.marked } };
+}
+
+impl fmt::Debug for JwtSourceUpdates {
+    fn fmt<W: fmt::Write>(&self, f: &mut fmt::Formatter<W>) -> fmt::Result {
+        write!(f, "JwtSourceUpdates")
+    }
+}
+
+/// The revision that is published now.
+fn revision_of(pass: &mut JwtPass) -> Result<u64, OutOfMemory>
+    ensures revision { IfOk result (IsRevision pass.new) }
+    ensures closed { pass.new.closed ≡ pass.old.closed }
+    ensures renews { OnOk result (Renews Legal (read_of pass.old) (read_of pass.new)) }
+    ensures pass { SeesNoLess pass.old pass.new }
+{
+    let state = pass.state(false)?;
+    Ok(state.revision())
+}
+
+/// The revision that is published now, where it is not the marked one.
+fn unseen(pass: &mut JwtPass, marked: u64) -> Result<Option<u64>, OutOfMemory>
+    ensures revision { IfOk result (λ r. MatchOption r (IsRevision pass.new marked)
+        (λ revision. IsRevision pass.new revision × (revision ≢ marked))) }
+    ensures closed { pass.new.closed ≡ pass.old.closed }
+    ensures renews { OnOk result (Renews Legal (read_of pass.old) (read_of pass.new)) }
+    ensures pass { SeesNoLess pass.old pass.new }
+{
+    let revision = revision_of(pass)?;
+    if revision == marked {
+        Ok(None)
+    } else {
+        Ok(Some(revision))
+    }
+}
+
+/// One look for a change. That the source is closed counts where nothing else is published than
+/// what is marked.
+fn look_for_change(
+    watch: &Watch,
+    pass: &mut JwtPass,
+    marked: u64,
+) -> Result<Option<u64>, JwtSourceError>
+    ensures revision { IfOk result (λ r. MatchOption r (IsRevision pass.new marked)
+        (λ revision. IsRevision pass.new revision × (revision ≢ marked))) }
+    ensures closed { IfErr result (Stays watch.now marked pass.old pass.new) }
+    ensures renews { OnOk result (Renews Legal (read_of pass.old) (read_of pass.new)) }
+    ensures pass { SeesNoLess pass.old pass.new }
+{
+    let open = check_open(watch, pass);
+    if let Some(revision) = unseen(pass, marked)? {
+        return Ok(Some(revision));
+    }
+    open?;
+    Ok(None)
+}
+
+/// Waits until another revision is published than the marked one, or the source is closed.
+fn await_change<R: Wait + Clock>(
+    rt: &R,
+    watch: &Watch,
+    bell: &Bell,
+    pass: &mut JwtPass,
+    marked: u64,
+) -> Result<u64, JwtSourceError>
+    ensures revision { IfOk result (λ revision. IsRevision pass.new revision
+        × (revision ≢ marked)) }
+    ensures closed { IfErr result (Stays watch.now marked pass.old pass.new) }
+    ensures reads { OnOk result (ReadsOn pass.old pass.new) }
+    ensures pass { SeesNoLess pass.old pass.new }
+{
+    'looks: for _ in rt.forever() {
+        let rings = bell.now();
+        if let Some(revision) = look_for_change(watch, pass, marked)? {
+            return Ok(revision);
+        }
+        bell.wait_past(rt, rings);
+    }
+    unreachable!()
+}
+
+impl JwtSourceUpdates {
+    pub(crate) fn new(watch: Watch, pass: JwtPass, bell: Bell) -> JwtSourceUpdates
+        ensures { result ≡ record { cell = watch; pass = pass; marked = 0 } }
+    {
+        JwtSourceUpdates {
+            watch,
+            pass,
+            marked: 0,
+            bell,
+        }
+    }
+
+    /// The state that is published now. Its revision is then marked as seen.
+    pub fn state(&mut self) -> Result<JwtSourceState, OutOfMemory>
+        ensures cell { self.new.cell ≡ self.old.cell }
+        ensures state { IfOk result (λ s. IsStateOf self.new.pass.seen s.closed s) }
+        ensures closed { IfOk result (λ s. SaysClosed self.old.cell self.new.pass s.closed) }
+        ensures marked { IfOk result (λ s. self.new.marked ≡ s.revision) }
+        ensures unmarked { OnErr result (self.new.marked ≡ self.old.marked) }
+        ensures renews { OnOk result (Renews Legal (read_of self.old.pass)
+            (read_of self.new.pass)) }
+        ensures pass { SeesNoLess self.old.pass self.new.pass }
+    {
+        let closed = look(&self.watch, &mut self.pass);
+        let state = self.pass.state(closed)?;
+        self.marked = state.revision();
+        Ok(state)
+    }
+
+    /// The revision that is published now, which is not marked as seen.
+    pub fn last(&mut self) -> Result<u64, OutOfMemory>
+        ensures cell { self.new.cell ≡ self.old.cell }
+        ensures revision { IfOk result (IsRevision self.new.pass) }
+        ensures marked { self.new.marked ≡ self.old.marked }
+        ensures renews { OnOk result (Renews Legal (read_of self.old.pass)
+            (read_of self.new.pass)) }
+        ensures pass { SeesNoLess self.old.pass self.new.pass }
+    {
+        revision_of(&mut self.pass)
+    }
+
+    /// Waits until another revision is published than the marked one, which it then marks. Where
+    /// the source is closed there is none: an unseen revision comes first.
+    pub fn changed<R: Wait + Clock>(&mut self, rt: &R) -> Result<u64, JwtSourceError>
+        ensures cell { self.new.cell ≡ self.old.cell }
+        ensures revision { IfOk result (λ revision. IsRevision self.new.pass revision
+            × (revision ≢ self.old.marked) × (self.new.marked ≡ revision)) }
+        ensures closed { IfErr result (Stays self.old.cell self.old.marked self.old.pass
+            self.new.pass) }
+        ensures unmarked { OnErr result (self.new.marked ≡ self.old.marked) }
+        ensures reads { OnOk result (ReadsOn self.old.pass self.new.pass) }
+        ensures pass { SeesNoLess self.old.pass self.new.pass }
+    {
+        let revision = await_change(rt, &self.watch, &self.bell, &mut self.pass, self.marked)?;
+        self.marked = revision;
+        Ok(revision)
+    }
+
+    /// The revision that is published now, which is not marked as seen. Closed comes first.
+    fn current(&mut self) -> Result<u64, JwtSourceError>
+        ensures cell { self.new.cell ≡ self.old.cell }
+        ensures revision { IfOk result (IsRevision self.new.pass) }
+        ensures marked { self.new.marked ≡ self.old.marked }
+        ensures cause { IfErr result (HasClosedCause self.old.cell self.new.pass) }
+        ensures renews { OnOk result (Renews Legal (read_of self.old.pass)
+            (read_of self.new.pass)) }
+        ensures pass { SeesNoLess self.old.pass self.new.pass }
+    {
+        check_open(&self.watch, &mut self.pass)?;
+        Ok(revision_of(&mut self.pass)?)
+    }
+
+    /// The current revision, not marked as seen, where `f` takes it; otherwise the first one of
+    /// [`JwtSourceUpdates::changed`] that `f` takes. Closed comes first.
+    pub fn wait_for<R: Wait + Clock, F: FnMut(&u64) -> bool>(
+        &mut self,
+        rt: &R,
+        f: F,
+    ) -> Result<u64, JwtSourceError>
+        requires { F.IsAlwaysCallable f }
+        ensures cell { self.new.cell ≡ self.old.cell }
+        ensures taken { IfOk result (λ revision. (before : F) × (after : F)
+            × CalledAt F.FnMut before revision true after) }
+        ensures revision { IfOk result (IsRevision self.new.pass) }
+        ensures marked { IfOk result (λ revision. (self.new.marked ≡ revision)
+            ⊎ (self.new.marked ≡ self.old.marked)) }
+        ensures cause { IfErr result (HasClosedCause self.old.cell self.new.pass) }
+        ensures reads { OnOk result (ReadsOn self.old.pass self.new.pass) }
+        ensures pass { SeesNoLess self.old.pass self.new.pass }
+    {
+        let mut f = f;
+        let current = self.current()?;
+        if f(&current) {
+            return Ok(current);
+        }
+        'changes: for _ in rt.forever() {
+            let revision = self.changed(rt)?;
+            if f(&revision) {
+                return Ok(revision);
+            }
+        }
+        unreachable!()
+    }
+
+    /// The pass, with all that it has seen.
+    pub fn into_pass(self) -> JwtPass
+        ensures { result ≡ self.pass }
+    {
+        let JwtSourceUpdates {
+            watch: _watch,
+            pass,
+            marked: _,
+            bell: _bell,
+        } = self;
+        pass
+    }
+}
