@@ -6,7 +6,7 @@
 FRAMES is a file of frames (docs/SESSIONS.md) for requests of X.509 SVIDs, --jwt of JWT bundles.
 Each request gets the next frame that accepts or refuses a connection (kinds 3 and 4), and what
 follows it (kinds 5 to 7), each after a pause. What a workload sees for itself is passed over.
-After the last frame the stream is held open until the client goes; then the agent ends. With
+A stream that no frame ends is held open until the client goes; after the last the agent ends. With
 --token, requests of a JWT SVID and of its validation are granted by the token in FILE.
 """
 
@@ -54,23 +54,23 @@ def claim(value):
 
 
 class Session:
-    """A session, which goes on with each client that asks for it."""
+    """The streams of a session: one for each request that asks for it."""
 
     def __init__(self, path, pause):
-        self.frames, self.at, self.pause, self.lock = [], 0, pause, threading.Lock()
+        self.streams, self.pause, self.lock = [], pause, threading.Lock()
         with open(path, "rb") as file:
             while kind := file.read(1):
-                self.frames.append((kind[0], field_in(file)))
-        self.frames = [frame for frame in self.frames if frame[0] in STARTS + UPDATES]
+                frame = kind[0], field_in(file)
+                if frame[0] in STARTS:
+                    self.streams.append([frame])
+                elif frame[0] in UPDATES and self.streams:
+                    self.streams[-1].append(frame)
 
     def play(self, connection):
-        """Plays on from the next start of a stream to its end."""
+        """Plays the next stream, up to its end."""
         with self.lock:
-            while self.at < len(self.frames) and self.frames[self.at][0] not in STARTS:
-                self.at += 1
-            for kind, payload in self.frames[self.at :]:
+            for kind, payload in self.streams.pop(0) if self.streams else ():
                 time.sleep(self.pause if kind in UPDATES else 0)
-                self.at += 1
                 send(connection, kind, payload)
                 if kind not in (CONNECTED, ITEM):
                     return
@@ -115,7 +115,7 @@ def serve(connection, sessions, token):
 def attend(listener, sessions, token):
     """Serves all who come, until each session was played to its end and all have gone."""
     clients = []
-    while clients or not sessions or any(s.at < len(s.frames) for s in sessions.values()):
+    while clients or not sessions or any(session.streams for session in sessions.values()):
         clients = [client for client in clients if client.is_alive()]
         with contextlib.suppress(TimeoutError):
             connection, _ = listener.accept()

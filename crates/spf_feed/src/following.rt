@@ -1,7 +1,7 @@
 //! Following an update stream: its steps, its records and its lines.
 
 ghost use Rattle.std.specs.Prelude.{◌≡◌, ◌<◌, ◌-◌, ◌^◌, ◌∷◌, [], false, None, Some, Ok, Err};
-ghost use Rattle.std.specs.Prelude.{IsTrue, IfOk, IfErr, OnOk, List, is_some, if◌then◌else◌};
+ghost use Rattle.std.specs.Prelude.{IsTrue, IfOk, IfErr, OnOk, OnErr, List, is_some, if◌then◌else◌};
 ghost use Rattle.std.specs.Option.{ForSome, option_map, option_or};
 ghost use Rattle.spf_view.specs.Sessions.{Followed};
 ghost use Rattle.spf_view.specs.Keeping.{kept_with};
@@ -181,6 +181,7 @@ pub fn publish<P: Publisher>(
         (plain step ∷ []) }
     ensures change { IfOk result (λ c. c ≡ change_of snapshot.old (plain step)) }
     ensures kept { OnOk result (snapshot.new ≡ kept_with same_material snapshot.old (plain step)) }
+    ensures unchanged { OnErr result (snapshot.new ≡ snapshot.old) }
     ensures target { P.target publisher.new ≡ P.target publisher.old }
 {
     if is_held(snapshot, &step) {

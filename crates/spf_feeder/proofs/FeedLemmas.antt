@@ -19,12 +19,12 @@ use Rattle.spf_api.specs.declared.response.ResponseKind.{ResponseKind}
 use Rattle.spf_feeder.specs.declared.session.Stop.{Stop}
 use Rattle.spf_feeder.specs.declared.session.Stop.TheVariants as stops
 use Rattle.spf_feeder.specs.Asking.{Asked, Asks, AsksOnce}
-use Rattle.spf_feeder.specs.Coming.{AllTold, Holds, left_after}
-use Rattle.spf_feeder.specs.Fed.{Fed, IsReady, StopsBy, Tells, TurnedAway, Turns}
+use Rattle.spf_feeder.specs.Coming.{AllYielded, Holds, left_after}
+use Rattle.spf_feeder.specs.Fed.{Fed, IsReady, StopsBy, Yields, TurnedAway, Turns}
 use Rattle.spf_feeder.specs.Kept.{Advances, Core, rules_by}
-use Rattle.spf_feeder.proofs.TellLemmas.{ready_more, tells_more}
+use Rattle.spf_feeder.proofs.YieldLemmas.{ready_more, yields_more}
 
--- an ask that told an event was made
+-- an ask that yielded an event was made
 asked_once : {S L : Type 0} (connector : connectors.Ghosts S L) (link : links.Ghosts L)
     (ask : Phase)
     (old new : Asked S L) (e : Event) → Asks {E = OutOfMemory} connector link ask old (Ok e) new
@@ -47,26 +47,26 @@ stays_idle connector link rules old stuck = record {
   idle = λ t. record { asked = refl; run_is = refl };
 }
 
--- ---- an ask that told nothing
+-- ---- an ask that yielded nothing
 
-untold : {S L P M K : Type 0} (connector : connectors.Ghosts S L) (link : links.Ghosts L)
+unyielded : {S L P M K : Type 0} (connector : connectors.Ghosts S L) (link : links.Ghosts L)
     (rules : Rules) (old new : Fed S L P M K) (x : OutOfMemory)
     → Asks connector link (ask_of context_in rules (reverse old.core.run)) old.asked (Err x)
     new.asked
     → new.core.run ≡ old.core.run → new.core.stuck ≡ true → old.core.stuck ≡ false
     → TurnedAway connector link rules old new
-untold connector link rules old new x (inl once) run stuck going = record {
+unyielded connector link rules old new x (inl once) run stuck going = record {
   how = inr (record { answer = Err x; asked = once; run_is = inl run });
   stuck_is = stuck;
   idle = λ t. no_longer old.core.stuck going t;
 }
-untold connector link rules old new x (inr none) run stuck going = record {
+unyielded connector link rules old new x (inr none) run stuck going = record {
   how = inl (record { asked = none.1; run_is = run });
   stuck_is = stuck;
   idle = λ t. no_longer old.core.stuck going t;
 }
 
-pub untold_of : {S L P M K : Type 0} (connector : connectors.Ghosts S L) (link : links.Ghosts L)
+pub unyielded_of : {S L P M K : Type 0} (connector : connectors.Ghosts S L) (link : links.Ghosts L)
     (picks : K → List Svid → Option ℕ) (before old new : Fed S L P M K) (x : OutOfMemory)
     (ask : Phase) → before ≡ old
     → ask ≡ ask_of context_in (rules_by picks before.core.settings before.core.picker)
@@ -74,15 +74,16 @@ pub untold_of : {S L P M K : Type 0} (connector : connectors.Ghosts S L) (link :
     → Asks connector link ask before.asked (Err x) new.asked
     → new.core.run ≡ before.core.run → new.core.stuck ≡ true → before.core.stuck ≡ false
     → TurnedAway connector link (rules_by picks old.core.settings old.core.picker) old new
-untold_of {S} {L} {P} {M} {K} connector link picks before old new x ask is next asks run stuck going
+unyielded_of {S} {L} {P} {M} {K} connector link picks before old new x ask is next asks run stuck
+    going
     =
     subst (λ (o : Fed S L P M K).
     TurnedAway connector link (rules_by picks o.core.settings o.core.picker) o new) is
-    (untold connector link (rules_by picks before.core.settings before.core.picker) before new x
+    (unyielded connector link (rules_by picks before.core.settings before.core.picker) before new x
     (subst (λ p. Asks {E = OutOfMemory} connector link p before.asked (Err x) new.asked) next asks)
     run stuck going)
 
--- ---- an ask that told an event
+-- ---- an ask that yielded an event
 
 turned : {S L P M K : Type 0} (connector : connectors.Ghosts S L) (link : links.Ghosts L)
     (records : M → Option (List MetricsRecord)) (rules : Rules) (old new : Fed S L P M K)
@@ -109,8 +110,8 @@ turned connector link records rules old new e (Err stops.OutOfMemory) once h goi
         → (new.core.run ≡ old.core.run) ⊎ (new.core.run ≡ old.core.run ++ e ∷ [])
         → (new.core.run ≡ old.core.run)
         ⊎ ((x : Event) × (answer ≡ Ok x) × (new.core.run ≡ old.core.run ++ x ∷ []))
-    longer answer told (inl same) = inl same
-    longer answer told (inr more) = inr (e, told, more)
+    longer answer yielded (inl same) = inl same
+    longer answer yielded (inr more) = inr (e, yielded, more)
 
 pub turned_of : {S L P M K : Type 0} (connector : connectors.Ghosts S L) (link : links.Ghosts L)
     (records : M → Option (List MetricsRecord)) (picks : K → List Svid → Option ℕ)
@@ -166,27 +167,27 @@ if_some : {X : Type 0} (o : Option X) (P Q : X → Type 0) → ((x : X) → P x 
 if_some None P Q f h = tt
 if_some (Some x) P Q f h = f x h
 
-pub tells_of : {S L P M K : Type 0} (connector : connectors.Ghosts S L) (link : links.Ghosts L)
+pub yields_of : {S L P M K : Type 0} (connector : connectors.Ghosts S L) (link : links.Ghosts L)
     (records : M → Option (List MetricsRecord)) (rules later : Rules) (before after : Core P M K)
     (old new : Asked S L) (e : Event) (r : Result (Option AttemptEnd) Stop) (ask : Phase)
     (first : Option (List Member)) → ask ≡ ask_of context_in rules (reverse before.run)
     → Asks {E = OutOfMemory} connector link ask old (Ok e) new
     → Advances records rules before e r after → later ≡ rules
     → IsReady link.kind (ask_of context_in rules (reverse before.run)) old.link
-    → IfSome first (Tells connector.members link.answers rules before.run old)
+    → IfSome first (Yields connector.members link.answers rules before.run old)
     → after.stuck ≡ false
-    → IfSome first (Tells connector.members link.answers later after.run new)
-tells_of connector link records rules later before after old new e r ask first next asks h same
-    ready tells going =
+    → IfSome first (Yields connector.members link.answers later after.run new)
+yields_of connector link records rules later before after old new e r ask first next asks h same
+    ready yields going =
     let once = asked_once connector link _ old new e
     (subst (λ p. Asks {E = OutOfMemory} connector link p old (Ok e) new) next asks) in
     let run = ran records rules before after e r h going in
-    if_some first (Tells connector.members link.answers rules before.run old)
-    (Tells connector.members link.answers later after.run new)
+    if_some first (Yields connector.members link.answers rules before.run old)
+    (Yields connector.members link.answers later after.run new)
     (λ f t.
-    subst (λ x. Tells connector.members link.answers x after.run new f) (sym same)
-    (subst (λ l. Tells connector.members link.answers rules l new f) (sym run)
-    (tells_more OutOfMemory connector link rules before.run old new e f once ready t))) tells
+    subst (λ x. Yields connector.members link.answers x after.run new f) (sym same)
+    (subst (λ l. Yields connector.members link.answers rules l new f) (sym run)
+    (yields_more OutOfMemory connector link rules before.run old new e f once ready t))) yields
 
 -- ---- a terminal event
 
@@ -217,22 +218,22 @@ ready_still kind_of records rules later before after m r link h same ready going
     (subst (λ l. IsReady kind_of (ask_of context_in rules l) link)
     (sym (last_first before.run (events.Moment m))) ready))
 
-pub tells_still : {S L P M K : Type 0} (members : S → Option (List Member))
+pub yields_still : {S L P M K : Type 0} (members : S → Option (List Member))
     (answers : L → Option (List Answer)) (records : M → Option (List MetricsRecord))
     (rules later : Rules) (before after : Core P M K) (m : ℤ)
     (r : Result (Option AttemptEnd) Stop) (asked : Asked S L) (first : Option (List Member))
     → Advances records rules before (events.Moment m) r after → later ≡ rules
-    → IfSome first (Tells members answers rules before.run asked) → after.stuck ≡ false
-    → IfSome first (Tells members answers later after.run asked)
-tells_still members answers records rules later before after m r asked first h same tells going =
+    → IfSome first (Yields members answers rules before.run asked) → after.stuck ≡ false
+    → IfSome first (Yields members answers later after.run asked)
+yields_still members answers records rules later before after m r asked first h same yields going =
     let run = ran records rules before after (events.Moment m) r h going in
     let more = sym (last_first before.run (events.Moment m)) in
-    if_some first (Tells members answers rules before.run asked)
-    (Tells members answers later after.run asked)
+    if_some first (Yields members answers rules before.run asked)
+    (Yields members answers later after.run asked)
     (λ f t.
-    subst (λ x. Tells members answers x after.run asked f) (sym same)
-    (subst (λ l. Tells members answers rules l asked f) (sym run) (record {
-      told = subst (AllTold rules f) more (tt, t.told);
+    subst (λ x. Yields members answers x after.run asked f) (sym same)
+    (subst (λ l. Yields members answers rules l asked f) (sym run) (record {
+      yielded = subst (AllYielded rules f) more (tt, t.yielded);
       rest = subst (λ l.
           Holds members answers (left_after rules f l) asked.connector asked.link) more t.rest;
-    }))) tells
+    }))) yields

@@ -91,16 +91,16 @@ appended_by limits (turns.Passed list) kept kept' steps steps' records w = w.ste
 
 accepted_by : (rules : Rules) (past : List Event) (e : Event) (turn : Turn)
     (kept kept' : Option (Kept Material Denial)) (steps steps' : Option (List PlainStep))
-    (records : Records) (told : List MetricsRecord)
-    → IsTurn ((stream rules).refusal past e) (outcome (subject rules) e past) told turn
+    (records : Records) (yielded : List MetricsRecord)
+    → IsTurn ((stream rules).refusal past e) (outcome (subject rules) e past) yielded turn
     → WentBy rules.limits turn kept steps records kept' steps'
     → accepts turn ≡ is_accepted (outcome (subject rules) e past)
-accepted_by rules past e (turns.Terminal end) kept kept' steps steps' records told h w = absurd w
-accepted_by rules past e (turns.Accepted c i) kept kept' steps steps' records told h w =
+accepted_by rules past e (turns.Terminal end) kept kept' steps steps' records yielded h w = absurd w
+accepted_by rules past e (turns.Accepted c i) kept kept' steps steps' records yielded h w =
     ap is_accepted (sym h.1)
-accepted_by rules past e (turns.Denied r l) kept kept' steps steps' records told h w =
+accepted_by rules past e (turns.Denied r l) kept kept' steps steps' records yielded h w =
     ap is_accepted (sym h.1)
-accepted_by rules past e (turns.Passed l) kept kept' steps steps' records told h w =
+accepted_by rules past e (turns.Passed l) kept kept' steps steps' records yielded h w =
     ap is_accepted (sym h.1)
 
 same_option : {X : Type 0} (a b : Option X) → option_to_list a ≡ option_to_list b → a ≡ b

@@ -10,18 +10,18 @@ use Rattle.spf_feed.specs.declared.phase.Phase.{Phase}
 use Rattle.spf_feed.specs.declared.phase.Phase.TheVariants as phases
 use Rattle.spf_feed.specs.Items.{Event, Rules, context_in}
 use Rattle.spf_feed.specs.Run.{ask_of}
-use Rattle.spf_feeder.specs.Asking.{told_by_connect, told_by_start, told_by_next}
+use Rattle.spf_feeder.specs.Asking.{yielded_by_connect, yielded_by_start, yielded_by_next}
 
 -- what each `connect` to come gives, and the answers to come of the link in use
 pub record Coming : Type 0 where
   pub members : List Member
   pub answers : List Answer
 
--- the event that an ask tells
-abbrev pub told_at : Phase → Coming → Option Event
-told_at phases.Client coming = told_by_connect (connected_by coming.members)
-told_at phases.Connect coming = told_by_start (started_by coming.answers)
-told_at phases.Next coming = told_by_next (next_by (Some kind.Context) coming.answers)
+-- the event that an ask yields
+abbrev pub yielded_at : Phase → Coming → Option Event
+yielded_at phases.Client coming = yielded_by_connect (connected_by coming.members)
+yielded_at phases.Connect coming = yielded_by_start (started_by coming.answers)
+yielded_at phases.Next coming = yielded_by_next (next_by (Some kind.Context) coming.answers)
 
 -- the answers of a link that was made; a connection that failed leaves none
 abbrev pub answers_in : Member → List Answer
@@ -50,18 +50,18 @@ left_after rules members (e ∷ past) =
     left_at (ask_of context_in rules past) (left_after rules members past)
 
 -- an event is what the ask before it takes, where it is neither a moment nor a close
-abbrev pub IsTold : Rules → List Member → List Event → Event → Type 0
-IsTold rules members past (events.Moment m) = Unit {0}
-IsTold rules members past events.Close = Unit {0}
-IsTold rules members past e =
-    told_at (ask_of context_in rules past) (left_after rules members past) ≡ Some e
+abbrev pub IsYielded : Rules → List Member → List Event → Event → Type 0
+IsYielded rules members past (events.Moment m) = Unit {0}
+IsYielded rules members past events.Close = Unit {0}
+IsYielded rules members past e =
+    yielded_at (ask_of context_in rules past) (left_after rules members past) ≡ Some e
 
 -- the events other than moments are what the asks by `ask_of`, in order, take of the members
-abbrev pub AllTold : Rules → List Member → List Event → Type 0
-AllTold rules members [] = Unit {0}
-AllTold rules members (e ∷ past) = IsTold rules members past e × AllTold rules members past
+abbrev pub AllYielded : Rules → List Member → List Event → Type 0
+AllYielded rules members [] = Unit {0}
+AllYielded rules members (e ∷ past) = IsYielded rules members past e × AllYielded rules members past
 
--- a connector and its link have this still to tell
+-- a connector and its link have this still to yield
 abbrev pub LinkHolds : {L : Type 0} → (L → Option (List Answer)) → List Answer → Option L → Type 0
 LinkHolds answers coming None = coming ≡ []
 LinkHolds answers coming (Some link) = answers link ≡ Some coming

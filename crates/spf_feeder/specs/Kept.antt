@@ -27,7 +27,7 @@ use Rattle.spf_feeder.specs.Attempts.{attempt_end, gave_accepted}
 use Rattle.spf_feeder.specs.declared.session.Stop.{Stop}
 use Rattle.spf_feeder.specs.declared.session.Stop.TheVariants as stops
 
--- a publisher that tells has exactly the steps of the run
+-- a publisher whose steps are known has exactly the steps of the run
 abbrev pub Published : Option (List PlainStep) → Rules → List Event → Type 0
 Published steps rules run = IfSome steps (λ s. s ≡ steps_of (subject rules) run)
 
@@ -38,7 +38,7 @@ pub record Core (P M K : Type 0) : Type 0 where
   pub settings : SessionRules
   pub picker : Option K
   pub run : List Event
-  -- memory ran out, or a terminal event was told: nothing more is taken
+  -- memory ran out, or a terminal event came: nothing more is taken
   pub stuck : Bool
 
 abbrev pub core_of : {P M K : Type 0} → P → M → SessionRules → Option K → List Event → Bool
@@ -104,12 +104,12 @@ StepAppended old new None = new ≡ old
 StepAppended old new (Some step) = Appended old new step
 
 -- A turn with this step, where it has one, went through, and these are to be recorded.
-pub record WentWith (step : Option PlainStep) (told : List MetricsRecord)
+pub record WentWith (step : Option PlainStep) (yielded : List MetricsRecord)
     (kept : Option (Kept Material Denial)) (old : Option (List PlainStep)) (records : Records)
     (kept' : Option (Kept Material Denial)) (new : Option (List PlainStep)) : Type 0 where
   pub steps_are : StepAppended old new step
   pub kept_is : kept' ≡ kept_with_any same_material kept step
-  pub records_are : listed records ≡ told
+  pub records_are : listed records ≡ yielded
 
 abbrev pub WentBy : ResourceLimits → Turn → Option (Kept Material Denial)
     → Option (List PlainStep) → Records → Option (Kept Material Denial) → Option (List PlainStep)

@@ -1,4 +1,4 @@
-//! One ask of a connector or of its link, and the event that it tells.
+//! One ask of a connector or of its link, and the event that it yields.
 
 ghost use Rattle.std.specs.Prelude.{◌≡◌, Some, IfOk, is_some, true};
 ghost use Rattle.std.specs.Option.{ForSome};
@@ -24,7 +24,7 @@ fn connect_message(alloc: Global, e: &TransportConnectError) -> Result<Text, Out
     Ok(Text::new(format!(in alloc; "gRPC transport connection failed: {source}")?))
 }
 
-/// The status that a refusal of a link tells.
+/// The status that a refusal of a link yields.
 fn status_of(alloc: Global, fault: LinkFault) -> Result<GrpcStatusError, OutOfMemory>
     ensures { IfOk result (λ s. refused_as fault ≡ Some s) }
 {

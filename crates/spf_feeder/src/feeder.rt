@@ -6,11 +6,11 @@ ghost use Rattle.spf_view.specs.Views.{has_synced};
 ghost use Rattle.spf_feed.specs.Items.{context_in, subject};
 ghost use Rattle.spf_feed.specs.Run.{ask_of};
 ghost use Rattle.spf_feed.specs.declared.event.SessionEvent.TheVariants as events;
-ghost use Rattle.spf_feeder.specs.Fed.{StopsBy, Tells, Turns};
+ghost use Rattle.spf_feeder.specs.Fed.{StopsBy, Yields, Turns};
 ghost use Rattle.spf_feeder.specs.Kept.{Advances, Published, core_of, rules_by};
 ghost use Rattle.spf_feed.specs.Steps.{HasStep};
 ghost use Rattle.spf_feeder.specs.Asking.{is_client};
-ghost use Rattle.spf_feeder.specs.Coming.{AllTold};
+ghost use Rattle.spf_feeder.specs.Coming.{AllYielded};
 ghost use Rattle.spf_feeder.specs.Orderly.{GoesOn, IsOrderly};
 ghost use Rattle.spf_feeder.specs.Orderly as spec;
 
@@ -24,7 +24,7 @@ use std::alloc::Global;
 use std::marker::Model;
 use std::snapshot;
 
-/// Asks a connector and its link, and publishes what they tell: one ask a turn, whose step is
+/// Asks a connector and its link, and publishes what they yield: one ask a turn, whose step is
 /// published before the next one.
 #[derive(Drop)]
 pub struct Feeder<
@@ -56,7 +56,7 @@ where
     ghost use Rattle.std.specs.Prelude.{◌≡◌, false, IfSome, reverse};
     ghost use Rattle.spf_feed.specs.Items.{context_in};
     ghost use Rattle.spf_feed.specs.Run.{ask_of};
-    ghost use Rattle.spf_feeder.specs.Fed.{Fed, fed, IsReady, Tells};
+    ghost use Rattle.spf_feeder.specs.Fed.{Fed, fed, IsReady, Yields};
     ghost use Rattle.spf_feeder.specs.Kept.{Published, rules_by};
 
     ghost Value = { Fed C C.Link P M K };
@@ -69,7 +69,7 @@ where
         (ask_of context_in (rules_by K.picks f.session.settings f.session.picker)
         (reverse f.session.run)) f.link)
         × (f.session.stuck ≡ false → IfSome (C.members f.first.value)
-        (λ first. Tells C.members C.Link.answers
+        (λ first. Yields C.members C.Link.answers
         (rules_by K.picks f.session.settings f.session.picker) f.session.run
         (record { connector = f.connector; link = f.link }) first)) };
 }
@@ -172,7 +172,7 @@ where
         self.session.advance(Event::Moment(moment))
     }
 
-    /// Asks once, publishes the step of the event that was told, and records it.
+    /// Asks once, publishes the step of the event that came, and records it.
     pub(crate) fn ask_once(&mut self) -> Result<Option<AttemptEnd>, Stop>
         ensures settings { self.new.core.settings ≡ self.old.core.settings }
         ensures picker { self.new.core.picker ≡ self.old.core.picker }
@@ -200,7 +200,7 @@ where
         }
     }
 
-    /// One turn: asks once, and publishes the step of the event that was told. Once a turn was
+    /// One turn: asks once, and publishes the step of the event that came. Once a turn was
     /// refused, each later one is refused and asks nothing.
     pub fn turn(&mut self) -> Result<Option<AttemptEnd>, OutOfMemory>
         ensures settings { self.new.core.settings ≡ self.old.core.settings }
@@ -209,8 +209,8 @@ where
         ensures target { P.target self.new.core.publisher ≡ P.target self.old.core.publisher }
         ensures published { Published (P.steps self.new.core.publisher)
             (rules_by K.picks self.new.core.settings self.new.core.picker) self.new.core.run }
-        ensures tells { self.new.core.stuck ≡ false → IfSome (C.members self.new.first)
-            (Tells C.members C.Link.answers
+        ensures yields { self.new.core.stuck ≡ false → IfSome (C.members self.new.first)
+            (Yields C.members C.Link.answers
             (rules_by K.picks self.new.core.settings self.new.core.picker) self.new.core.run
             self.new.asked) }
         ensures goes_on { GoesOn self.old.core.run self.new.core.run }
@@ -299,7 +299,7 @@ where
             (rules_by K.picks self.core.settings self.core.picker) self.core.run }
         ensures orderly { IsOrderly (rules_by K.picks self.core.settings self.core.picker)
             (reverse self.core.run) }
-        ensures told { IfSome (C.members self.first) (λ members. AllTold
+        ensures yielded { IfSome (C.members self.first) (λ members. AllYielded
             (rules_by K.picks self.core.settings self.core.picker) members
             (reverse self.core.run)) }
     {

@@ -92,7 +92,7 @@ where
     ensures paces { IfOk result (λ r. KeepsPace
         (rules_by K.picks r.0.core.settings r.0.core.picker) r.0.core.run r.1) }
 
-    // A terminal event was told before anything was accepted.
+    // A terminal event came before anything was accepted.
     ensures ended { IfErr result (StopsOpening K.picks opening.limits opening.timeout opening.ready
         picker) }
 {

@@ -31,7 +31,7 @@ use std::sync::Arc;
 /// Why a run goes no further.
 #[derive(Debug, PartialEq, Eq, Drop)]
 pub enum Stop {
-    /// A terminal event was told before anything was accepted.
+    /// A terminal event came before anything was accepted.
     Terminal(Terminal),
     OutOfMemory,
 }

@@ -8,7 +8,7 @@ use Rattle.spf_io.specs.declared.memory.OutOfMemory.{OutOfMemory}
 use Rattle.spf_link.specs.Connecting.{Member}
 use Rattle.spf_x509.specs.Svid.{Svid}
 use Rattle.spf_feed.specs.declared.turn.SessionRules.{SessionRules}
-use Rattle.spf_feeder.specs.Coming.{AllTold}
+use Rattle.spf_feeder.specs.Coming.{AllYielded}
 use Rattle.spf_feeder.specs.Kept.{rules_by}
 use Rattle.spiffe.specs.declared.builder.Settings.{Settings}
 use Rattle.spiffe.specs.Building.{IsAssigned, IsDefault}
@@ -22,13 +22,13 @@ use Rattle.spf_gate_live.specs.Runs.{AnswersAll, IsRecordOf, Runs, max_lines}
 use Rattle.spf_gate_live.specs.declared.live_error.LiveGateError.{LiveGateError}
 use Rattle.spf_gate_live.specs.declared.live_error.LiveGateError.TheVariants as errors
 
-told_by : {K : Type 0} (picks : K → List Svid → Option ℕ) (r : Recorded K)
+yielded_by : {K : Type 0} (picks : K → List Svid → Option ℕ) (r : Recorded K)
     (a b : Option (List Member)) → a ≡ b
-    → IfSome a (λ m. AllTold (rules_by picks r.settings r.picker) m (reverse r.run))
-    → IfSome b (λ m. AllTold (rules_by picks r.settings r.picker) m (reverse r.run))
-told_by picks r a b same =
+    → IfSome a (λ m. AllYielded (rules_by picks r.settings r.picker) m (reverse r.run))
+    → IfSome b (λ m. AllYielded (rules_by picks r.settings r.picker) m (reverse r.run))
+yielded_by picks r a b same =
     subst (λ (o : Option (List Member)).
-    IfSome o (λ m. AllTold (rules_by picks r.settings r.picker) m (reverse r.run))) same
+    IfSome o (λ m. AllYielded (rules_by picks r.settings r.picker) m (reverse r.run))) same
 
 -- the record of a job that was assigned by a builder with the defaults
 record_of : {S K : Type 0} (members : S → Option (List Member)) (picks : K → List Svid → Option ℕ)
@@ -44,8 +44,8 @@ record_of members picks set connector clock clock' job published found is assign
       limits = ap (λ (s : SessionRules). s.limits) of.settings ∙ assigned.limits ∙ is.limits;
       ready = ap (λ (s : SessionRules). s.ready) of.settings ∙ assigned.ready ∙ is.ready;
       picker = of.picker ∙ assigned.picker ∙ is.picker;
-      told = told_by picks found (members job.first) (members connector) assigned.members_are
-          of.told;
+      yielded = yielded_by picks found (members job.first) (members connector) assigned.members_are
+          of.yielded;
       steps_are = steps;
       ended = ended;
     }
@@ -110,10 +110,10 @@ answered {S} {K} members picks set connector own clock clock' job started left l
     (answered_so members picks set own clock clock' job left left' held held' seen last
     published served done joined is assigned serves begins of_job found kept settled)
 
-untold_all : {K : Type 0} (members : Option (List Member)) (picks : K → List Svid → Option ℕ)
+unyielded_all : {K : Type 0} (members : Option (List Member)) (picks : K → List Svid → Option ℕ)
     (left left' held held' : Option (List ℕ)) → AnswersAll members picks left left' held held'
     → AnswersAll None picks left left' held held'
-untold_all members picks left left' held held' so = record {
+unyielded_all members picks left left' held held' so = record {
   first = so.first;
   last = so.last;
   count = so.count;
@@ -126,21 +126,21 @@ untold_all members picks left left' held held' so = record {
     limits = so.is_record.limits;
     ready = so.is_record.ready;
     picker = so.is_record.picker;
-    told = tt;
+    yielded = tt;
     steps_are = so.is_record.steps_are;
     ended = so.is_record.ended;
   };
 }
 
 -- of a connector of which nothing is known
-pub untold : {K : Type 0} (members : Option (List Member)) (picks : K → List Svid → Option ℕ)
+pub unyielded : {K : Type 0} (members : Option (List Member)) (picks : K → List Svid → Option ℕ)
     (left left' held held' : Option (List ℕ)) (end : Result (Unit {0}) LiveGateError)
     → Runs members picks left left' held held' end → Runs None picks left left' held held' end
-untold members picks left left' held held' (Ok done) so =
-    untold_all members picks left left' held held' so
-untold members picks left left' held held' (Err (errors.Gate e)) so = so
-untold members picks left left' held held' (Err errors.BadArguments) so = so
-untold members picks left left' held held' (Err errors.Rejected) so = so
-untold members picks left left' held held' (Err errors.Unsupported) so = so
-untold members picks left left' held held' (Err errors.NoSupervisor) so = so
-untold members picks left left' held held' (Err errors.NoPlace) so = so
+unyielded members picks left left' held held' (Ok done) so =
+    unyielded_all members picks left left' held held' so
+unyielded members picks left left' held held' (Err (errors.Gate e)) so = so
+unyielded members picks left left' held held' (Err errors.BadArguments) so = so
+unyielded members picks left left' held held' (Err errors.Rejected) so = so
+unyielded members picks left left' held held' (Err errors.Unsupported) so = so
+unyielded members picks left left' held held' (Err errors.NoSupervisor) so = so
+unyielded members picks left left' held held' (Err errors.NoPlace) so = so

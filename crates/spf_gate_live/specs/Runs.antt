@@ -13,7 +13,7 @@ use Rattle.spf_feed.specs.Limits.{default_limits}
 use Rattle.spf_feed.specs.declared.ready.Ready.TheVariants as readiness
 use Rattle.spf_feed.specs.declared.state.X509SourceError.{X509SourceError}
 use Rattle.spf_feed.specs.declared.state.X509SourceError.TheVariants as source
-use Rattle.spf_feeder.specs.Coming.{AllTold}
+use Rattle.spf_feeder.specs.Coming.{AllYielded}
 use Rattle.spf_feeder.specs.Kept.{rules_by}
 use Rattle.spiffe.specs.declared.builder.Settings.{Settings}
 use Rattle.spiffe.specs.Building.{IsDefault, SyncFails}
@@ -33,14 +33,15 @@ max_lines = 1_000_000
 -- ---- what a run does
 
 -- The record of a run over the defaults: its steps are all that was published, and its events are
--- what the connector told, where that is known.
+-- what the connector yielded, where that is known.
 pub record IsRecordOf {K : Type 0} (members : Option (List Member))
     (picks : K → List Svid → Option ℕ) (published : Seen) (r : Recorded K) : Type 0 where
   pub kept : IsRecord picks r
   pub limits : r.settings.limits ≡ default_limits
   pub ready : r.settings.ready ≡ readiness.Usable
   pub picker : r.picker ≡ None
-  pub told : IfSome members (λ m. AllTold (rules_by picks r.settings r.picker) m (reverse r.run))
+  pub yielded : IfSome members (λ m. AllYielded (rules_by picks r.settings r.picker) m (reverse
+      r.run))
   pub steps_are : r.steps ≡ steps_of published
   pub ended : is_ended published ≡ true
 

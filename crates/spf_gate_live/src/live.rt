@@ -56,7 +56,7 @@ where
     // Status 9 comes exactly where there are arguments.
     ensures arguments { (result ≡ 9) ↔ (length arguments.now ≢ 0) }
     // Where all asks were answered, each line is that of what was read of a beginning of the steps
-    // in the supervisor's record, whose events are what the connector told. Where they were not,
+    // in the supervisor's record, whose events are what the connector yielded. Where they were not,
     // the status and the line on `errors` say why.
     ensures ended { Ended (C.members connector) (⟦<NoPicker as SvidPicker>⟧.picks)
         (C.validates connector) (Rose (S.refusals spawner.old) (S.refusals spawner.new))

@@ -154,6 +154,7 @@ pub fn publish<P: JwtPublisher>(
         (plain step ∷ []) }
     ensures change { IfOk result (λ c. c ≡ change_of snapshot.old (plain step)) }
     ensures kept { OnOk result (snapshot.new ≡ kept_with set_eq snapshot.old (plain step)) }
+    ensures unchanged { OnErr result (snapshot.new ≡ snapshot.old) }
     ensures target { P.target publisher.new ≡ P.target publisher.old }
 {
     let published = step.try_clone()?;

@@ -2,5 +2,5 @@ pub mod FeedLemmas
 pub mod PaceLemmas
 pub mod OrderLemmas
 pub mod RunLemmas
-pub mod TellLemmas
+pub mod YieldLemmas
 pub mod TimeLemmas

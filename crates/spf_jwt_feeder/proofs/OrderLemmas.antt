@@ -1,4 +1,4 @@
--- What an ask tells answers it, and a run that goes on.
+-- What an ask yields answers it, and a run that goes on.
 use Rattle.std.proofs.Common.{◌≡◌, Bool, true, false, List, [], ◌∷◌, ◌++◌, reverse, Option, None}
 use Rattle.std.proofs.Common.{Some, Result, Ok, Err, inl, inr, refl, sym, ap, ◌∙◌, subst}
 use Rattle.std.specs.Prelude.{not, ◌||◌, ◌⊎◌}
@@ -30,7 +30,7 @@ use Rattle.spf_jwt_feed.specs.Run.{ask_of, stream}
 use Rattle.spf_pace.specs.declared.pacer.AttemptEnd.{AttemptEnd}
 use Rattle.spf_feeder.specs.Asking.{Asked}
 use Rattle.spf_jwt_feeder.specs.Asking.{Asks, AsksOnce}
-use Rattle.spf_jwt_feeder.specs.Asking.{told_by_connect, told_by_next, told_by_start}
+use Rattle.spf_jwt_feeder.specs.Asking.{yielded_by_connect, yielded_by_next, yielded_by_start}
 use Rattle.spf_jwt_feeder.specs.Fed.{AsksInVain, Fed, IsIdle, Turns}
 use Rattle.spf_feeder.specs.Asking.{is_client}
 use Rattle.spf_jwt_feeder.specs.Orderly.{AddsAnswer, IsAboutToAsk, IsOneStep, IsOpening, IsTimed}
@@ -38,14 +38,14 @@ use Rattle.spf_jwt_feeder.specs.Orderly.{IsSynced, ends_with_moment, is_timed}
 use Rattle.spf_jwt_feeder.specs.Orderly.{GoesOn, IsOrderly, does_answer, has_moment}
 use Rattle.spf_jwt_feeder.specs.Orderly.{is_moment}
 
--- ---- what is told answers the ask
+-- ---- what is yielded answers the ask
 
 all_answer : Phase → Option Event → Bool
 all_answer ask None = true
 all_answer ask (Some e) = does_answer ask e
 
 connect_answers : {L : Type 0} (r : Result L ClientFault)
-    → all_answer phases.Client (told_by_connect r) ≡ true
+    → all_answer phases.Client (yielded_by_connect r) ≡ true
 unfolding all_answer
 connect_answers (Ok link) = refl
 connect_answers (Err client.OutOfMemory) = refl
@@ -53,7 +53,7 @@ connect_answers (Err (client.Status s)) = refl
 connect_answers (Err (client.Unreachable t)) = refl
 
 start_answers : (r : Result (Unit {0}) LinkFault)
-    → all_answer phases.Connect (told_by_start r) ≡ true
+    → all_answer phases.Connect (yielded_by_start r) ≡ true
 unfolding all_answer
 start_answers (Ok done) = refl
 start_answers (Err fault.OutOfMemory) = refl
@@ -61,7 +61,7 @@ start_answers (Err (fault.Status s)) = refl
 start_answers (Err (fault.Connect s)) = refl
 
 next_answers : (r : Result (Option Response) LinkFault)
-    → all_answer phases.Next (told_by_next r) ≡ true
+    → all_answer phases.Next (yielded_by_next r) ≡ true
 unfolding all_answer
 next_answers (Ok None) = refl
 next_answers (Ok (Some (response.JwtBundles r))) = refl
@@ -78,11 +78,11 @@ pub once_answers : {S L : Type 0} (E : Type 0) (connector : connectors.Ghosts S 
     → AsksOnce {E = E} connector link ask old (Ok e) new → does_answer ask e ≡ true
 unfolding all_answer
 once_answers E connector link phases.Client old new e h =
-    sym (ap (all_answer phases.Client) h.told) ∙ connect_answers h.answer
+    sym (ap (all_answer phases.Client) h.yielded) ∙ connect_answers h.answer
 once_answers E connector link phases.Connect old new e h =
-    sym (ap (all_answer phases.Connect) h.asked.told) ∙ start_answers h.asked.answer
+    sym (ap (all_answer phases.Connect) h.asked.yielded) ∙ start_answers h.asked.answer
 once_answers E connector link phases.Next old new e h =
-    sym (ap (all_answer phases.Next) h.asked.told) ∙ next_answers h.asked.answer
+    sym (ap (all_answer phases.Next) h.asked.yielded) ∙ next_answers h.asked.answer
 
 pub asks_answer : {S L : Type 0} (connector : connectors.Ghosts S L) (link : links.Ghosts L)
     (ask : Phase) (old new : Asked S L) (e : Event)

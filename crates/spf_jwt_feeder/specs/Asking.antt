@@ -1,4 +1,4 @@
--- One ask of a connector or of its link, and the event that it tells.
+-- One ask of a connector or of its link, and the event that it yields.
 use Rattle.std.specs.Prelude.{◌≡◌, List, [], Option, None, Some, Result, Ok, Err, IfOk, IsErr, ◌⊎◌}
 use Rattle.std.specs.Option.{option_map}
 use Rattle.spf_api.specs.declared.link.ClientFault.{ClientFault}
@@ -20,22 +20,22 @@ use Rattle.spf_feed.specs.Items.{value_of}
 use Rattle.spf_feeder.specs.Asking.{Asked, LinkAsked, refused_as}
 use Rattle.spf_jwt_feed.specs.Items.{Event}
 
--- the event that each call tells; none where memory ran out
-abbrev pub told_by_connect : {L : Type 0} → Result L ClientFault → Option Event
-told_by_connect (Ok link) = Some events.ClientMade
-told_by_connect (Err client.OutOfMemory) = None
-told_by_connect (Err f) = Some (events.ClientFailed f)
+-- the event that each call yields; none where memory ran out
+abbrev pub yielded_by_connect : {L : Type 0} → Result L ClientFault → Option Event
+yielded_by_connect (Ok link) = Some events.ClientMade
+yielded_by_connect (Err client.OutOfMemory) = None
+yielded_by_connect (Err f) = Some (events.ClientFailed f)
 
-abbrev pub told_by_start : Result (Unit {0}) LinkFault → Option Event
-told_by_start (Ok done) = Some events.Connected
-told_by_start (Err f) = option_map events.ConnectStatus (refused_as f)
+abbrev pub yielded_by_start : Result (Unit {0}) LinkFault → Option Event
+yielded_by_start (Ok done) = Some events.Connected
+yielded_by_start (Err f) = option_map events.ConnectStatus (refused_as f)
 
 -- a response of another kind than the one that was asked for never comes
-abbrev pub told_by_next : Result (Option Response) LinkFault → Option Event
-told_by_next (Ok None) = Some events.StreamEnd
-told_by_next (Ok (Some (response.JwtBundles r))) = Some (events.Item r)
-told_by_next (Ok (Some _)) = None
-told_by_next (Err f) = option_map events.ItemStatus (refused_as f)
+abbrev pub yielded_by_next : Result (Option Response) LinkFault → Option Event
+yielded_by_next (Ok None) = Some events.StreamEnd
+yielded_by_next (Ok (Some (response.JwtBundles r))) = Some (events.Item r)
+yielded_by_next (Ok (Some _)) = None
+yielded_by_next (Err f) = option_map events.ItemStatus (refused_as f)
 
 -- each `start` asks for JWT bundles, with the header of the Workload API alone
 abbrev pub stream_start : Start
@@ -47,7 +47,7 @@ pub record ClientAsked {S L E : Type 0} (connector : connectors.Ghosts S L)
     (link : Option L) : Type 0 where
   pub answer : Result L ClientFault
   pub called : Connected connector answers old answer new
-  pub told : IfOk result (λ e. told_by_connect answer ≡ Some e)
+  pub yielded : IfOk result (λ e. yielded_by_connect answer ≡ Some e)
   pub link_is : link ≡ value_of answer
 
 -- one `start`
@@ -55,14 +55,14 @@ pub record StreamAsked {L E : Type 0} (link : links.Ghosts L) (old : L) (result 
     (new : L) : Type 0 where
   pub answer : Result (Unit {0}) LinkFault
   pub called : Starts link old stream_start answer new
-  pub told : IfOk result (λ e. told_by_start answer ≡ Some e)
+  pub yielded : IfOk result (λ e. yielded_by_start answer ≡ Some e)
 
 -- one `next`
 pub record ItemAsked {L E : Type 0} (link : links.Ghosts L) (old : L) (result : Result Event E)
     (new : L) : Type 0 where
   pub answer : Result (Option Response) LinkFault
   pub called : Nexts link old answer new
-  pub told : IfOk result (λ e. told_by_next answer ≡ Some e)
+  pub yielded : IfOk result (λ e. yielded_by_next answer ≡ Some e)
 
 -- exactly one call, the one that the ask says
 abbrev pub AsksOnce : {S L E : Type 0} → connectors.Ghosts S L → links.Ghosts L → Phase → Asked S L

@@ -9,13 +9,13 @@ use Rattle.spf_feed.specs.declared.phase.Phase.TheVariants as phases
 use Rattle.spf_feeder.specs.Coming.{Coming, at_first, left_at}
 use Rattle.spf_jwt_feed.specs.Items.{Event, Rules, item_in}
 use Rattle.spf_jwt_feed.specs.Run.{ask_of}
-use Rattle.spf_jwt_feeder.specs.Asking.{told_by_connect, told_by_start, told_by_next}
+use Rattle.spf_jwt_feeder.specs.Asking.{yielded_by_connect, yielded_by_start, yielded_by_next}
 
--- the event that an ask tells
-abbrev pub told_at : Phase → Coming → Option Event
-told_at phases.Client coming = told_by_connect (connected_by coming.members)
-told_at phases.Connect coming = told_by_start (started_by coming.answers)
-told_at phases.Next coming = told_by_next (next_by (Some kind.JwtBundles) coming.answers)
+-- the event that an ask yields
+abbrev pub yielded_at : Phase → Coming → Option Event
+yielded_at phases.Client coming = yielded_by_connect (connected_by coming.members)
+yielded_at phases.Connect coming = yielded_by_start (started_by coming.answers)
+yielded_at phases.Next coming = yielded_by_next (next_by (Some kind.JwtBundles) coming.answers)
 
 -- what is left after a history; a moment and a close ask nothing
 abbrev pub left_after : Rules → List Member → List Event → Coming
@@ -26,13 +26,13 @@ left_after rules members (e ∷ past) =
     left_at (ask_of item_in rules past) (left_after rules members past)
 
 -- an event is what the ask before it takes, where it is neither a moment nor a close
-abbrev pub IsTold : Rules → List Member → List Event → Event → Type 0
-IsTold rules members past (events.Moment m) = Unit {0}
-IsTold rules members past events.Close = Unit {0}
-IsTold rules members past e =
-    told_at (ask_of item_in rules past) (left_after rules members past) ≡ Some e
+abbrev pub IsYielded : Rules → List Member → List Event → Event → Type 0
+IsYielded rules members past (events.Moment m) = Unit {0}
+IsYielded rules members past events.Close = Unit {0}
+IsYielded rules members past e =
+    yielded_at (ask_of item_in rules past) (left_after rules members past) ≡ Some e
 
 -- the events other than moments are what the asks by `ask_of`, in order, take of the members
-abbrev pub AllTold : Rules → List Member → List Event → Type 0
-AllTold rules members [] = Unit {0}
-AllTold rules members (e ∷ past) = IsTold rules members past e × AllTold rules members past
+abbrev pub AllYielded : Rules → List Member → List Event → Type 0
+AllYielded rules members [] = Unit {0}
+AllYielded rules members (e ∷ past) = IsYielded rules members past e × AllYielded rules members past

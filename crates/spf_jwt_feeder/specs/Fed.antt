@@ -1,4 +1,4 @@
--- A feeder: a connector and its link, and the run of what they tell.
+-- A feeder: a connector and its link, and the run of what they yield.
 use Rattle.std.specs.Prelude.{◌≡◌, true, List, ◌∷◌, [], ◌++◌, reverse, Option, None}
 use Rattle.std.specs.Prelude.{Some, Result, Ok, Err, ◌⊎◌}
 use Rattle.spf_io.specs.declared.memory.OutOfMemory.{OutOfMemory}
@@ -19,7 +19,7 @@ use Rattle.spf_jwt_feed.specs.declared.record.JwtMetricsRecord.{JwtMetricsRecord
 use Rattle.spf_jwt_feed.specs.Items.{Event, Rules, item_in}
 use Rattle.spf_jwt_feed.specs.Run.{ask_of, stream}
 use Rattle.spf_jwt_feeder.specs.Asking.{AsksOnce}
-use Rattle.spf_jwt_feeder.specs.Coming.{AllTold, left_after}
+use Rattle.spf_jwt_feeder.specs.Coming.{AllYielded, left_after}
 use Rattle.spf_jwt_feeder.specs.Kept.{Advanced, Core}
 
 -- What contracts see of a feeder.
@@ -45,11 +45,11 @@ IsReady kind_of phases.Connect (Some link) = Unit {0}
 IsReady kind_of phases.Next (Some link) = kind_of link ≡ Some kind.JwtBundles
 
 -- The events other than moments are what the asks, in order, take of what the connector had to
--- tell when it was handed in, and the connector and its link have the rest.
-pub record Tells {S L : Type 0} (members : S → Option (List Member))
+-- yield when it was handed in, and the connector and its link have the rest.
+pub record Yields {S L : Type 0} (members : S → Option (List Member))
     (answers : L → Option (List Answer)) (rules : Rules) (run : List Event) (asked : Asked S L)
     (first : List Member) : Type 0 where
-  pub told : AllTold rules first (reverse run)
+  pub yielded : AllYielded rules first (reverse run)
   pub rest : Holds members answers (left_after rules first (reverse run)) asked.connector asked.link
 
 -- A turn that went through: one ask, one event more, which is published before the next turn.
@@ -66,7 +66,7 @@ pub record IsIdle {S L P M : Type 0} (old new : Fed S L P M) : Type 0 where
   pub asked : new.asked ≡ old.asked
   pub run_is : new.core.run ≡ old.core.run
 
--- one ask, and at most the event that it told
+-- one ask, and at most the event that it yielded
 pub record AsksInVain {S L P M : Type 0} (connector : connectors.Ghosts S L)
     (link : links.Ghosts L) (rules : Rules) (old new : Fed S L P M) : Type 0 where
   pub answer : Result Event OutOfMemory
@@ -90,7 +90,7 @@ Turns connector link records rules old (Ok end) new =
     TurnedOnce connector link records rules old end new
 Turns connector link records rules old (Err e) new = TurnedAway connector link rules old new
 
--- a terminal event was told behind the run: it is no event of it
+-- a terminal event came after the run: it is no event of it
 abbrev pub StopsBy : Rules → List Event → Stop → Type 0
 StopsBy rules run (stops.Terminal end) =
     (e : Event) × ((stream rules).refusal (reverse run) e ≡ Some end)

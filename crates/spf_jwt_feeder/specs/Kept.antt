@@ -26,7 +26,7 @@ use Rattle.spf_jwt_feed.specs.Turns.{listed}
 use Rattle.spf_jwt_feeder.specs.declared.session.JwtSessionRules.{JwtSessionRules}
 use Rattle.spf_jwt_feeder.specs.Attempts.{attempt_end, gave_accepted}
 
--- a publisher that tells has exactly the steps of the run
+-- a publisher whose steps are known has exactly the steps of the run
 abbrev pub Published : Option (List PlainStep) → Rules → List Event → Type 0
 Published steps rules run = IfSome steps (λ s. s ≡ steps_of (subject rules) run)
 
@@ -36,7 +36,7 @@ pub record Core (P M : Type 0) : Type 0 where
   pub recorder : M
   pub settings : JwtSessionRules
   pub run : List Event
-  -- memory ran out, or a terminal event was told: nothing more is taken
+  -- memory ran out, or a terminal event came: nothing more is taken
   pub stuck : Bool
 
 abbrev pub core_of : {P M : Type 0} → P → M → JwtSessionRules → List Event → Bool → Core P M
@@ -100,12 +100,12 @@ StepAppended old new None = new ≡ old
 StepAppended old new (Some step) = Appended old new step
 
 -- A turn with this step, where it has one, went through, and these are to be recorded.
-pub record WentWith (step : Option PlainStep) (told : List JwtMetricsRecord)
+pub record WentWith (step : Option PlainStep) (yielded : List JwtMetricsRecord)
     (kept : Option (Kept BundleSet Denial)) (old : Option (List PlainStep)) (records : Records)
     (kept' : Option (Kept BundleSet Denial)) (new : Option (List PlainStep)) : Type 0 where
   pub steps_are : StepAppended old new step
   pub kept_is : kept' ≡ kept_with_any set_eq kept step
-  pub records_are : listed records ≡ told
+  pub records_are : listed records ≡ yielded
 
 abbrev pub WentBy : JwtResourceLimits → Turn → Option (Kept BundleSet Denial)
     → Option (List PlainStep) → Records → Option (Kept BundleSet Denial) → Option (List PlainStep)

@@ -1,4 +1,4 @@
--- What the events of a feeder are: each is what the ask before it tells, or a moment, and none is
+-- What the events of a feeder are: each is what the ask before it yields, or a moment, and none is
 -- terminal.
 use Rattle.std.specs.Prelude.{◌≡◌, Bool, true, false, not, ◌||◌, ◌&&◌, if◌then◌else◌, List, [], ◌∷◌}
 use Rattle.std.specs.Prelude.{◌++◌, None, Some, reverse}
@@ -15,7 +15,7 @@ abbrev pub is_moment : Event → Bool
 is_moment (events.Moment m) = true
 is_moment _ = false
 
--- whether an event is one that the ask tells
+-- whether an event is one that the ask yields
 abbrev pub does_answer : Phase → Event → Bool
 does_answer phases.Client events.ClientMade = true
 does_answer phases.Client (events.ClientFailed f) = true
@@ -47,7 +47,7 @@ pub record GoesOn (old new : List Event) : Type 0 where
   pub run_is : new ≡ old ++ later
   pub timeless : has_moment later ≡ false
 
--- one event more, which the ask before it told
+-- one event more, which the ask before it yielded
 pub record AddsAnswer (rules : Rules) (old new : List Event) : Type 0 where
   pub event : Event
   pub answers : does_answer (ask_of item_in rules (reverse old)) event ≡ true

@@ -10,7 +10,8 @@ moments_in [] = []
 moments_in (events.Moment m ∷ run) = m ∷ moments_in run
 moments_in (_ ∷ run) = moments_in run
 
--- What a clock gave are the moments that a run has more, in order, where the clock tells.
+-- What a clock gave are the moments that a run has more, in order, where the moments of the clock
+-- are known.
 abbrev pub Gives : Option (List (Option ℤ)) → Option (List (Option ℤ)) → List Event → List Event
     → Type 0
 Gives None new before run = Unit {0}

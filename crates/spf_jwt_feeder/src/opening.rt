@@ -90,7 +90,7 @@ where
     ensures paces { IfOk result (λ r. KeepsPace
         (rules_of r.0.core.settings) r.0.core.run r.1) }
 
-    // A terminal event was told before anything was accepted.
+    // A terminal event came before anything was accepted.
     ensures ended { IfErr result (StopsOpening opening.limits opening.timeout) }
 {
     let delay = opening.bounds.normalize().min_backoff;

@@ -4,4 +4,4 @@ pub mod Joining
 pub mod Leaving
 pub mod Recording
 pub mod Tasks
-pub mod Untold
+pub mod Unyielded

@@ -6,7 +6,7 @@ use Rattle.spf_link.specs.Connecting.{Member}
 use Rattle.spf_jwt_feed.specs.Items.{Event}
 use Rattle.spf_jwt_feeder.specs.declared.session.JwtSessionRules.{JwtSessionRules}
 use Rattle.spf_jwt_feeder.specs.declared.pace.Pace.{Pace}
-use Rattle.spf_jwt_feeder.specs.Coming.{AllTold}
+use Rattle.spf_jwt_feeder.specs.Coming.{AllYielded}
 use Rattle.spf_jwt_feeder.specs.Kept.{rules_of}
 use Rattle.spf_jwt_feeder.specs.Orderly.{GoesOn}
 use Rattle.spf_jwt_source.specs.Records.{Assigned, IsOf, Recorded}
@@ -16,21 +16,22 @@ pub recorded_of_job : {S : Type 0} (members : S → Option (List Member)) (job :
     (o : Option Recorded)
     → IfSome o (λ r. (r.run ≡ run) × (r.settings ≡ settings) × (r.pace ≡ pace)
     × (r.closed ≡ closed))
-    → IfSome (members first) (λ m. AllTold (rules_of settings) m (reverse run))
+    → IfSome (members first) (λ m. AllYielded (rules_of settings) m (reverse run))
     → first ≡ job.first → GoesOn job.run run → settings ≡ job.settings → pace.bounds ≡ job.bounds
     → closed.cell ≡ job.cell → IfSome o (IsOf members job)
-recorded_of_job members job first run settings pace closed None is told at goes rules bounds cell =
+recorded_of_job members job first run settings pace closed None is yielded at goes rules bounds cell
+    =
     tt
-recorded_of_job members job first run settings pace closed (Some r) is told at goes rules bounds
+recorded_of_job members job first run settings pace closed (Some r) is yielded at goes rules bounds
     cell =
     record {
       goes_on = subst (GoesOn job.run) (sym is.0) goes;
       settings = is.1 ∙ rules;
       bounds = ap (λ (p : Pace). p.bounds) is.2 ∙ bounds;
-      told = subst (λ f.
-          IfSome (members f) (λ m. AllTold (rules_of r.settings) m (reverse r.run))) at
+      yielded = subst (λ f.
+          IfSome (members f) (λ m. AllYielded (rules_of r.settings) m (reverse r.run))) at
           (subst (λ (x : JwtSessionRules × List Event).
-          IfSome (members first) (λ m. AllTold (rules_of x.0) m (reverse x.1)))
-          (λ i. (sym is.1 i, sym is.0 i)) told);
+          IfSome (members first) (λ m. AllYielded (rules_of x.0) m (reverse x.1)))
+          (λ i. (sym is.1 i, sym is.0 i)) yielded);
       cell = ap (λ (k : Held). k.cell) is.3 ∙ cell;
     }

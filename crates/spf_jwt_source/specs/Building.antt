@@ -54,7 +54,7 @@ abbrev pub Stops : JwtSettings → Terminal → Type 0
 Stops set end =
     StopsOpening set.limits set.timeout (stops.Terminal end)
 
--- Why an initial synchronisation gives an error: the endpoint is none, or a terminal event was told
+-- Why an initial synchronisation gives an error: the endpoint is none, or a terminal event came
 -- by the connector or the clock before anything was accepted.
 abbrev pub SyncFails : JwtSettings
     → Result (Unit {0}) EndpointError → JwtSourceError → Type 0

@@ -11,7 +11,7 @@ use Rattle.spf_jwt_feed.specs.Items.{Event, subject}
 use Rattle.spf_jwt_feed.specs.Steps.{PlainStep}
 use Rattle.spf_jwt_feeder.specs.declared.session.JwtSessionRules.{JwtSessionRules}
 use Rattle.spf_jwt_feeder.specs.declared.pace.Pace.{Pace}
-use Rattle.spf_jwt_feeder.specs.Coming.{AllTold}
+use Rattle.spf_jwt_feeder.specs.Coming.{AllYielded}
 use Rattle.spf_jwt_feeder.specs.Kept.{rules_of}
 use Rattle.spf_jwt_feeder.specs.Orderly.{GoesOn, IsOrderly, IsSynced}
 use Rattle.spf_jwt_feeder.specs.Pacing.{KeepsPace}
@@ -71,14 +71,14 @@ pub record IsRecord (r : Recorded) : Type 0 where
 
 -- A record of what a supervisor was given: its events begin with those of the initial
 -- synchronisation and have no moment more, its rules and bounds are those given, the events
--- that are no moments are what the connector had to tell, and its cell was closed.
+-- that are no moments are what the connector had to yield, and its cell was closed.
 pub record IsOf {S : Type 0} (members : S → Option (List Member)) (job : Assigned S)
     (r : Recorded) : Type 0 where
   pub goes_on : GoesOn job.run r.run
   pub settings : r.settings ≡ job.settings
   pub bounds : r.pace.bounds ≡ job.bounds
-  pub told : IfSome (members job.first)
-      (λ m. AllTold (rules_of r.settings) m (reverse r.run))
+  pub yielded : IfSome (members job.first)
+      (λ m. AllYielded (rules_of r.settings) m (reverse r.run))
   pub cell : r.closed.cell ≡ job.cell
 
 -- what a supervisor leaves: what it has published, and its record, where memory did not run out

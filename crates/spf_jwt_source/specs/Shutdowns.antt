@@ -15,7 +15,7 @@ shuts grace _ _ = Ok tt
 abbrev pub Shuts : Duration → Option ℤ → Option ℤ → Result (Unit {0}) JwtSourceError → Type 0
 Shuts grace started ended result = result ≡ shuts grace started ended
 
--- It takes exactly the next two answers of the clock, where the clock tells.
+-- It takes exactly the next two answers of the clock, where the moments of the clock are known.
 abbrev pub ShutsBy : Duration → Option (List (Option ℤ)) → Option (List (Option ℤ))
     → Result (Unit {0}) JwtSourceError → Type 0
 ShutsBy grace None new result =

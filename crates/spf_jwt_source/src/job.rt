@@ -3,13 +3,13 @@
 ghost use Rattle.std.specs.Prelude.{◌≡◌, false, true, IfOk, IfSome, None, Some, reverse};
 ghost use mathlib.Core.List.{IsPrefix};
 ghost use Rattle.spf_close.specs.declared.maker.Maker.TheVariants as makers;
-ghost use Rattle.spf_jwt_feeder.specs.Coming.{AllTold};
+ghost use Rattle.spf_jwt_feeder.specs.Coming.{AllYielded};
 ghost use Rattle.spf_jwt_feeder.specs.Kept.{rules_of};
 ghost use Rattle.spf_jwt_feeder.specs.Orderly.{IsSynced};
 ghost use Rattle.spf_jwt_feeder.specs.Pacing.{KeepsPace};
 ghost use Rattle.spf_history.specs.Lists.{is_ended, steps_of};
 ghost use Rattle.spf_jwt_source.specs.Records.{IsLeftBy, IsRecord, assigned, task_of};
-ghost use Rattle.spiffe.specs.Records.{untold};
+ghost use Rattle.spiffe.specs.Records.{unyielded};
 
 use crate::publishing::BoardPublisher;
 use crate::record::JwtSupervised;
@@ -46,7 +46,7 @@ impl<R: Wait + Drop> Model for JwtDone<R> {
 }
 
 impl<R: Wait + Drop> JwtDone<R> {
-    /// The record, where the pass of the same source is told of all that was published: its steps
+    /// The record, where the pass of the same source learns all that was published: its steps
     /// are what the pass has then seen, and it never sees more.
     pub fn into_record(self, pass: &mut JwtPass) -> Result<JwtSupervised, OutOfMemory>
         requires { pass.old.book ≡ self.past.book }
@@ -133,7 +133,7 @@ where
     ensures recorded { IfSome result.recorded (λ r. (r.run ≡ feeder.core.run)
         × (r.settings ≡ feeder.core.settings)
         × (r.pace ≡ pace) × (r.closed ≡ closed)) }
-    ensures told { IfSome (C.members feeder.first) (λ m. AllTold
+    ensures yielded { IfSome (C.members feeder.first) (λ m. AllYielded
         (rules_of feeder.core.settings) m (reverse feeder.core.run)) }
 {
     let JwtSessionParts {
@@ -183,7 +183,7 @@ where
 
     fn run(self) -> JwtDone<R>
         ensures left { IsLeftBy C.members self result }
-        ensures task { IsLeftBy untold (task_of self) result }
+        ensures task { IsLeftBy unyielded (task_of self) result }
     {
         let JwtJob {
             mut feeder,

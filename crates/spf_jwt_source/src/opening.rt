@@ -43,7 +43,7 @@ fn refused_endpoint(e: EndpointError) -> JwtSourceError
     }
 }
 
-/// The error of a synchronisation that stopped. No close is told there.
+/// The error of a synchronisation that stopped. No close comes there.
 fn stopped(stop: Stop) -> JwtSourceError
     ensures { result ≡ stopped_as stop }
 {

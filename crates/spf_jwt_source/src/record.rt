@@ -12,7 +12,7 @@ use std::fmt;
 use std::marker::Model;
 use std::time::Duration;
 
-/// What a supervisor was told, from the first event of the initial synchronisation on, and what it
+/// What came to a supervisor, from the first event of the initial synchronisation on, and what it
 /// published.
 #[derive(Drop)]
 pub struct JwtSupervised {

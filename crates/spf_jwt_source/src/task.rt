@@ -37,10 +37,10 @@ impl Model for JwtTask {
 }
 
 impl<R: Wait + Drop> Promise<JwtDone<R>> for JwtTask {
-    ghost use Rattle.spiffe.specs.Records.{untold};
+    ghost use Rattle.spiffe.specs.Records.{unyielded};
     ghost use Rattle.spf_jwt_source.specs.Records.{IsLeftBy};
 
-    ghost kept_by = { λ task done. IsLeftBy untold task done };
+    ghost kept_by = { λ task done. IsLeftBy unyielded task done };
 }
 
 impl<C, M, W, N, R> JwtJob<C, M, W, N, R>

@@ -21,24 +21,25 @@ use Rattle.spf_live.proofs.Printed.{prefix_self}
 use Rattle.spf_live.proofs.Recorded.{runs_by}
 
 -- of a connector of which nothing is known
-untold_of : {S K : Type 0} (members : S → Option (List Member)) (picks : K → List Svid → Option ℕ)
+unyielded_of : {S K : Type 0} (members : S → Option (List Member)) (picks : K → List Svid → Option
+    ℕ)
     (job : Assigned S K) (r : Recorded K) → IsOf members picks job r
     → IsOf (λ connector. None) picks job r
-untold_of members picks job r of = record {
+unyielded_of members picks job r of = record {
   goes_on = of.goes_on;
   settings = of.settings;
   picker = of.picker;
   bounds = of.bounds;
-  told = tt;
+  yielded = tt;
   cell = of.cell;
 }
 
-untold_assigned : {S K : Type 0} (members : S → Option (List Member))
+unyielded_assigned : {S K : Type 0} (members : S → Option (List Member))
     (picks : K → List Svid → Option ℕ) (set : Settings K) (connector : S)
     (clock clock' : Moments) (job : Assigned S K)
     → IsAssigned members picks set connector clock clock' job
     → IsAssigned (λ connector. None) picks set connector None None job
-untold_assigned members picks set connector clock clock' job is = record {
+unyielded_assigned members picks set connector clock clock' job is = record {
   limits = is.limits;
   ready = is.ready;
   deadline = is.deadline;
@@ -96,11 +97,11 @@ followed {S} {K} members picks job count clock clock' held held' r done seen las
       first = f.first;
       last = f.last;
       prints = f.prints;
-      recorded = (r.0, r.1, untold_of members picks job r.0 r.2, r.3);
+      recorded = (r.0, r.1, unyielded_of members picks job r.0 r.2, r.3);
     }
 
 -- a source that was built by these arguments was followed by the handle of its job
-pub runs_untold : {S K : Type 0} (members : S → Option (List Member))
+pub runs_unyielded : {S K : Type 0} (members : S → Option (List Member))
     (picks : K → List Svid → Option ℕ) (setting : LiveSetting) (set : Settings K) (connector : S)
     (clock clock' : Moments) (held held' : Option (List ℕ)) (job followed : Assigned S K)
     (r : Result (Unit {0}) LiveError) (count : ℕ) → IsSetTo picks setting set
@@ -108,12 +109,12 @@ pub runs_untold : {S K : Type 0} (members : S → Option (List Member))
     → count ≡ setting.lines
     → Follows (λ connector. None) picks followed count None None held held' r
     → Runs None picks setting None None held held' r
-runs_untold {S} {K} members picks setting set connector clock clock' held held' job followed r
+runs_unyielded {S} {K} members picks setting set connector clock clock' held held' job followed r
     count is assigned same lines follows =
     let of_job = subst (λ (j : Assigned S K).
     Follows (λ connector. None) picks j count None None held held' r) same follows in
     runs_by (λ connector. None) picks setting set connector None None None held held' job r is
-    (untold_assigned members picks set connector clock clock' job assigned)
+    (unyielded_assigned members picks set connector clock clock' job assigned)
     (subst (λ (n : ℕ). Follows (λ connector. None) picks job n None None held held' r) lines of_job)
 
 -- printing failed, whatever was recorded
@@ -148,7 +149,7 @@ unrecorded_follows members picks job count clock clock' held held' r done seen i
     }
 
 -- the same over a connector of which the builder's own is one
-pub runs_told : {S K : Type 0} (members : S → Option (List Member))
+pub runs_yielded : {S K : Type 0} (members : S → Option (List Member))
     (picks : K → List Svid → Option ℕ) (setting : LiveSetting) (set : Settings K)
     (connector own : S) (clock between clock' : Moments) (held held' : Option (List ℕ))
     (job followed : Assigned S K) (r : Result (Unit {0}) LiveError) (count : ℕ) → own ≡ connector
@@ -156,7 +157,7 @@ pub runs_told : {S K : Type 0} (members : S → Option (List Member))
     → followed ≡ job → count ≡ setting.lines
     → Follows members picks followed count between clock' held held' r
     → Runs (members connector) picks setting clock clock' held held' r
-runs_told {S} {K} members picks setting set connector own clock between clock' held held' job
+runs_yielded {S} {K} members picks setting set connector own clock between clock' held held' job
     followed r count by is assigned same lines follows =
     let of_job = subst (λ (j : Assigned S K).
     Follows members picks j count between clock' held held' r) same follows in

@@ -83,9 +83,9 @@ printed_all first seen earlier number count clock clock' held held' all so = rec
   lines = so.lines;
   are = so.are;
   seen = so.newest;
-  told = clock';
+  yielded = clock';
   at = so.at;
-  told_all = refl;
+  yielded_all = refl;
   number = so.number ∙ all;
   put = length (text_of so.lines);
   text = all_put held held' (text_of so.lines) so.text;
@@ -103,9 +103,9 @@ printed_nothing first seen seen' earlier count number clock clock' clock'' held 
       lines = so.lines;
       are = so.are;
       seen = prefix_trans (newest_list first so.lines) seen seen' so.newest grows;
-      told = clock';
+      yielded = clock';
       at = so.at;
-      told_all = tt;
+      yielded_all = tt;
       number = tt;
       put = length (text_of so.lines);
       text = subst (λ (h : Option (List ℕ)). Appends held h (take (length (text_of so.lines))
@@ -126,9 +126,9 @@ printed_cut first seen seen' earlier marked count number clock clock' clock'' he
       are = follows_on first seen seen' earlier marked clock' clock'' so.lines is.0 so.are so.newest
           so.revision grows is.1;
       seen = subst (λ (l : Seen). IsPrefix l seen') (sym is.1.list_is) (prefix_self seen');
-      told = clock'';
+      yielded = clock'';
       at = (clock', so.at, is.1.at);
-      told_all = tt;
+      yielded_all = tt;
       number = tt;
       put = length (text_of so.lines) + is.2;
       text = subst (Appends held held'')

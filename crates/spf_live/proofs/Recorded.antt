@@ -10,7 +10,7 @@ use Rattle.spf_x509.specs.Svid.{Svid}
 use Rattle.spf_feed.specs.Items.{Event}
 use Rattle.spf_feed.specs.declared.event.SessionEvent.TheVariants as events
 use Rattle.spf_feed.specs.declared.turn.SessionRules.{SessionRules}
-use Rattle.spf_feeder.specs.Coming.{AllTold}
+use Rattle.spf_feeder.specs.Coming.{AllYielded}
 use Rattle.spf_feeder.specs.Kept.{rules_by}
 use Rattle.spf_feeder.specs.Orderly.{GoesOn, has_moment}
 use Rattle.spf_feeder.specs.Times.{Gives, moments_in}
@@ -60,13 +60,13 @@ gives_on (Some a) None old new on gives = gives
 gives_on (Some a) (Some b) old new on gives =
     (gives.0, gives.1, same_moments old new on ∙ gives.2)
 
-told_by : {K : Type 0} (picks : K → List Svid → Option ℕ) (r : Recorded K)
+yielded_by : {K : Type 0} (picks : K → List Svid → Option ℕ) (r : Recorded K)
     (a b : Option (List Member)) → a ≡ b
-    → IfSome a (λ m. AllTold (rules_by picks r.settings r.picker) m (reverse r.run))
-    → IfSome b (λ m. AllTold (rules_by picks r.settings r.picker) m (reverse r.run))
-told_by picks r a b same =
+    → IfSome a (λ m. AllYielded (rules_by picks r.settings r.picker) m (reverse r.run))
+    → IfSome b (λ m. AllYielded (rules_by picks r.settings r.picker) m (reverse r.run))
+yielded_by picks r a b same =
     subst (λ (o : Option (List Member)).
-    IfSome o (λ m. AllTold (rules_by picks r.settings r.picker) m (reverse r.run))) same
+    IfSome o (λ m. AllYielded (rules_by picks r.settings r.picker) m (reverse r.run))) same
 
 record_of : {S K : Type 0} (members : S → Option (List Member)) (picks : K → List Svid → Option ℕ)
     (setting : LiveSetting) (set : Settings K) (connector : S) (clock between : Moments)
@@ -82,8 +82,8 @@ record_of members picks setting set connector clock between job last found is as
       ready = ap (λ (s : SessionRules). s.ready) of.settings ∙ assigned.ready ∙ is.ready;
       picker = ap (option_map picks) (of.picker ∙ assigned.picker) ∙ is.picker;
       moments = gives_on clock between job.run found.run of.goes_on assigned.clock_is;
-      told = told_by picks found (members job.first) (members connector) assigned.members_are
-          of.told;
+      yielded = yielded_by picks found (members job.first) (members connector) assigned.members_are
+          of.yielded;
       steps_are = steps;
     }
 

@@ -90,9 +90,9 @@ pub record Prints (first last : Seen) (count : ℕ) (clock clock' : Moments)
   pub lines : List Line
   pub are : AreLines first lines
   pub seen : IsPrefix (newest_list first lines) last
-  pub told : Moments
-  pub at : AreAt clock lines told
-  pub told_all : IfOk r (λ _. clock' ≡ told)
+  pub yielded : Moments
+  pub at : AreAt clock lines yielded
+  pub yielded_all : IfOk r (λ _. clock' ≡ yielded)
   pub number : IfOk r (λ _. length lines ≡ count)
   pub put : ℕ
   pub text : Appends held held' (take put (text_of lines))

@@ -10,7 +10,7 @@ use Rattle.spf_link.specs.Connecting.{Member}
 use Rattle.spf_x509.specs.Svid.{Svid}
 use Rattle.spf_feed.specs.Pick.{first_with_hint}
 use Rattle.spf_feed.specs.declared.state.X509SourceError.TheVariants as source
-use Rattle.spf_feeder.specs.Coming.{AllTold}
+use Rattle.spf_feeder.specs.Coming.{AllYielded}
 use Rattle.spf_feeder.specs.Kept.{rules_by}
 use Rattle.spf_feeder.specs.Times.{Gives}
 use Rattle.spiffe.specs.declared.builder.Settings.{Settings}
@@ -39,7 +39,7 @@ pub record Follows {S K : Type 0} (members : S → Option (List Member))
       × IsOf members picks job found × (found.steps ≡ steps_of last))
 
 -- A record of a run by these arguments, whose steps are those of what is seen last: its events are
--- those that the connector told, and its moments those that the clock gave before the lines.
+-- those that the connector yielded, and its moments those that the clock gave before the lines.
 pub record IsRecordOf {K : Type 0} (members : Option (List Member))
     (picks : K → List Svid → Option ℕ) (setting : LiveSetting) (clock between : Moments)
     (last : Seen) (r : Recorded K) : Type 0 where
@@ -48,7 +48,8 @@ pub record IsRecordOf {K : Type 0} (members : Option (List Member))
   pub ready : r.settings.ready ≡ setting.ready
   pub picker : option_map picks r.picker ≡ option_map first_with_hint setting.hint
   pub moments : Gives clock between [] r.run
-  pub told : IfSome members (λ m. AllTold (rules_by picks r.settings r.picker) m (reverse r.run))
+  pub yielded : IfSome members (λ m. AllYielded (rules_by picks r.settings r.picker) m (reverse
+      r.run))
   pub steps_are : r.steps ≡ steps_of last
 
 -- Lines are printed, by the clock after the initial synchronisation. Where all went well there is a

@@ -55,7 +55,7 @@ where
     ensures arguments { (result ≡ 1) ↔ (live_setting (map string_bytes arguments.now) ≡ None) }
     // The lines show what one source holds, each a later state than the line before it. Where all
     // of them were printed, the record of its supervisor has their steps, and what the connector
-    // told. Where they were not, the status and the line on `errors` say why.
+    // yielded. Where they were not, the status and the line on `errors` say why.
     ensures ended { Ended (C.members connector) (⟦<HintPicker as SvidPicker>⟧.picks)
         (C.validates connector) (Rose (S.refusals spawner.old) (S.refusals spawner.new))
         (Refused (L.refusals places.old) (L.refusals places.new))

@@ -3,4 +3,4 @@ pub mod Failing
 pub mod Joining
 pub mod Leaving
 pub mod Tasks
-pub mod Untold
+pub mod Unyielded

@@ -57,7 +57,7 @@ abbrev pub Stops : {K : Type 0} → (K → List Svid → Option ℕ) → Setting
 Stops picks set end =
     StopsOpening picks set.limits set.timeout set.ready set.picker (stops.Terminal end)
 
--- Why an initial synchronisation gives an error: the endpoint is none, or a terminal event was told
+-- Why an initial synchronisation gives an error: the endpoint is none, or a terminal event came
 -- by the connector or the clock before anything was accepted.
 abbrev pub SyncFails : {K : Type 0} → (K → List Svid → Option ℕ) → Settings K
     → Result (Unit {0}) EndpointError → X509SourceError → Type 0

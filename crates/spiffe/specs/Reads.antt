@@ -24,7 +24,7 @@ use Rattle.spiffe.specs.Sources.{Source, Updates}
 abbrev pub Bundles : Type 0
 Bundles = List (List ℕ × Bundle)
 
--- A pass that is told whether the source of this cell is closed: it knows a mark of the cell, or
+-- A pass that learns whether the source of this cell is closed: it knows a mark of the cell, or
 -- none, and all else of it is as before.
 pub record LooksAt (cell : ℕ) (old new : PassView) : Type 0 where
   pub read : new ≡ record old { closed = new.closed }

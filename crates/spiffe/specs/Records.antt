@@ -11,7 +11,7 @@ use Rattle.spf_x509.specs.Svid.{Svid}
 use Rattle.spf_feed.specs.declared.turn.SessionRules.{SessionRules}
 use Rattle.spf_feed.specs.Items.{Event, subject}
 use Rattle.spf_feed.specs.Steps.{PlainStep}
-use Rattle.spf_feeder.specs.Coming.{AllTold}
+use Rattle.spf_feeder.specs.Coming.{AllYielded}
 use Rattle.spf_feeder.specs.Kept.{rules_by}
 use Rattle.spf_feeder.specs.Orderly.{GoesOn, IsOrderly, IsSynced}
 use Rattle.spf_feeder.specs.Pacing.{KeepsPace}
@@ -45,8 +45,8 @@ abbrev pub task_of : {S K : Type 0} → Assigned S K → Assigned (Unit {0}) K
 task_of job = assigned job.board job.cell job.run job.settings job.picker job.bounds tt
 
 -- a connector of which nothing is known
-abbrev pub untold : {S : Type 0} → S → Option (List Member)
-untold connector = None
+abbrev pub unyielded : {S : Type 0} → S → Option (List Member)
+unyielded connector = None
 
 -- what contracts see of a supervisor's record
 pub record Recorded (K : Type 0) : Type 0 where
@@ -81,7 +81,7 @@ pub record IsRecord {K : Type 0} (picks : K → List Svid → Option ℕ) (r : R
 
 -- A record of what a supervisor was given: its events begin with those of the initial
 -- synchronisation and have no moment more, its rules, picker and bounds are those given, the events
--- that are no moments are what the connector had to tell, and its cell was closed.
+-- that are no moments are what the connector had to yield, and its cell was closed.
 pub record IsOf {S K : Type 0} (members : S → Option (List Member))
     (picks : K → List Svid → Option ℕ)
     (job : Assigned S K) (r : Recorded K) : Type 0 where
@@ -89,8 +89,8 @@ pub record IsOf {S K : Type 0} (members : S → Option (List Member))
   pub settings : r.settings ≡ job.settings
   pub picker : r.picker ≡ job.picker
   pub bounds : r.pace.bounds ≡ job.bounds
-  pub told : IfSome (members job.first)
-      (λ m. AllTold (rules_by picks r.settings r.picker) m (reverse r.run))
+  pub yielded : IfSome (members job.first)
+      (λ m. AllYielded (rules_by picks r.settings r.picker) m (reverse r.run))
   pub cell : r.closed.cell ≡ job.cell
 
 -- what a supervisor leaves: what it has published, and its record, where memory did not run out

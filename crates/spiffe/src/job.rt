@@ -3,12 +3,12 @@
 ghost use Rattle.std.specs.Prelude.{◌≡◌, false, true, IfOk, IfSome, None, Some, reverse};
 ghost use mathlib.Core.List.{IsPrefix};
 ghost use Rattle.spf_close.specs.declared.maker.Maker.TheVariants as makers;
-ghost use Rattle.spf_feeder.specs.Coming.{AllTold};
+ghost use Rattle.spf_feeder.specs.Coming.{AllYielded};
 ghost use Rattle.spf_feeder.specs.Kept.{rules_by};
 ghost use Rattle.spf_feeder.specs.Orderly.{IsSynced};
 ghost use Rattle.spf_feeder.specs.Pacing.{KeepsPace};
 ghost use Rattle.spf_history.specs.Lists.{is_ended, steps_of};
-ghost use Rattle.spiffe.specs.Records.{IsLeftBy, IsRecord, assigned, task_of, untold};
+ghost use Rattle.spiffe.specs.Records.{IsLeftBy, IsRecord, assigned, task_of, unyielded};
 
 use crate::publishing::BoardPublisher;
 use crate::record::Supervised;
@@ -45,7 +45,7 @@ impl<K: SvidPicker + Drop, R: Wait + Drop> Model for X509Done<K, R> {
 }
 
 impl<K: SvidPicker + Drop, R: Wait + Drop> X509Done<K, R> {
-    /// The record, where the pass of the same source is told of all that was published: its steps
+    /// The record, where the pass of the same source learns all that was published: its steps
     /// are what the pass has then seen, and it never sees more.
     pub fn into_record(self, pass: &mut Pass) -> Result<Supervised<K>, OutOfMemory>
         requires { pass.old.book ≡ self.past.book }
@@ -135,7 +135,7 @@ where
     ensures recorded { IfSome result.recorded (λ r. (r.run ≡ feeder.core.run)
         × (r.settings ≡ feeder.core.settings) × (r.picker ≡ feeder.core.picker)
         × (r.pace ≡ pace) × (r.closed ≡ closed)) }
-    ensures told { IfSome (C.members feeder.first) (λ m. AllTold
+    ensures yielded { IfSome (C.members feeder.first) (λ m. AllYielded
         (rules_by K.picks feeder.core.settings feeder.core.picker) m (reverse feeder.core.run)) }
 {
     let SessionParts {
@@ -188,7 +188,7 @@ where
 
     fn run(self) -> X509Done<K, R>
         ensures left { IsLeftBy C.members K.picks self result }
-        ensures task { IsLeftBy untold K.picks (task_of self) result }
+        ensures task { IsLeftBy unyielded K.picks (task_of self) result }
     {
         let X509Job {
             mut feeder,

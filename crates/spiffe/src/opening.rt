@@ -45,7 +45,7 @@ fn refused_endpoint(e: EndpointError) -> X509SourceError
     }
 }
 
-/// The error of a synchronisation that stopped. No close is told there.
+/// The error of a synchronisation that stopped. No close comes there.
 fn stopped(stop: Stop) -> X509SourceError
     ensures { result ≡ stopped_as stop }
 {

@@ -20,7 +20,7 @@ pub enum SupervisorEnd {
     OutOfMemory,
 }
 
-/// What a supervisor was told, from the first event of the initial synchronisation on, and what it
+/// What came to a supervisor, from the first event of the initial synchronisation on, and what it
 /// published.
 #[derive(Drop)]
 pub struct Supervised<K: SvidPicker + Drop> {

@@ -38,9 +38,9 @@ impl<K: SvidPicker + Drop> Model for Task<K> {
 }
 
 impl<K: SvidPicker + Drop, R: Wait + Drop> Promise<X509Done<K, R>> for Task<K> {
-    ghost use Rattle.spiffe.specs.Records.{IsLeftBy, untold};
+    ghost use Rattle.spiffe.specs.Records.{IsLeftBy, unyielded};
 
-    ghost kept_by = { λ task done. IsLeftBy untold K.picks task done };
+    ghost kept_by = { λ task done. IsLeftBy unyielded K.picks task done };
 }
 
 impl<C, K, M, W, N, R> X509Job<C, K, M, W, N, R>

@@ -1,5 +1,5 @@
 use Rattle.spf_feed.proofs.Received.{received_is}
-use Rattle.spf_feeder.proofs.TellLemmas.{if_ok}
+use Rattle.spf_feeder.proofs.YieldLemmas.{if_ok}
 use Rattle.spf_feeder.proofs.received.context_of.Goals as goal
 
 pub returns : goal.returns

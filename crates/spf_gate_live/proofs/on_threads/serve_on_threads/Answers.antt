@@ -5,7 +5,7 @@ use Rattle.spf_gate_live.specs.declared.live_error.LiveGateError.TheVariants as 
 use Rattle.spf_gate_live.proofs.Causes.{prepare_fails, served_fails, unbuilt}
 use Rattle.spf_gate_live.proofs.Defaults.{default_with}
 use Rattle.spf_gate_live.proofs.EndLemmas.{nine_of_end, nine_of_error, nine_of_refusal, no_refusal}
-use Rattle.spf_gate_live.proofs.Served.{answered, untold}
+use Rattle.spf_gate_live.proofs.Served.{answered, unyielded}
 use Rattle.spf_gate_live.proofs.on_threads.serve_on_threads.Goals as goal
 
 pub returns-in-Ok-start_on_thread : goal.returns-in-Ok-start_on_thread
@@ -15,7 +15,7 @@ returns-in-Ok-start_on_thread g c =
     let default = default_with c.new-2.result.settings set c.new-2.ensures.settings
     c.optional_picker-builder.ensures.picker others.1 others.2 others.3 others.4 others.5 in
     record {
-      runs = untold _ _ _ _ _ _ c.end_of.result
+      runs = unyielded _ _ _ _ _ _ c.end_of.result
           (answered _ _ set c.optional_picker-builder.result.connector
           c.optional_picker-builder.result.connector _ _ c.in-Ok.job
           c.started.result.job _ _ _ _ c.in-Ok.pass.seen c.gate_serve-served.new.pass.seen

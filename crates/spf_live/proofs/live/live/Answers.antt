@@ -2,7 +2,7 @@ use Rattle.std.proofs.Common.{◌∙◌, ap, refl, sym, Err, Ok}
 use Rattle.spf_live.specs.declared.error.LiveError.TheVariants as errors
 use Rattle.spf_live.proofs.EndLemmas.{does_by, does_early}
 use Rattle.spf_live.proofs.Failing.{prepare_fails_so, refused_since, runs_fail_by}
-use Rattle.spf_live.proofs.Following.{failed_follows, followed_by, runs_told, unrecorded_follows}
+use Rattle.spf_live.proofs.Following.{failed_follows, followed_by, runs_yielded, unrecorded_follows}
 use Rattle.spf_live.proofs.live.live.Goals as goal
 
 pub returns-in-Err : goal.returns-in-Err
@@ -31,7 +31,7 @@ pub returns-in-Err-default : goal.returns-in-Err-default
 returns-in-Err-default g c = record {
   does = does_by _ _ _ _ _ _ _ c.in-Some.options _ _ _ _ (Err c.in-Err-default.e)
       (sym c.in-Some.is ∙ c.live_options.ensures.setting)
-      (runs_told _ _ c.in-Some.options c.in-Ok.builder.settings c.args.connector
+      (runs_yielded _ _ c.in-Some.options c.in-Ok.builder.settings c.args.connector
       c.in-Ok.builder.connector _ _ _ _ _ c.in-Ok-prepare.job c.started-handle.result.job
       (Err c.in-Err-default.e) c.options.inside.lines c.in-Ok.ensures.connector
       c.in-Ok.ensures.settings c.in-Ok-prepare.ensures.assigned
@@ -49,7 +49,7 @@ pub returns-in-Ok-Ok : goal.returns-in-Ok-Ok
 returns-in-Ok-Ok g c = record {
   does = does_by _ _ _ _ _ _ _ c.in-Some.options _ _ _ _ (Ok tt)
       (sym c.in-Some.is ∙ c.live_options.ensures.setting)
-      (runs_told _ _ c.in-Some.options c.in-Ok.builder.settings c.args.connector
+      (runs_yielded _ _ c.in-Some.options c.in-Ok.builder.settings c.args.connector
       c.in-Ok.builder.connector _ _ _ _ _ c.in-Ok-prepare.job c.started-handle.result.job
       (Ok tt) c.options.inside.lines c.in-Ok.ensures.connector
       c.in-Ok.ensures.settings c.in-Ok-prepare.ensures.assigned
@@ -69,7 +69,7 @@ pub returns-in-Ok-start : goal.returns-in-Ok-start
 returns-in-Ok-start g c = record {
   does = does_by _ _ _ _ _ _ _ c.in-Some.options _ _ _ _ (Err errors.OutOfMemory)
       (sym c.in-Some.is ∙ c.live_options.ensures.setting)
-      (runs_told _ _ c.in-Some.options c.in-Ok.builder.settings c.args.connector
+      (runs_yielded _ _ c.in-Some.options c.in-Ok.builder.settings c.args.connector
       c.in-Ok.builder.connector _ _ _ _ _ c.in-Ok-prepare.job c.started-handle.result.job
       (Err errors.OutOfMemory) c.options.inside.lines c.in-Ok.ensures.connector
       c.in-Ok.ensures.settings c.in-Ok-prepare.ensures.assigned

@@ -1,7 +1,7 @@
 use Rattle.std.proofs.Common.{◌∙◌, ap, refl, sym}
 use Rattle.spf_live.proofs.EndLemmas.{does_by, does_early}
 use Rattle.spf_live.proofs.Failing.{prepare_fails_by, runs_fail}
-use Rattle.spf_live.proofs.Following.{runs_untold}
+use Rattle.spf_live.proofs.Following.{runs_unyielded}
 use Rattle.spf_live.proofs.on_threads.live_on_threads.Goals as goal
 
 pub returns-in-Err : goal.returns-in-Err
@@ -14,7 +14,7 @@ pub returns-in-Ok-start_on_thread : goal.returns-in-Ok-start_on_thread
 returns-in-Ok-start_on_thread g c = record {
   does = does_by _ _ _ _ _ _ _ c.in-Some.options _ _ _ _ c.follow_on_thread.result
       (sym c.in-Some.is ∙ c.live_options.ensures.setting)
-      (runs_untold _ _ c.in-Some.options c.in-Ok.builder.settings c.in-Ok.builder.connector _ _
+      (runs_unyielded _ _ c.in-Some.options c.in-Ok.builder.settings c.in-Ok.builder.connector _ _
       (g.K.Sink.held c.args.out.now) (g.K.Sink.held c.follow_on_thread.new.out)
       c.in-Ok-prepare.job c.started.result.job c.follow_on_thread.result c.options.inside.lines
       c.in-Ok.ensures.settings c.in-Ok-prepare.ensures.assigned

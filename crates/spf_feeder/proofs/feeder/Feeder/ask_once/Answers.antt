@@ -1,8 +1,8 @@
 use Rattle.std.proofs.Common.{◌≡◌, false, sym, ap, ◌∙◌}
 use Rattle.spf_feed.specs.Items.{Rules}
 use Rattle.spf_feeder.specs.Kept.{rules_by}
-use Rattle.spf_feeder.proofs.FeedLemmas.{stops_by, ready_of, stays_idle, tells_of}
-use Rattle.spf_feeder.proofs.FeedLemmas.{turned_of, untold_of}
+use Rattle.spf_feeder.proofs.FeedLemmas.{stops_by, ready_of, stays_idle, yields_of}
+use Rattle.spf_feeder.proofs.FeedLemmas.{turned_of, unyielded_of}
 use Rattle.spf_feeder.proofs.OrderLemmas.{turn_goes}
 use Rattle.spf_feeder.proofs.feeder.Feeder.ask_once.Goals as goal
 
@@ -15,7 +15,7 @@ pub returns-in-Err-clause-turn : goal.returns-in-Err-clause-turn
 returns-in-Err-clause-turn g c =
     let going : c.self.inside.session.stuck ≡ false =
     sym c.is_stuck.ensures ∙ c.if-is_stuck.false in
-    untold_of g.C.Connector g.C.Link.Link g.K.SvidPicker.picks _ _ _ _ _ c.self.view_is
+    unyielded_of g.C.Connector g.C.Link.Link g.K.SvidPicker.picks _ _ _ _ _ c.self.view_is
     c.phase-phase.ensures c.in-Err.ensures
     (ap (λ core. core.run) c.stop.ensures.unchanged)
     (ap (λ core. core.stuck) c.stop.ensures.unchanged) going
@@ -44,7 +44,7 @@ invariant_of-self g c =
       c.advance.ensures.published,
       ready_of g.C.Connector g.C.Link.Link g.M.MetricsRecorder.records rule _ before _ _ _ _ _ _
           c.phase-phase.ensures c.in-Ok.ensures c.advance.ensures.advances same ready,
-      tells_of g.C.Connector g.C.Link.Link g.M.MetricsRecorder.records rule _ before _ _ _ _ _ _ _
+      yields_of g.C.Connector g.C.Link.Link g.M.MetricsRecorder.records rule _ before _ _ _ _ _ _ _
           c.phase-phase.ensures c.in-Ok.ensures c.advance.ensures.advances same ready
           (c.self.invariant.2 going),
     )

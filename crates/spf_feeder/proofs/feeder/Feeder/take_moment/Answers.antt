@@ -1,7 +1,7 @@
 use Rattle.std.proofs.Common.{◌≡◌, false, ap, ◌∙◌}
 use Rattle.spf_feed.specs.Items.{Rules}
 use Rattle.spf_feeder.specs.Kept.{rules_by}
-use Rattle.spf_feeder.proofs.FeedLemmas.{ready_still, stops_by, tells_still}
+use Rattle.spf_feeder.proofs.FeedLemmas.{ready_still, stops_by, yields_still}
 use Rattle.spf_feeder.proofs.feeder.Feeder.take_moment.Goals as goal
 
 pub invariant_of-self : goal.invariant_of-self
@@ -16,7 +16,7 @@ invariant_of-self g c =
       c.advance.ensures.published,
       ready_still g.C.Link.Link.kind g.M.MetricsRecorder.records rule _ before _ _ _ _
           c.advance.ensures.advances same (c.self.invariant.1 going),
-      tells_still g.C.Connector.members g.C.Link.Link.answers g.M.MetricsRecorder.records rule _
+      yields_still g.C.Connector.members g.C.Link.Link.answers g.M.MetricsRecorder.records rule _
           before
           _ _ _ _ _ c.advance.ensures.advances same (c.self.invariant.2 going),
     )

@@ -1,7 +1,7 @@
 use Rattle.std.proofs.Common.{◌≡◌, false, ap, ◌∙◌}
 use Rattle.spf_jwt_feed.specs.Items.{Rules}
 use Rattle.spf_jwt_feeder.specs.Kept.{rules_of}
-use Rattle.spf_jwt_feeder.proofs.FeedLemmas.{ready_still, stops_by, tells_still}
+use Rattle.spf_jwt_feeder.proofs.FeedLemmas.{ready_still, stops_by, yields_still}
 use Rattle.spf_jwt_feeder.proofs.feeder.JwtFeeder.take_moment.Goals as goal
 
 pub invariant_of-self : goal.invariant_of-self
@@ -16,7 +16,7 @@ invariant_of-self g c =
       c.advance.ensures.published,
       ready_still g.C.Link.Link.kind g.M.JwtMetricsRecorder.records rule _ before _ _ _ _
           c.advance.ensures.advances same (c.self.invariant.1 going),
-      tells_still g.C.Connector.members g.C.Link.Link.answers g.M.JwtMetricsRecorder.records rule _
+      yields_still g.C.Connector.members g.C.Link.Link.answers g.M.JwtMetricsRecorder.records rule _
           before
           _ _ _ _ _ c.advance.ensures.advances same (c.self.invariant.2 going),
     )

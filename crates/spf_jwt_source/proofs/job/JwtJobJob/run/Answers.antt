@@ -35,7 +35,7 @@ returns-clause-left g c =
             (recorded_of_job g.C.Connector.members job feeder.first feeder.core.run
             feeder.core.settings c.supervise-closed.new.pace w.in-Some.closed
             w.recorded-done.result.recorded w.recorded-done.ensures.recorded
-            w.recorded-done.ensures.told
+            w.recorded-done.ensures.yielded
             (went.first ∙ ap (λ (j : Assigned g.row.C.Denot). j.first) same)
             (subst (λ run. GoesOn run feeder.core.run)
             (ap (λ (j : Assigned g.row.C.Denot). j.run) same) went.goes_on)

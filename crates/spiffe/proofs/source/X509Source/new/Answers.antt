@@ -1,5 +1,5 @@
 use Rattle.std.proofs.Common.{◌∙◌, ap}
-use Rattle.spiffe.proofs.Untold.{assigned_as, built_as}
+use Rattle.spiffe.proofs.Unyielded.{assigned_as, built_as}
 use Rattle.spiffe.proofs.source.X509Source.new.Goals as goal
 
 pub returns-in-Ok-clause-built : goal.returns-in-Ok-clause-built

@@ -17,11 +17,11 @@ built_as {S} source pass cell cell' job job' same same' built =
     built
 
 -- of a connector of which nothing is known
-untold : {S : Type 0} (members : S → Option (List Member)) (set : JwtSettings) (connector : S)
+unyielded : {S : Type 0} (members : S → Option (List Member)) (set : JwtSettings) (connector : S)
     (clock clock' : Option (List (Option ℤ))) (job : Assigned S)
     → IsAssigned members set connector clock clock' job
     → IsAssigned (λ _. None) set connector clock clock' job
-untold members set connector clock clock' job is = record {
+unyielded members set connector clock clock' job is = record {
   limits = is.limits;
   deadline = is.deadline;
   bounds = is.bounds;
@@ -41,5 +41,5 @@ assigned_as {S} members set connector is_connector clock clock' job job' same de
   default,
   named,
   subst (λ (j : Assigned S). IsAssigned (λ _. None) set connector clock clock' j) (sym same)
-      (untold members set connector clock clock' job is),
+      (unyielded members set connector clock clock' job is),
 )

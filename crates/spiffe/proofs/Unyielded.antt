@@ -18,11 +18,11 @@ built_as {S} {K} picks source pass cell cell' job job' same same' built =
     (λ i. (sym same i, sym same' i)) built
 
 -- of a connector of which nothing is known
-untold : {S K : Type 0} (members : S → Option (List Member)) (picks : K → List Svid → Option ℕ)
+unyielded : {S K : Type 0} (members : S → Option (List Member)) (picks : K → List Svid → Option ℕ)
     (set : Settings K) (connector : S) (clock clock' : Option (List (Option ℤ)))
     (job : Assigned S K) → IsAssigned members picks set connector clock clock' job
     → IsAssigned (λ _. None) picks set connector clock clock' job
-untold members picks set connector clock clock' job is = record {
+unyielded members picks set connector clock clock' job is = record {
   limits = is.limits;
   ready = is.ready;
   deadline = is.deadline;
@@ -47,5 +47,5 @@ assigned_as {S} {K} members picks set connector is_connector clock clock' job jo
       named,
       subst (λ (j : Assigned S K). IsAssigned (λ _. None) picks set connector clock clock' j)
           (sym same)
-          (untold members picks set connector clock clock' job is),
+          (unyielded members picks set connector clock clock' job is),
     )
