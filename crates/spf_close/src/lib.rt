@@ -5,10 +5,12 @@
 
 mod bell;
 mod cell;
+mod closing;
 mod maker;
 #[cfg(test)]
 mod tests;
 
 pub use bell::Bell;
 pub use cell::{Closed, Closer, Watch, closed_cell};
+pub use closing::{Closing, LastHandle};
 pub use maker::Maker;

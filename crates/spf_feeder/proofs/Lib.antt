@@ -1,6 +1,7 @@
 pub mod FeedLemmas
 pub mod PaceLemmas
 pub mod OrderLemmas
+pub mod TurnLemmas
 pub mod RunLemmas
 pub mod YieldLemmas
 pub mod TimeLemmas

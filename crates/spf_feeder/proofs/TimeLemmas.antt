@@ -3,12 +3,13 @@ use Rattle.std.proofs.Common.{◌≡◌, false, List, [], ◌∷◌, ◌++◌, O
 use Rattle.std.proofs.Common.{◌∙◌}
 use Rattle.std.specs.Prelude.{ℤ}
 use Rattle.std.proofs.lemmas.List.{append-nil, append_assoc}
+use Rattle.spf_feed.specs.declared.event.SessionEvent.{SessionEvent}
 use Rattle.spf_feed.specs.declared.event.SessionEvent.TheVariants as events
-use Rattle.spf_feed.specs.Items.{Event}
 use Rattle.spf_feeder.specs.Orderly.{is_moment}
 use Rattle.spf_feeder.specs.Times.{Gives, TakesMoment, at_moment, known_moments, moments_in}
 
-moments_append : (xs ys : List Event) → moments_in (xs ++ ys) ≡ moments_in xs ++ moments_in ys
+pub moments_append : {I : Type 0} (xs ys : List (SessionEvent I))
+    → moments_in (xs ++ ys) ≡ moments_in xs ++ moments_in ys
 moments_append [] ys = refl
 moments_append (events.Moment m ∷ xs) ys = ap (λ l. m ∷ l) (moments_append xs ys)
 moments_append (events.ClientMade ∷ xs) ys = moments_append xs ys
@@ -26,13 +27,8 @@ known_append [] ys = refl
 known_append (None ∷ xs) ys = known_append xs ys
 known_append (Some m ∷ xs) ys = ap (λ l. m ∷ l) (known_append xs ys)
 
-pub gives_nothing : (clock : Option (List (Option ℤ))) (run : List Event)
-    → Gives clock clock run run
-gives_nothing None run = tt
-gives_nothing (Some l) run = ([], refl, sym (append-nil (moments_in run)))
-
-pub gives_more : (a b c : Option (List (Option ℤ))) (r s t : List Event) → Gives a b r s
-    → Gives b c s t → Gives a c r t
+pub gives_more : {I : Type 0} (a b c : Option (List (Option ℤ))) (r s t : List (SessionEvent I))
+    → Gives a b r s → Gives b c s t → Gives a c r t
 gives_more None b c r s t h k = tt
 gives_more (Some a) None c r s t h k = absurd h
 gives_more (Some a) (Some b) None r s t h k = absurd k
@@ -55,8 +51,9 @@ taken (Some x ∷ old) new m h =
     let rest : old ≡ new = cc in
     (Some x ∷ [], ap (λ l. Some x ∷ l) rest, ap (λ y. y ∷ []) same)
 
-pub gives_moment : (old new : Option (List (Option ℤ))) (m : ℤ) (run run' : List Event)
-    → TakesMoment old new m → run' ≡ run ++ events.Moment m ∷ [] → Gives old new run run'
+pub gives_moment : {I : Type 0} (old new : Option (List (Option ℤ))) (m : ℤ)
+    (run run' : List (SessionEvent I)) → TakesMoment old new m → run' ≡ run ++ events.Moment m ∷ []
+        → Gives old new run run'
 gives_moment None new m run run' h is = tt
 gives_moment (Some old) None m run run' h is = absurd h
 gives_moment (Some old) (Some new) m run run' h is =
@@ -67,7 +64,7 @@ gives_moment (Some old) (Some new) m run run' h is =
           ∙ ap (λ l. moments_in run ++ l) (sym known),
     )
 
-no_moments : (e : Event) → is_moment e ≡ false → moments_in (e ∷ []) ≡ []
+no_moments : {I : Type 0} (e : SessionEvent I) → is_moment e ≡ false → moments_in (e ∷ []) ≡ []
 no_moments events.ClientMade h = refl
 no_moments (events.ClientFailed x) h = refl
 no_moments events.Connected h = refl
@@ -78,15 +75,15 @@ no_moments events.StreamEnd h = refl
 no_moments (events.Moment x) h = absurd cc
 no_moments events.Close h = refl
 
-same_moments : (a b : Option (List (Option ℤ))) (r s t : List Event)
+same_moments : {I : Type 0} (a b : Option (List (Option ℤ))) (r s t : List (SessionEvent I))
     → moments_in t ≡ moments_in s → Gives a b r s → Gives a b r t
 same_moments None b r s t is h = tt
 same_moments (Some a) None r s t is h = absurd h
 same_moments (Some a) (Some b) r s t is (given, split, run) = (given, split, is ∙ run)
 
 -- an event more that is no moment
-pub gives_still : (a b : Option (List (Option ℤ))) (r s t : List Event) (e : Event)
-    → is_moment e ≡ false → t ≡ s ++ e ∷ [] → Gives a b r s → Gives a b r t
+pub gives_still : {I : Type 0} (a b : Option (List (Option ℤ))) (r s t : List (SessionEvent I))
+    (e : SessionEvent I) → is_moment e ≡ false → t ≡ s ++ e ∷ [] → Gives a b r s → Gives a b r t
 gives_still a b r s t e none is h =
     same_moments a b r s t
     (ap moments_in is ∙ moments_append s (e ∷ [])

@@ -8,13 +8,13 @@ use Rattle.spf_api.specs.declared.link.ClientFault.{ClientFault}
 use Rattle.spf_api.specs.declared.link.ClientFault.TheVariants as client
 use Rattle.spf_pace.specs.declared.pacer.AttemptEnd.{AttemptEnd}
 use Rattle.spf_pace.specs.declared.pacer.AttemptEnd.TheVariants as ends
-use Rattle.spf_view.specs.Views.{Outcome, Accepted, Denied, Passed, has_synced, outcome}
+use Rattle.spf_view.specs.Views.{Outcome, Subject, Accepted, Denied, Passed, outcome}
 use Rattle.spf_feed.specs.declared.event.SessionEvent.{SessionEvent}
 use Rattle.spf_feed.specs.declared.event.SessionEvent.TheVariants as events
 use Rattle.spf_feed.specs.declared.phase.Phase.{Phase}
 use Rattle.spf_feed.specs.declared.phase.Phase.TheVariants as phases
 use Rattle.spf_feed.specs.Items.{Event, Rules, subject, context_in}
-use Rattle.spf_feed.specs.Run.{asked_by, ask_of}
+use Rattle.spf_feed.specs.Run.{ask_of}
 
 abbrev pub is_accepted : {M D : Type 0} → Outcome M D → Bool
 is_accepted (Accepted m) = true
@@ -26,10 +26,11 @@ abbrev pub gave_with : {I : Type 0} → Bool → Bool → SessionEvent I → Boo
 gave_with gave accepted events.Connected = false
 gave_with gave accepted e = accepted || gave
 
-abbrev pub gave_accepted : Rules → List Event → Bool
-gave_accepted rules [] = false
-gave_accepted rules (e ∷ past) =
-    gave_with (gave_accepted rules past) (is_accepted (outcome (subject rules) e past)) e
+abbrev pub gave_accepted_by : {I M L D : Type 0} → Subject (SessionEvent I) M L D
+    → List (SessionEvent I) → Bool
+gave_accepted_by s [] = false
+gave_accepted_by s (e ∷ past) =
+    gave_with (gave_accepted_by s past) (is_accepted (outcome s e past)) e
 
 abbrev pub is_no_identity : WorkloadApiError → Bool
 is_no_identity api.NoIdentityIssued = true
@@ -55,10 +56,18 @@ end_with ask gave (events.ItemStatus s) =
 end_with ask gave events.StreamEnd = Some (ends.Stream gave false)
 end_with ask gave _ = None
 
--- how an event after a history ends the attempt, where it does: an accepted item ends none
+-- How an event after a history ends the attempt, where it does: an accepted item ends none. What is
+-- asked next after a history is `ask`.
+abbrev pub attempt_end_by : {I M L D : Type 0} → Subject (SessionEvent I) M L D
+    → (List (SessionEvent I) → Phase) → List (SessionEvent I) → SessionEvent I → Option AttemptEnd
+attempt_end_by s ask past e =
+    if is_accepted (outcome s e past) then None
+    else end_with (ask (e ∷ past)) (gave_accepted_by s past) e
+
+-- ---- of an X.509 session
+
+abbrev pub gave_accepted : Rules → List Event → Bool
+gave_accepted rules past = gave_accepted_by (subject rules) past
+
 abbrev pub attempt_end : Rules → List Event → Event → Option AttemptEnd
-attempt_end rules past e =
-    if is_accepted (outcome (subject rules) e past) then None
-    else end_with
-    (asked_by context_in (ask_of context_in rules past) (has_synced (subject rules) past) e)
-    (gave_accepted rules past) e
+attempt_end rules past e = attempt_end_by (subject rules) (ask_of context_in rules) past e

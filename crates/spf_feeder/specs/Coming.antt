@@ -1,16 +1,17 @@
 -- What is still to come from a connector, where that is known, and from its link, and what the asks
 -- take of it.
 use Rattle.std.specs.Prelude.{◌≡◌, List, [], ◌∷◌, Option, None, Some, Ok, Err}
-use Rattle.spf_api.specs.declared.response.ResponseKind.TheVariants as kind
 use Rattle.spf_link.specs.Connecting.{Member, connected_by}
 use Rattle.spf_link.specs.Links.{rest_of, started_by, next_by}
 use Rattle.spf_link.specs.declared.answer.Answer.{Answer}
+use Rattle.spf_feed.specs.declared.event.SessionEvent.{SessionEvent}
 use Rattle.spf_feed.specs.declared.event.SessionEvent.TheVariants as events
 use Rattle.spf_feed.specs.declared.phase.Phase.{Phase}
 use Rattle.spf_feed.specs.declared.phase.Phase.TheVariants as phases
 use Rattle.spf_feed.specs.Items.{Event, Rules, context_in}
 use Rattle.spf_feed.specs.Run.{ask_of}
-use Rattle.spf_feeder.specs.Asking.{yielded_by_connect, yielded_by_start, yielded_by_next}
+use Rattle.spf_feeder.specs.Asking.{Wanted, contexts, kind_wanted}
+use Rattle.spf_feeder.specs.Asking.{yielded_by_connect, yielded_by_next, yielded_by_start}
 
 -- what each `connect` to come gives, and the answers to come of the link in use
 pub record Coming : Type 0 where
@@ -18,10 +19,11 @@ pub record Coming : Type 0 where
   pub answers : List Answer
 
 -- the event that an ask yields
-abbrev pub yielded_at : Phase → Coming → Option Event
-yielded_at phases.Client coming = yielded_by_connect (connected_by coming.members)
-yielded_at phases.Connect coming = yielded_by_start (started_by coming.answers)
-yielded_at phases.Next coming = yielded_by_next (next_by (Some kind.Context) coming.answers)
+abbrev pub yielded_at : {I : Type 0} → Wanted I → Phase → Coming → Option (SessionEvent I)
+yielded_at wanted phases.Client coming = yielded_by_connect (connected_by coming.members)
+yielded_at wanted phases.Connect coming = yielded_by_start (started_by coming.answers)
+yielded_at wanted phases.Next coming =
+    yielded_by_next wanted.item (next_by (Some (kind_wanted wanted)) coming.answers)
 
 -- the answers of a link that was made; a connection that failed leaves none
 abbrev pub answers_in : Member → List Answer
@@ -42,24 +44,27 @@ abbrev pub at_first : List Member → Coming
 at_first members = record { members = members; answers = [] }
 
 -- what is left after a history; a moment and a close ask nothing
-abbrev pub left_after : Rules → List Member → List Event → Coming
-left_after rules members [] = at_first members
-left_after rules members (events.Moment m ∷ past) = left_after rules members past
-left_after rules members (events.Close ∷ past) = left_after rules members past
-left_after rules members (e ∷ past) =
-    left_at (ask_of context_in rules past) (left_after rules members past)
+abbrev pub left_after_by : {I : Type 0} → (List (SessionEvent I) → Phase) → List Member
+    → List (SessionEvent I) → Coming
+left_after_by ask members [] = at_first members
+left_after_by ask members (events.Moment m ∷ past) = left_after_by ask members past
+left_after_by ask members (events.Close ∷ past) = left_after_by ask members past
+left_after_by ask members (e ∷ past) = left_at (ask past) (left_after_by ask members past)
 
 -- an event is what the ask before it takes, where it is neither a moment nor a close
-abbrev pub IsYielded : Rules → List Member → List Event → Event → Type 0
-IsYielded rules members past (events.Moment m) = Unit {0}
-IsYielded rules members past events.Close = Unit {0}
-IsYielded rules members past e =
-    yielded_at (ask_of context_in rules past) (left_after rules members past) ≡ Some e
+abbrev pub IsYielded : {I : Type 0} → Wanted I → (List (SessionEvent I) → Phase) → List Member
+    → List (SessionEvent I) → SessionEvent I → Type 0
+IsYielded wanted ask members past (events.Moment m) = Unit {0}
+IsYielded wanted ask members past events.Close = Unit {0}
+IsYielded wanted ask members past e =
+    yielded_at wanted (ask past) (left_after_by ask members past) ≡ Some e
 
--- the events other than moments are what the asks by `ask_of`, in order, take of the members
-abbrev pub AllYielded : Rules → List Member → List Event → Type 0
-AllYielded rules members [] = Unit {0}
-AllYielded rules members (e ∷ past) = IsYielded rules members past e × AllYielded rules members past
+-- the events other than moments are what the asks, in order, take of the members
+abbrev pub AllYieldedBy : {I : Type 0} → Wanted I → (List (SessionEvent I) → Phase) → List Member
+    → List (SessionEvent I) → Type 0
+AllYieldedBy wanted ask members [] = Unit {0}
+AllYieldedBy wanted ask members (e ∷ past) =
+    IsYielded wanted ask members past e × AllYieldedBy wanted ask members past
 
 -- a connector and its link have this still to yield
 abbrev pub LinkHolds : {L : Type 0} → (L → Option (List Answer)) → List Answer → Option L → Type 0
@@ -71,3 +76,11 @@ pub record Holds {S L : Type 0} (members : S → Option (List Member))
     (link : Option L) : Type 0 where
   pub members_are : members connector ≡ Some coming.members
   pub answers_are : LinkHolds answers coming.answers link
+
+-- ---- of an X.509 session
+
+abbrev pub left_after : Rules → List Member → List Event → Coming
+left_after rules members past = left_after_by (ask_of context_in rules) members past
+
+abbrev pub AllYielded : Rules → List Member → List Event → Type 0
+AllYielded rules members past = AllYieldedBy contexts (ask_of context_in rules) members past

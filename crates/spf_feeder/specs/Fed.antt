@@ -3,12 +3,12 @@ use Rattle.std.specs.Prelude.{◌≡◌, true, List, ◌∷◌, [], ◌++◌, re
 use Rattle.std.specs.Prelude.{Some, Result, Ok, Err, ◌⊎◌}
 use Rattle.spf_io.specs.declared.memory.OutOfMemory.{OutOfMemory}
 use Rattle.spf_api.specs.declared.response.ResponseKind.{ResponseKind}
-use Rattle.spf_api.specs.declared.response.ResponseKind.TheVariants as kind
 use Rattle.spf_link.specs.Connecting.{Member}
 use Rattle.spf_link.specs.declared.answer.Answer.{Answer}
 use Rattle.spf_link.specs.declared.connector.Connector as connectors
 use Rattle.spf_link.specs.declared.link.Link as links
 use Rattle.spf_pace.specs.declared.pacer.AttemptEnd.{AttemptEnd}
+use Rattle.spf_feed.specs.declared.event.SessionEvent.{SessionEvent}
 use Rattle.spf_feed.specs.declared.phase.Phase.{Phase}
 use Rattle.spf_feed.specs.declared.phase.Phase.TheVariants as phases
 use Rattle.spf_feed.specs.declared.record.MetricsRecord.{MetricsRecord}
@@ -16,8 +16,9 @@ use Rattle.spf_feed.specs.Items.{Event, Rules, context_in}
 use Rattle.spf_feed.specs.Run.{ask_of, stream}
 use Rattle.spf_feeder.specs.declared.session.Stop.{Stop}
 use Rattle.spf_feeder.specs.declared.session.Stop.TheVariants as stops
-use Rattle.spf_feeder.specs.Asking.{Asked, AsksOnce}
-use Rattle.spf_feeder.specs.Coming.{AllYielded, Holds, left_after}
+use Rattle.spf_feeder.specs.Asking.{Asked, AsksOnce, Wanted, contexts}
+use Rattle.spf_feeder.specs.Asking.{kind_wanted}
+use Rattle.spf_feeder.specs.Coming.{AllYieldedBy, Holds, left_after_by}
 use Rattle.spf_feeder.specs.Kept.{Advanced, Core}
 
 -- What contracts see of a feeder.
@@ -35,20 +36,32 @@ fed connector link core first = record {
   first = first;
 }
 
--- where the link is asked next it is there, and it was asked for X.509 contexts
-abbrev pub IsReady : {L : Type 0} → (L → Option ResponseKind) → Phase → Option L → Type 0
-IsReady kind_of phases.Client link = Unit {0}
-IsReady kind_of ask None = ⊥
-IsReady kind_of phases.Connect (Some link) = Unit {0}
-IsReady kind_of phases.Next (Some link) = kind_of link ≡ Some kind.Context
+-- where the link is asked next it is there, and its responses are of the kind that is wanted
+abbrev pub IsReadyFor : {L : Type 0} → ResponseKind → (L → Option ResponseKind) → Phase → Option L
+    → Type 0
+IsReadyFor kind kind_of phases.Client link = Unit {0}
+IsReadyFor kind kind_of ask None = ⊥
+IsReadyFor kind kind_of phases.Connect (Some link) = Unit {0}
+IsReadyFor kind kind_of phases.Next (Some link) = kind_of link ≡ Some kind
 
 -- The events other than moments are what the asks, in order, take of what the connector had to
 -- yield when it was handed in, and the connector and its link have the rest.
-pub record Yields {S L : Type 0} (members : S → Option (List Member))
-    (answers : L → Option (List Answer)) (rules : Rules) (run : List Event) (asked : Asked S L)
-    (first : List Member) : Type 0 where
-  pub yielded : AllYielded rules first (reverse run)
-  pub rest : Holds members answers (left_after rules first (reverse run)) asked.connector asked.link
+pub record YieldsFor {I S L : Type 0} (wanted : Wanted I) (ask : List (SessionEvent I) → Phase)
+    (members : S → Option (List Member)) (answers : L → Option (List Answer))
+    (run : List (SessionEvent I)) (asked : Asked S L) (first : List Member) : Type 0 where
+  pub yielded : AllYieldedBy wanted ask first (reverse run)
+  pub rest : Holds members answers (left_after_by ask first (reverse run)) asked.connector
+      asked.link
+
+-- ---- of an X.509 session
+
+abbrev pub IsReady : {L : Type 0} → (L → Option ResponseKind) → Phase → Option L → Type 0
+IsReady kind_of ask link = IsReadyFor (kind_wanted contexts) kind_of ask link
+
+abbrev pub Yields : {S L : Type 0} → (S → Option (List Member)) → (L → Option (List Answer))
+    → Rules → List Event → Asked S L → List Member → Type 0
+Yields members answers rules run asked first =
+    YieldsFor contexts (ask_of context_in rules) members answers run asked first
 
 -- A turn that went through: one ask, one event more, which is published before the next turn.
 pub record TurnedOnce {S L P M K : Type 0} (connector : connectors.Ghosts S L)

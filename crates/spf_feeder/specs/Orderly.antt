@@ -1,8 +1,9 @@
 -- What the events of a feeder are: each is what the ask before it yields, or a moment, and none is
--- terminal.
+-- terminal. What is asked next after a history is `ask`, and how an event ends it `refusal`.
 use Rattle.std.specs.Prelude.{◌≡◌, Bool, true, false, not, ◌||◌, ◌&&◌, if◌then◌else◌, List, [], ◌∷◌}
-use Rattle.std.specs.Prelude.{◌++◌, None, Some, reverse}
-use Rattle.spf_view.specs.Views.{has_synced}
+use Rattle.std.specs.Prelude.{◌++◌, Option, None, Some, reverse}
+use Rattle.spf_view.specs.Views.{Subject, has_synced}
+use Rattle.spf_feed.specs.declared.event.SessionEvent.{SessionEvent}
 use Rattle.spf_feed.specs.declared.event.SessionEvent.TheVariants as events
 use Rattle.spf_feed.specs.declared.phase.Phase.{Phase}
 use Rattle.spf_feed.specs.declared.phase.Phase.TheVariants as phases
@@ -11,12 +12,12 @@ use Rattle.spf_feed.specs.Run.{ask_of, stream}
 use Rattle.spf_feed.specs.Steps.{MayFollow, PlainStep}
 use Rattle.spf_feeder.specs.Asking.{is_client}
 
-abbrev pub is_moment : Event → Bool
+abbrev pub is_moment : {I : Type 0} → SessionEvent I → Bool
 is_moment (events.Moment m) = true
 is_moment _ = false
 
 -- whether an event is one that the ask yields
-abbrev pub does_answer : Phase → Event → Bool
+abbrev pub does_answer : {I : Type 0} → Phase → SessionEvent I → Bool
 does_answer phases.Client events.ClientMade = true
 does_answer phases.Client (events.ClientFailed f) = true
 does_answer phases.Connect events.Connected = true
@@ -27,40 +28,44 @@ does_answer phases.Next events.StreamEnd = true
 does_answer _ _ = false
 
 -- an event that may stand after a history
-pub record MayStand (rules : Rules) (past : List Event) (e : Event) : Type 0 where
-  pub fits : (is_moment e || does_answer (ask_of context_in rules past) e) ≡ true
-  pub unrefused : (stream rules).refusal past e ≡ None
+pub record MayStand {I A : Type 0} (ask : List (SessionEvent I) → Phase)
+    (refusal : List (SessionEvent I) → SessionEvent I → Option A) (past : List (SessionEvent I))
+    (e : SessionEvent I) : Type 0 where
+  pub fits : (is_moment e || does_answer (ask past) e) ≡ true
+  pub unrefused : refusal past e ≡ None
 
 -- the newest first
-abbrev pub IsOrderly : Rules → List Event → Type 0
-IsOrderly rules [] = Unit {0}
-IsOrderly rules (e ∷ past) = MayStand rules past e × IsOrderly rules past
+abbrev pub AreOrderly : {I A : Type 0} → (List (SessionEvent I) → Phase)
+    → (List (SessionEvent I) → SessionEvent I → Option A) → List (SessionEvent I) → Type 0
+AreOrderly ask refusal [] = Unit {0}
+AreOrderly ask refusal (e ∷ past) = MayStand ask refusal past e × AreOrderly ask refusal past
 
 -- one of these is a moment
-abbrev pub has_moment : List Event → Bool
+abbrev pub has_moment : {I : Type 0} → List (SessionEvent I) → Bool
 has_moment [] = false
 has_moment (e ∷ run) = is_moment e || has_moment run
 
 -- A run goes on without a moment.
-pub record GoesOn (old new : List Event) : Type 0 where
-  pub later : List Event
+pub record GoesOn {I : Type 0} (old new : List (SessionEvent I)) : Type 0 where
+  pub later : List (SessionEvent I)
   pub run_is : new ≡ old ++ later
   pub timeless : has_moment later ≡ false
 
 -- one event more, which the ask before it yielded
-pub record AddsAnswer (rules : Rules) (old new : List Event) : Type 0 where
-  pub event : Event
-  pub answers : does_answer (ask_of context_in rules (reverse old)) event ≡ true
+pub record AddsAnswerTo {I : Type 0} (ask : List (SessionEvent I) → Phase)
+    (old new : List (SessionEvent I)) : Type 0 where
+  pub event : SessionEvent I
+  pub answers : does_answer (ask (reverse old)) event ≡ true
   pub run_is : new ≡ old ++ event ∷ []
 
 -- ---- the moments of an initial synchronisation
 
-abbrev pub ends_with_moment : List Event → Bool
+abbrev pub ends_with_moment : {I : Type 0} → List (SessionEvent I) → Bool
 ends_with_moment [] = false
 ends_with_moment (e ∷ past) = is_moment e
 
 -- whether an event is about a client
-abbrev pub is_of_client : Event → Bool
+abbrev pub is_of_client : {I : Type 0} → SessionEvent I → Bool
 is_of_client events.ClientMade = true
 is_of_client (events.ClientFailed f) = true
 is_of_client _ = false
@@ -68,35 +73,57 @@ is_of_client _ = false
 -- Until something is accepted one moment stands right before each client made and each client
 -- failed, and no moment stands elsewhere: here of an event, by whether the last event before it is
 -- a moment, and whether something is accepted.
-abbrev pub is_timed : Bool → Bool → Event → Bool
+abbrev pub is_timed : {I : Type 0} → Bool → Bool → SessionEvent I → Bool
 is_timed ends synced (events.Moment m) = not (ends || synced)
 is_timed ends synced e = if is_of_client e && not synced then ends else not ends
 
 -- the newest first
-abbrev pub IsTimed : Rules → List Event → Type 0
-IsTimed rules [] = Unit {0}
-IsTimed rules (e ∷ past) =
-    (is_timed (ends_with_moment past) (has_synced (subject rules) past) e ≡ true)
-    × IsTimed rules past
+abbrev pub AreTimed : {I M L D : Type 0} → Subject (SessionEvent I) M L D → List (SessionEvent I)
+    → Type 0
+AreTimed s [] = Unit {0}
+AreTimed s (e ∷ past) =
+    (is_timed (ends_with_moment past) (has_synced s past) e ≡ true) × AreTimed s past
 
 -- nothing is accepted yet, and the moments so far stand where they should: a last one is there only
 -- where a client is asked for next
-pub record IsOpening (rules : Rules) (run : List Event) : Type 0 where
-  pub timed : IsTimed rules (reverse run)
-  pub unsynced : has_synced (subject rules) (reverse run) ≡ false
-  pub ends : ends_with_moment (reverse run) ≡ true
-      → is_client (ask_of context_in rules (reverse run)) ≡ true
+pub record OpensTimed {I M L D : Type 0} (s : Subject (SessionEvent I) M L D)
+    (ask : List (SessionEvent I) → Phase) (run : List (SessionEvent I)) : Type 0 where
+  pub timed : AreTimed s (reverse run)
+  pub unsynced : has_synced s (reverse run) ≡ false
+  pub ends : ends_with_moment (reverse run) ≡ true → is_client (ask (reverse run)) ≡ true
 
 -- the same, where the last event is a moment exactly if a client is asked for next
-pub record IsAboutToAsk (rules : Rules) (run : List Event) : Type 0 where
-  pub timed : IsTimed rules (reverse run)
-  pub unsynced : has_synced (subject rules) (reverse run) ≡ false
-  pub ends : ends_with_moment (reverse run) ≡ is_client (ask_of context_in rules (reverse run))
+pub record AsksTimed {I M L D : Type 0} (s : Subject (SessionEvent I) M L D)
+    (ask : List (SessionEvent I) → Phase) (run : List (SessionEvent I)) : Type 0 where
+  pub timed : AreTimed s (reverse run)
+  pub unsynced : has_synced s (reverse run) ≡ false
+  pub ends : ends_with_moment (reverse run) ≡ is_client (ask (reverse run))
 
 -- something is accepted, and the moments before it stand where they should; the newest first
-pub record IsSynced (rules : Rules) (past : List Event) : Type 0 where
-  pub timed : IsTimed rules past
-  pub synced : has_synced (subject rules) past ≡ true
+pub record SyncedTimed {I M L D : Type 0} (s : Subject (SessionEvent I) M L D)
+    (past : List (SessionEvent I)) : Type 0 where
+  pub timed : AreTimed s past
+  pub synced : has_synced s past ≡ true
+
+-- ---- of an X.509 session
+
+abbrev pub IsOrderly : Rules → List Event → Type 0
+IsOrderly rules past = AreOrderly (ask_of context_in rules) (stream rules).refusal past
+
+abbrev pub AddsAnswer : Rules → List Event → List Event → Type 0
+AddsAnswer rules old new = AddsAnswerTo (ask_of context_in rules) old new
+
+abbrev pub IsTimed : Rules → List Event → Type 0
+IsTimed rules past = AreTimed (subject rules) past
+
+abbrev pub IsOpening : Rules → List Event → Type 0
+IsOpening rules run = OpensTimed (subject rules) (ask_of context_in rules) run
+
+abbrev pub IsAboutToAsk : Rules → List Event → Type 0
+IsAboutToAsk rules run = AsksTimed (subject rules) (ask_of context_in rules) run
+
+abbrev pub IsSynced : Rules → List Event → Type 0
+IsSynced rules past = SyncedTimed (subject rules) past
 
 -- there is exactly one step, which may be the first of all
 abbrev pub IsOneStep : List PlainStep → Type 0

@@ -1,59 +1,61 @@
 -- DelaysOf a run: the pauses after its attempts, by the random words that were drawn.
-use Rattle.std.specs.Prelude.{◌≡◌, ℕ, Bool, not, ◌&&◌, if◌then◌else◌, List, [], ◌∷◌, map, reverse}
-use Rattle.std.specs.Prelude.{Option, None, Some, Result, Ok, Err, ◌⊎◌, ◌++◌}
-use Rattle.std.specs.Duration.{as_nanos}
-use Rattle.spf_pace.specs.declared.pacer.AttemptEnd.{AttemptEnd}
-use Rattle.spf_pace.specs.Delays.{PaceStep, Synchronised, Ended, StandsAfter, delays_of, does_grow}
-use Rattle.spf_view.specs.Views.{has_synced, outcome}
-use Rattle.spf_feed.specs.Items.{Event, Rules, subject}
-use Rattle.spf_feeder.specs.declared.pace.Pace.{Pace}
-use Rattle.spf_feeder.specs.Attempts.{attempt_end, is_accepted}
-
--- words with the newest first; where none is left it counts as 0
-abbrev pub newest_word : List ℕ → ℕ
-newest_word [] = 0
-newest_word (word ∷ words) = word
-
-abbrev pub earlier_words : List ℕ → List ℕ
-earlier_words [] = []
-earlier_words (word ∷ words) = words
+use Rattle.std.specs.Prelude.{◌≡◌, ℕ, Bool, not, ◌&&◌, List, [], ◌∷◌, reverse, Result, Ok, Err}
+use Rattle.std.specs.Prelude.{◌⊎◌, ◌++◌}
+use Rattle.spf_pace.specs.declared.pace.Pace.{Pace}
+use Rattle.spf_pace.specs.Delays.{PaceStep}
+use Rattle.spf_pace.specs.Pacing.{Paces, paced_by}
+use Rattle.spf_view.specs.Views.{Subject, has_synced, outcome}
+use Rattle.spf_feed.specs.declared.event.SessionEvent.{SessionEvent}
+use Rattle.spf_feed.specs.declared.phase.Phase.{Phase}
+use Rattle.spf_feed.specs.Items.{Event, Rules, context_in, subject}
+use Rattle.spf_feed.specs.Run.{ask_of}
+use Rattle.spf_feeder.specs.Attempts.{attempt_end_by, is_accepted}
 
 -- the first accepted item
-abbrev pub opens : Rules → List Event → Event → Bool
-opens rules past e =
-    is_accepted (outcome (subject rules) e past) && not (has_synced (subject rules) past)
-
--- One event more, where `before` gives the steps before it: each growth takes a word of its own.
-abbrev pub paced_by : Bool → Bool → Option AttemptEnd → List ℕ → (List ℕ → List PaceStep)
-    → List PaceStep
-paced_by synced opening None words before =
-    if opening then Synchronised ∷ before words else before words
-paced_by synced opening (Some end) words before =
-    if does_grow synced end then Ended end (newest_word words) ∷ before (earlier_words words)
-    else Ended end 0 ∷ before words
+abbrev pub opens_by : {E M L D : Type 0} → Subject E M L D → List E → E → Bool
+opens_by s past e = is_accepted (outcome s e past) && not (has_synced s past)
 
 -- how a run paces, by its words; both have the newest first
-abbrev pub pace_steps : Rules → List Event → List ℕ → List PaceStep
-pace_steps rules [] words = []
-pace_steps rules (e ∷ past) words =
-    paced_by (has_synced (subject rules) past) (opens rules past e) (attempt_end rules past e) words
-    (pace_steps rules past)
+abbrev pub pace_steps : {I M L D : Type 0} → Subject (SessionEvent I) M L D
+    → (List (SessionEvent I) → Phase) → List (SessionEvent I) → List ℕ → List PaceStep
+pace_steps s ask [] words = []
+pace_steps s ask (e ∷ past) words =
+    paced_by (has_synced s past) (opens_by s past e) (attempt_end_by s ask past e)
+    (pace_steps s ask past) words
 
--- A pace stands where the run puts it, and its delays are those of the run.
-pub record KeepsPace (rules : Rules) (run : List Event) (pace : Pace) : Type 0 where
-  pub stands : StandsAfter pace.bounds (pace_steps rules (reverse run) (reverse pace.words.items))
-      pace.pacer
-  pub delays_are : reverse (map as_nanos pace.delays.items)
-      ≡ delays_of pace.bounds (pace_steps rules (reverse run) (reverse pace.words.items))
+-- a pace stands where the run puts it, and its delays are those of the run
+abbrev pub KeepsPaceBy : {I M L D : Type 0} → Subject (SessionEvent I) M L D
+    → (List (SessionEvent I) → Phase) → List (SessionEvent I) → Pace → Type 0
+KeepsPaceBy s ask run pace = Paces (pace_steps s ask (reverse run)) pace
 
 -- After a refused ask the delays are those of the run, or of the run before its last event.
-pub record Halted (rules : Rules) (run : List Event) (pace : Pace) : Type 0 where
-  pub before : List Event
-  pub keeps : KeepsPace rules before pace
-  pub run_is : (run ≡ before) ⊎ ((e : Event) × (run ≡ before ++ e ∷ []))
+pub record HaltedBy {I M L D : Type 0} (s : Subject (SessionEvent I) M L D)
+    (ask : List (SessionEvent I) → Phase) (run : List (SessionEvent I)) (pace : Pace) : Type 0 where
+  pub before : List (SessionEvent I)
+  pub keeps : KeepsPaceBy s ask before pace
+  pub run_is : (run ≡ before) ⊎ ((e : SessionEvent I) × (run ≡ before ++ e ∷ []))
 
--- where an ask and the pause behind it leave the delays
+-- where an ask and the pause after it leave the delays
+abbrev pub PacesOnBy : {I M L D T E : Type 0} → Subject (SessionEvent I) M L D
+    → (List (SessionEvent I) → Phase) → List (SessionEvent I) → Pace → Result T E
+    → List (SessionEvent I) → Pace → Type 0
+PacesOnBy s ask run pace (Ok done) run' pace' =
+    KeepsPaceBy s ask run pace → KeepsPaceBy s ask run' pace'
+PacesOnBy s ask run pace (Err e) run' pace' =
+    KeepsPaceBy s ask run pace → HaltedBy s ask run' pace'
+
+-- ---- of an X.509 session
+
+abbrev pub opens : Rules → List Event → Event → Bool
+opens rules past e = opens_by (subject rules) past e
+
+abbrev pub KeepsPace : Rules → List Event → Pace → Type 0
+KeepsPace rules run pace = KeepsPaceBy (subject rules) (ask_of context_in rules) run pace
+
+abbrev pub Halted : Rules → List Event → Pace → Type 0
+Halted rules run pace = HaltedBy (subject rules) (ask_of context_in rules) run pace
+
 abbrev pub PacesOn : {T E : Type 0} → Rules → List Event → Pace → Result T E → List Event → Pace
     → Type 0
-PacesOn rules run pace (Ok done) run' pace' = KeepsPace rules run pace → KeepsPace rules run' pace'
-PacesOn rules run pace (Err e) run' pace' = KeepsPace rules run pace → Halted rules run' pace'
+PacesOn rules run pace r run' pace' =
+    PacesOnBy (subject rules) (ask_of context_in rules) run pace r run' pace'

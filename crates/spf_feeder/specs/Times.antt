@@ -3,8 +3,8 @@ use Rattle.std.specs.Prelude.{◌≡◌, ℕ, ◌+◌, ◌-◌, ◌/◌, ◌^◌
 use Rattle.std.specs.Prelude.{Option, None, Some, ◌++◌}
 use Rattle.std.specs.Duration.{as_nanos}
 use Rattle.std.specs.declared.time.Duration.{Duration}
+use Rattle.spf_feed.specs.declared.event.SessionEvent.{SessionEvent}
 use Rattle.spf_feed.specs.declared.event.SessionEvent.TheVariants as events
-use Rattle.spf_feed.specs.Items.{Event}
 
 -- a clock that gives none is asked again
 abbrev pub at_moment : List (Option ℤ) → List (Option ℤ)
@@ -39,15 +39,15 @@ known_moments (None ∷ moments) = known_moments moments
 known_moments (Some moment ∷ moments) = moment ∷ known_moments moments
 
 -- the moments among events
-abbrev pub moments_in : List Event → List ℤ
+abbrev pub moments_in : {I : Type 0} → List (SessionEvent I) → List ℤ
 moments_in [] = []
 moments_in (events.Moment m ∷ run) = m ∷ moments_in run
 moments_in (_ ∷ run) = moments_in run
 
 -- What a clock gave are the moments that a run has more, in order, where the moments of the clock
 -- are known.
-abbrev pub Gives : Option (List (Option ℤ)) → Option (List (Option ℤ)) → List Event → List Event
-    → Type 0
+abbrev pub Gives : {I : Type 0} → Option (List (Option ℤ)) → Option (List (Option ℤ))
+    → List (SessionEvent I) → List (SessionEvent I) → Type 0
 Gives None new before run = Unit {0}
 Gives (Some old) None before run = ⊥
 Gives (Some old) (Some new) before run = (given : List (Option ℤ)) × (old ≡ given ++ new)

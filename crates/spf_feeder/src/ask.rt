@@ -1,17 +1,17 @@
 //! One ask of a connector or of its link, and the event that it yields.
 
-ghost use Rattle.std.specs.Prelude.{◌≡◌, Some, IfOk, is_some, true};
+ghost use Rattle.std.specs.Prelude.{◌≡◌, [], Some, IfOk, is_some, true};
 ghost use Rattle.std.specs.Option.{ForSome};
 ghost use Rattle.spf_api.specs.declared.response.ResponseKind.TheVariants as kind;
+ghost use Rattle.spf_link.specs.Metadata.{with_metadata};
 ghost use Rattle.spf_feeder.specs.Asking.{Asks, ClientAsked, StreamAsked, ItemAsked, connect_text};
-ghost use Rattle.spf_feeder.specs.Asking.{refused_as, stream_start};
-ghost use Rattle.spf_feeder.specs.Asking as spec;
+ghost use Rattle.spf_feeder.specs.Asking.{context_of, contexts, refused_as};
 ghost use Rattle.spf_feeder.specs.Fed.{IsReady};
 
 use spf_api::{
     ClientFault, GrpcStatusCode, GrpcStatusError, LinkFault, Response, TransportConnectError,
 };
-use spf_feed::{Event, Phase};
+use spf_feed::{Event, Phase, SessionEvent};
 use spf_io::{OutOfMemory, Text};
 use spf_link::{Connector, Headers, Link, MetadataAdder, NoInterceptor, Request};
 use std::alloc::Global;
@@ -25,7 +25,7 @@ fn connect_message(alloc: Global, e: &TransportConnectError) -> Result<Text, Out
 }
 
 /// The status that a refusal of a link yields.
-fn status_of(alloc: Global, fault: LinkFault) -> Result<GrpcStatusError, OutOfMemory>
+pub fn status_of(alloc: Global, fault: LinkFault) -> Result<GrpcStatusError, OutOfMemory>
     ensures { IfOk result (λ s. refused_as fault ≡ Some s) }
 {
     match fault {
@@ -39,8 +39,8 @@ fn status_of(alloc: Global, fault: LinkFault) -> Result<GrpcStatusError, OutOfMe
 }
 
 /// The headers of each `start`.
-fn stream_headers(alloc: Global) -> Result<Headers, OutOfMemory>
-    ensures { IfOk result (λ h. h ≡ stream_start.headers) }
+pub fn stream_headers(alloc: Global) -> Result<Headers, OutOfMemory>
+    ensures { IfOk result (λ h. h ≡ with_metadata []) }
 {
     let mut headers = Headers::new(alloc);
     match MetadataAdder::new(NoInterceptor).call(&mut headers) {
@@ -50,10 +50,10 @@ fn stream_headers(alloc: Global) -> Result<Headers, OutOfMemory>
 }
 
 /// Asks for a client. Its link takes the place of the one before.
-fn ask_client<C: Connector>(
+pub fn ask_client<I: Drop, C: Connector>(
     connector: &mut C,
     link: &mut Option<C::Link>,
-) -> Result<Event, OutOfMemory>
+) -> Result<SessionEvent<I>, OutOfMemory>
 where
     C::Link: Drop,
     ensures { ClientAsked C.Connector C.Link.answers connector.old result connector.new link.new }
@@ -61,33 +61,38 @@ where
     match connector.connect() {
         Ok(made) => {
             *link = Some(made);
-            Ok(Event::ClientMade)
+            Ok(SessionEvent::ClientMade)
         }
         Err(fault) => {
             *link = None;
             match fault {
                 ClientFault::OutOfMemory => Err(OutOfMemory),
-                fault => Ok(Event::ClientFailed(fault)),
+                fault => Ok(SessionEvent::ClientFailed(fault)),
             }
         }
     }
 }
 
-/// Asks the link for a stream of X.509 contexts, with these headers.
-fn ask_stream<L: Link>(alloc: Global, link: &mut L, headers: &Headers) -> Result<Event, OutOfMemory>
-    requires { headers.now ≡ stream_start.headers }
-    ensures { StreamAsked L.Link link.old result link.new }
+/// Asks the link for a stream.
+pub fn ask_stream<I: Drop, L: Link>(
+    alloc: Global,
+    link: &mut L,
+    headers: &Headers,
+    request: &Request,
+) -> Result<SessionEvent<I>, OutOfMemory>
+    ensures { StreamAsked (record { headers = headers.now; request = request.now }) L.Link link.old
+        result link.new }
 {
-    match link.start(headers, &Request::X509Svid) {
-        Ok(()) => Ok(Event::Connected),
-        Err(fault) => Ok(Event::ConnectStatus(status_of(alloc, fault)?)),
+    match link.start(headers, request) {
+        Ok(()) => Ok(SessionEvent::Connected),
+        Err(fault) => Ok(SessionEvent::ConnectStatus(status_of(alloc, fault)?)),
     }
 }
 
 /// Asks the link for the next item of its stream.
 fn ask_item<L: Link>(alloc: Global, link: &mut L) -> Result<Event, OutOfMemory>
     requires { L.kind link.old ≡ Some kind.Context }
-    ensures asked { ItemAsked L.Link link.old result link.new }
+    ensures asked { ItemAsked context_of L.Link link.old result link.new }
     ensures kind { L.kind link.new ≡ Some kind.Context }
 {
     match link.next() {
@@ -119,7 +124,7 @@ where
             let Some(asked) = link.as_mut() else {
                 unreachable!()
             };
-            ask_stream(alloc, asked, &headers)
+            ask_stream(alloc, asked, &headers, &Request::X509Svid)
         }
         Phase::Next => {
             let Some(asked) = link.as_mut() else {

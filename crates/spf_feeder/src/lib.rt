@@ -6,14 +6,13 @@ mod ask;
 mod attempt;
 mod feeder;
 mod opening;
-mod pace;
 mod received;
 mod session;
 mod supervisor;
 mod synchronisation;
 
+pub use ask::{ask_client, ask_stream, status_of, stream_headers};
 pub use feeder::Feeder;
 pub use opening::{Opening, open_feeder};
-pub use pace::Pace;
 pub use session::{SessionParts, Stop};
 pub use supervisor::supervise;

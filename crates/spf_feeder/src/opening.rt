@@ -12,13 +12,12 @@ ghost use Rattle.spf_feeder.specs.Pacing.{KeepsPace};
 ghost use Rattle.spf_feeder.specs.Times.{Gives, deadline_after as deadline_from};
 
 use crate::feeder::Feeder;
-use crate::pace::Pace;
 use crate::session::Stop;
 use crate::synchronisation::{deadline_after, next_moment, synchronise};
 use rand_core::Rng;
 use spf_feed::{MetricsRecorder, Publisher, Ready, ResourceLimits, SessionRules, SvidPicker};
 use spf_link::Connector;
-use spf_pace::ReconnectConfig;
+use spf_pace::{Pace, ReconnectConfig};
 use spf_system::{Clock, Pause};
 use std::alloc::Global;
 use std::sync::Wait;

@@ -7,12 +7,12 @@ ghost use Rattle.spf_feeder.specs.Orderly.{AddsAnswer, GoesOn};
 ghost use Rattle.spf_feeder.specs.Pacing.{Halted, KeepsPace, PacesOn};
 
 use crate::feeder::Feeder;
-use crate::pace::Pace;
 use crate::session::Stop;
 use rand_core::Rng;
 use spf_close::{Closed, Maker, Watch};
 use spf_feed::{MetricsRecorder, Publisher, SvidPicker};
 use spf_link::Connector;
+use spf_pace::Pace;
 use spf_system::Pause;
 use std::sync::Wait;
 

@@ -11,15 +11,15 @@ ghost use Rattle.spf_feeder.specs.Orderly.{IsAboutToAsk, IsOneStep, IsOpening, I
 ghost use Rattle.spf_feeder.specs.Pacing.{KeepsPace};
 ghost use Rattle.spf_feeder.specs.Times.{Gives, TakesMoment};
 ghost use Rattle.spf_feeder.specs.Times as spec;
-ghost use Rattle.spf_feeder.specs.declared.pace.Pace.{Pace as Paces};
+ghost use Rattle.spf_pace.specs.declared.pace.Pace.{Pace as Paces};
 
 use crate::feeder::Feeder;
-use crate::pace::Pace;
 use crate::session::Stop;
 use crate::supervisor::paced_ask;
 use rand_core::Rng;
 use spf_feed::{MetricsRecorder, Publisher, SvidPicker};
 use spf_link::Connector;
+use spf_pace::Pace;
 use spf_system::{Clock, Pause};
 use std::sync::Wait;
 use std::time::Duration;

@@ -1,5 +1,6 @@
 -- The line of an event of a JWT session has one line feed, at its end.
-use Rattle.std.proofs.Common.{◌≡◌, ℕ, ◌+◌, Bool, true, false, cond, List, [], ◌∷◌, ◌++◌, map, length}
+use Rattle.std.proofs.Common.{◌≡◌, ℕ, ◌+◌, Bool, true, false, cond, List, [], ◌∷◌, ◌++◌, map}
+use Rattle.std.proofs.Common.{length}
 use Rattle.std.proofs.Common.{Option, Some, None, Result, Ok, Err, refl, subst}
 use Rattle.std.specs.Prelude.{IfSome, codes, decimal, ◌==◌}
 use Rattle.std.specs.List.{flat_map, AllByRecursion}

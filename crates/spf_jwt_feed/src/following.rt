@@ -1,7 +1,7 @@
 //! Following an update stream: its steps, its records and its lines.
 
 ghost use Rattle.std.specs.Prelude.{◌≡◌, ◌<◌, ◌-◌, ◌^◌, ◌∷◌, [], false, None, Some, Ok, Err};
-ghost use Rattle.std.specs.Prelude.{IsTrue, IfOk, IfErr, OnOk, List, is_some, if◌then◌else◌};
+ghost use Rattle.std.specs.Prelude.{IsTrue, IfOk, IfErr, OnOk, OnErr, List, is_some, if◌then◌else◌};
 ghost use Rattle.spf_view.specs.Sessions.{Followed};
 ghost use Rattle.spf_view.specs.Keeping.{kept_with};
 ghost use Rattle.spf_frame.specs.Parts.{FailureHasCause};

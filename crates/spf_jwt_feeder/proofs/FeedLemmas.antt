@@ -1,7 +1,7 @@
 -- What one turn of a feeder does.
 use Rattle.std.proofs.Common.{◌≡◌, Bool, true, false, List, [], ◌∷◌, ◌++◌, reverse, Option, None}
 use Rattle.std.proofs.Common.{Some, Result, Ok, Err, inl, inr, refl, sym, ◌∙◌, subst}
-use Rattle.std.specs.Prelude.{IfErr, IfSome, ℤ, ◌⊎◌}
+use Rattle.std.specs.Prelude.{IfErr, IfSome, IsTrue, ℤ, ◌⊎◌, ◌&&◌}
 use Rattle.spf_io.specs.declared.memory.OutOfMemory.{OutOfMemory}
 use Rattle.spf_link.specs.Connecting.{Member}
 use Rattle.spf_link.specs.declared.answer.Answer.{Answer}
@@ -10,7 +10,7 @@ use Rattle.spf_link.specs.declared.link.Link as links
 use Rattle.spf_pace.specs.declared.pacer.AttemptEnd.{AttemptEnd}
 use Rattle.spf_feed.specs.declared.phase.Phase.{Phase}
 use Rattle.spf_jwt_feed.specs.declared.record.JwtMetricsRecord.{JwtMetricsRecord}
-use Rattle.spf_jwt_feed.specs.Items.{Event, Rules, item_in}
+use Rattle.spf_jwt_feed.specs.Items.{Event, Rules, item_in, keeps_stream, subject}
 use Rattle.spf_jwt_feed.specs.Run.{ask_of, stream}
 use Rattle.spf_feed.specs.declared.event.SessionEvent.TheVariants as events
 use Rattle.spf_view.proofs.ViewLemmas.{last_first}
@@ -18,12 +18,18 @@ use Rattle.spf_api.specs.declared.response.ResponseKind.{ResponseKind}
 use Rattle.spf_feeder.specs.declared.session.Stop.{Stop}
 use Rattle.spf_feeder.specs.declared.session.Stop.TheVariants as stops
 use Rattle.spf_feeder.specs.Asking.{Asked}
-use Rattle.spf_jwt_feeder.specs.Asking.{Asks, AsksOnce}
+use Rattle.spf_jwt_feeder.specs.Asking.{Asks, AsksOnce, jwt_bundles}
 use Rattle.spf_feeder.specs.Coming.{Holds}
 use Rattle.spf_jwt_feeder.specs.Coming.{AllYielded, left_after}
 use Rattle.spf_jwt_feeder.specs.Fed.{Fed, IsReady, StopsBy, Yields, TurnedAway, Turns}
 use Rattle.spf_jwt_feeder.specs.Kept.{Advances, Core, rules_of}
-use Rattle.spf_jwt_feeder.proofs.YieldLemmas.{ready_more, yields_more}
+use Rattle.spf_jwt_feeder.specs.Orderly.{IsOneStep}
+use Rattle.spf_jwt_feeder.specs.Pacing.{KeepsPace}
+use Rattle.spf_pace.specs.declared.pace.Pace.{Pace}
+use Rattle.spf_view.specs.Steps.{Accept}
+use Rattle.spf_jwt_feed.specs.Steps.{BundleSet, PlainStep, fits}
+use Rattle.spf_view.specs.Views.{has_synced}
+use Rattle.spf_feeder.proofs.YieldLemmas.{FollowsEvents, ready_more, yields_more}
 
 -- an ask that yielded an event was made
 asked_once : {S L : Type 0} (connector : connectors.Ghosts S L) (link : links.Ghosts L)
@@ -144,6 +150,18 @@ ran records rules old new e (Err (stops.Terminal end)) h going =
     no_longer new.stuck going h.stuck_is
 ran records rules old new e (Err stops.OutOfMemory) h going = no_longer new.stuck going h.stuck_is
 
+follows : (rules : Rules) → FollowsEvents (ask_of item_in rules)
+follows rules = record {
+  keeps = λ past i. has_synced (subject rules) past && keeps_stream (item_in i);
+  made = λ past. refl;
+  failed = λ past f. refl;
+  connected = λ past. refl;
+  refused = λ past s. refl;
+  item = λ past i. refl;
+  broken = λ past s. refl;
+  ended = λ past. refl;
+}
+
 pub ready_of : {S L P M : Type 0} (connector : connectors.Ghosts S L) (link : links.Ghosts L)
     (records : M → Option (List JwtMetricsRecord)) (rules later : Rules) (before after : Core P M)
     (old new : Asked S L) (e : Event) (r : Result (Option AttemptEnd) Stop) (ask : Phase)
@@ -160,7 +178,8 @@ ready_of connector link records rules later before after old new e r ask next as
     let run = ran records rules before after e r h going in
     subst (λ x. IsReady link.kind (ask_of item_in x (reverse after.run)) new.link) (sym same)
     (subst (λ l. IsReady link.kind (ask_of item_in rules (reverse l)) new.link) (sym run)
-    (ready_more OutOfMemory connector link rules before.run old new e once ready))
+    (ready_more OutOfMemory jwt_bundles (ask_of item_in rules) connector link before.run old new e
+    (follows rules) once ready))
 
 if_some : {X : Type 0} (o : Option X) (P Q : X → Type 0) → ((x : X) → P x → Q x) → IfSome o P
     → IfSome o Q
@@ -187,7 +206,8 @@ yields_of connector link records rules later before after old new e r ask first 
     (λ f t.
     subst (λ x. Yields connector.members link.answers x after.run new f) (sym same)
     (subst (λ l. Yields connector.members link.answers rules l new f) (sym run)
-    (yields_more OutOfMemory connector link rules before.run old new e f once ready t))) yields
+    (yields_more OutOfMemory jwt_bundles (ask_of item_in rules) connector link before.run old new e
+    f once ready t))) yields
 
 -- ---- a terminal event
 
@@ -237,3 +257,14 @@ yields_still members answers records rules later before after m r asked first h 
       rest = subst (λ l.
           Holds members answers (left_after rules f l) asked.connector asked.link) more t.rest;
     }))) yields
+
+-- ---- the same rules, and the first step
+
+pub keeps_as : (rules seen : Rules) (run : List Event) (pace : Pace) → rules ≡ seen
+    → KeepsPace rules run pace → KeepsPace seen run pace
+keeps_as rules seen run pace same keeps = subst (λ r. KeepsPace r run pace) same keeps
+
+pub one_step : (rules : Rules) {steps : List PlainStep}
+    → (m : BundleSet) × (steps ≡ Accept m rules.limits ∷ []) × IsTrue (fits rules.limits m)
+    → IsOneStep steps
+one_step rules (m, is, within) = (Accept m rules.limits, is, within)

@@ -3,7 +3,6 @@ use Rattle.std.specs.Prelude.{◌≡◌, true, List, ◌∷◌, [], ◌++◌, re
 use Rattle.std.specs.Prelude.{Some, Result, Ok, Err, ◌⊎◌}
 use Rattle.spf_io.specs.declared.memory.OutOfMemory.{OutOfMemory}
 use Rattle.spf_api.specs.declared.response.ResponseKind.{ResponseKind}
-use Rattle.spf_api.specs.declared.response.ResponseKind.TheVariants as kind
 use Rattle.spf_link.specs.Connecting.{Member}
 use Rattle.spf_link.specs.declared.answer.Answer.{Answer}
 use Rattle.spf_link.specs.declared.connector.Connector as connectors
@@ -13,13 +12,12 @@ use Rattle.spf_feed.specs.declared.phase.Phase.{Phase}
 use Rattle.spf_feed.specs.declared.phase.Phase.TheVariants as phases
 use Rattle.spf_feeder.specs.declared.session.Stop.{Stop}
 use Rattle.spf_feeder.specs.declared.session.Stop.TheVariants as stops
-use Rattle.spf_feeder.specs.Asking.{Asked}
-use Rattle.spf_feeder.specs.Coming.{Holds}
+use Rattle.spf_feeder.specs.Asking.{Asked, kind_wanted}
+use Rattle.spf_feeder.specs.Fed.{IsReadyFor, YieldsFor}
 use Rattle.spf_jwt_feed.specs.declared.record.JwtMetricsRecord.{JwtMetricsRecord}
 use Rattle.spf_jwt_feed.specs.Items.{Event, Rules, item_in}
 use Rattle.spf_jwt_feed.specs.Run.{ask_of, stream}
-use Rattle.spf_jwt_feeder.specs.Asking.{AsksOnce}
-use Rattle.spf_jwt_feeder.specs.Coming.{AllYielded, left_after}
+use Rattle.spf_jwt_feeder.specs.Asking.{AsksOnce, jwt_bundles}
 use Rattle.spf_jwt_feeder.specs.Kept.{Advanced, Core}
 
 -- What contracts see of a feeder.
@@ -39,18 +37,12 @@ fed connector link core first = record {
 
 -- where the link is asked next it is there, and it was asked for JWT bundles
 abbrev pub IsReady : {L : Type 0} → (L → Option ResponseKind) → Phase → Option L → Type 0
-IsReady kind_of phases.Client link = Unit {0}
-IsReady kind_of ask None = ⊥
-IsReady kind_of phases.Connect (Some link) = Unit {0}
-IsReady kind_of phases.Next (Some link) = kind_of link ≡ Some kind.JwtBundles
+IsReady kind_of ask link = IsReadyFor (kind_wanted jwt_bundles) kind_of ask link
 
--- The events other than moments are what the asks, in order, take of what the connector had to
--- yield when it was handed in, and the connector and its link have the rest.
-pub record Yields {S L : Type 0} (members : S → Option (List Member))
-    (answers : L → Option (List Answer)) (rules : Rules) (run : List Event) (asked : Asked S L)
-    (first : List Member) : Type 0 where
-  pub yielded : AllYielded rules first (reverse run)
-  pub rest : Holds members answers (left_after rules first (reverse run)) asked.connector asked.link
+abbrev pub Yields : {S L : Type 0} → (S → Option (List Member)) → (L → Option (List Answer))
+    → Rules → List Event → Asked S L → List Member → Type 0
+Yields members answers rules run asked first =
+    YieldsFor jwt_bundles (ask_of item_in rules) members answers run asked first
 
 -- A turn that went through: one ask, one event more, which is published before the next turn.
 pub record TurnedOnce {S L P M : Type 0} (connector : connectors.Ghosts S L)

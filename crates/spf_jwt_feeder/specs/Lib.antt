@@ -6,4 +6,3 @@ pub mod Kept
 pub mod Opened
 pub mod Orderly
 pub mod Pacing
-pub mod Times

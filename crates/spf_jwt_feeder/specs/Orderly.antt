@@ -1,102 +1,29 @@
 -- What the events of a feeder are: each is what the ask before it yields, or a moment, and none is
 -- terminal.
-use Rattle.std.specs.Prelude.{◌≡◌, Bool, true, false, not, ◌||◌, ◌&&◌, if◌then◌else◌, List, [], ◌∷◌}
-use Rattle.std.specs.Prelude.{◌++◌, None, Some, reverse}
-use Rattle.spf_view.specs.Views.{has_synced}
-use Rattle.spf_feed.specs.declared.event.SessionEvent.TheVariants as events
-use Rattle.spf_feed.specs.declared.phase.Phase.{Phase}
-use Rattle.spf_feed.specs.declared.phase.Phase.TheVariants as phases
-use Rattle.spf_feeder.specs.Asking.{is_client}
+use Rattle.std.specs.Prelude.{◌≡◌, List, [], ◌∷◌, Some}
+use Rattle.spf_feeder.specs.Orderly.{AddsAnswerTo, AreOrderly, AreTimed, AsksTimed, OpensTimed}
+use Rattle.spf_feeder.specs.Orderly.{SyncedTimed}
 use Rattle.spf_jwt_feed.specs.Items.{Event, Rules, item_in, subject}
 use Rattle.spf_jwt_feed.specs.Run.{ask_of, stream}
 use Rattle.spf_jwt_feed.specs.Steps.{MayFollow, PlainStep}
 
-abbrev pub is_moment : Event → Bool
-is_moment (events.Moment m) = true
-is_moment _ = false
-
--- whether an event is one that the ask yields
-abbrev pub does_answer : Phase → Event → Bool
-does_answer phases.Client events.ClientMade = true
-does_answer phases.Client (events.ClientFailed f) = true
-does_answer phases.Connect events.Connected = true
-does_answer phases.Connect (events.ConnectStatus s) = true
-does_answer phases.Next (events.Item i) = true
-does_answer phases.Next (events.ItemStatus s) = true
-does_answer phases.Next events.StreamEnd = true
-does_answer _ _ = false
-
--- an event that may stand after a history
-pub record MayStand (rules : Rules) (past : List Event) (e : Event) : Type 0 where
-  pub fits : (is_moment e || does_answer (ask_of item_in rules past) e) ≡ true
-  pub unrefused : (stream rules).refusal past e ≡ None
-
--- the newest first
 abbrev pub IsOrderly : Rules → List Event → Type 0
-IsOrderly rules [] = Unit {0}
-IsOrderly rules (e ∷ past) = MayStand rules past e × IsOrderly rules past
+IsOrderly rules past = AreOrderly (ask_of item_in rules) (stream rules).refusal past
 
--- one of these is a moment
-abbrev pub has_moment : List Event → Bool
-has_moment [] = false
-has_moment (e ∷ run) = is_moment e || has_moment run
+abbrev pub AddsAnswer : Rules → List Event → List Event → Type 0
+AddsAnswer rules old new = AddsAnswerTo (ask_of item_in rules) old new
 
--- A run goes on without a moment.
-pub record GoesOn (old new : List Event) : Type 0 where
-  pub later : List Event
-  pub run_is : new ≡ old ++ later
-  pub timeless : has_moment later ≡ false
-
--- one event more, which the ask before it yielded
-pub record AddsAnswer (rules : Rules) (old new : List Event) : Type 0 where
-  pub event : Event
-  pub answers : does_answer (ask_of item_in rules (reverse old)) event ≡ true
-  pub run_is : new ≡ old ++ event ∷ []
-
--- ---- the moments of an initial synchronisation
-
-abbrev pub ends_with_moment : List Event → Bool
-ends_with_moment [] = false
-ends_with_moment (e ∷ past) = is_moment e
-
--- whether an event is about a client
-abbrev pub is_of_client : Event → Bool
-is_of_client events.ClientMade = true
-is_of_client (events.ClientFailed f) = true
-is_of_client _ = false
-
--- Until something is accepted one moment stands right before each client made and each client
--- failed, and no moment stands elsewhere: here of an event, by whether the last event before it is
--- a moment, and whether something is accepted.
-abbrev pub is_timed : Bool → Bool → Event → Bool
-is_timed ends synced (events.Moment m) = not (ends || synced)
-is_timed ends synced e = if is_of_client e && not synced then ends else not ends
-
--- the newest first
 abbrev pub IsTimed : Rules → List Event → Type 0
-IsTimed rules [] = Unit {0}
-IsTimed rules (e ∷ past) =
-    (is_timed (ends_with_moment past) (has_synced (subject rules) past) e ≡ true)
-    × IsTimed rules past
+IsTimed rules past = AreTimed (subject rules) past
 
--- nothing is accepted yet, and the moments so far stand where they should: a last one is there only
--- where a client is asked for next
-pub record IsOpening (rules : Rules) (run : List Event) : Type 0 where
-  pub timed : IsTimed rules (reverse run)
-  pub unsynced : has_synced (subject rules) (reverse run) ≡ false
-  pub ends : ends_with_moment (reverse run) ≡ true
-      → is_client (ask_of item_in rules (reverse run)) ≡ true
+abbrev pub IsOpening : Rules → List Event → Type 0
+IsOpening rules run = OpensTimed (subject rules) (ask_of item_in rules) run
 
--- the same, where the last event is a moment exactly if a client is asked for next
-pub record IsAboutToAsk (rules : Rules) (run : List Event) : Type 0 where
-  pub timed : IsTimed rules (reverse run)
-  pub unsynced : has_synced (subject rules) (reverse run) ≡ false
-  pub ends : ends_with_moment (reverse run) ≡ is_client (ask_of item_in rules (reverse run))
+abbrev pub IsAboutToAsk : Rules → List Event → Type 0
+IsAboutToAsk rules run = AsksTimed (subject rules) (ask_of item_in rules) run
 
--- something is accepted, and the moments before it stand where they should; the newest first
-pub record IsSynced (rules : Rules) (past : List Event) : Type 0 where
-  pub timed : IsTimed rules past
-  pub synced : has_synced (subject rules) past ≡ true
+abbrev pub IsSynced : Rules → List Event → Type 0
+IsSynced rules past = SyncedTimed (subject rules) past
 
 -- there is exactly one step, which may be the first of all
 abbrev pub IsOneStep : List PlainStep → Type 0

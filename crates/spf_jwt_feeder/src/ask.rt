@@ -1,98 +1,23 @@
 //! One ask of a connector or of its link, and the event that it yields.
 
-ghost use Rattle.std.specs.Prelude.{◌≡◌, Some, IfOk, is_some, true};
-ghost use Rattle.std.specs.Option.{ForSome};
+ghost use Rattle.std.specs.Prelude.{◌≡◌, Some, true};
 ghost use Rattle.spf_api.specs.declared.response.ResponseKind.TheVariants as kind;
-ghost use Rattle.spf_feeder.specs.Asking.{connect_text, refused_as};
-ghost use Rattle.spf_jwt_feeder.specs.Asking.{Asks, ClientAsked, StreamAsked, ItemAsked};
-ghost use Rattle.spf_jwt_feeder.specs.Asking.{stream_start};
+ghost use Rattle.spf_feeder.specs.Asking.{ItemAsked};
+ghost use Rattle.spf_jwt_feeder.specs.Asking.{Asks, bundles_of};
 ghost use Rattle.spf_jwt_feeder.specs.Fed.{IsReady};
 
-use spf_api::{
-    ClientFault, GrpcStatusCode, GrpcStatusError, LinkFault, Response, TransportConnectError,
-};
+use spf_api::Response;
 use spf_feed::Phase;
-use spf_io::{OutOfMemory, Text};
+use spf_feeder::{ask_client, ask_stream, status_of, stream_headers};
+use spf_io::OutOfMemory;
 use spf_jwt_feed::JwtEvent;
-use spf_link::{Connector, Headers, Link, MetadataAdder, NoInterceptor, Request};
+use spf_link::{Connector, Link, Request};
 use std::alloc::Global;
-
-/// The displayed text of a connection that was lost or never made.
-fn connect_message(alloc: Global, e: &TransportConnectError) -> Result<Text, OutOfMemory>
-    ensures { IfOk result (λ t. t ≡ connect_text e.now) }
-{
-    let source = e.source_text();
-    Ok(Text::new(format!(in alloc; "gRPC transport connection failed: {source}")?))
-}
-
-/// The status that a refusal of a link yields.
-fn status_of(alloc: Global, fault: LinkFault) -> Result<GrpcStatusError, OutOfMemory>
-    ensures { IfOk result (λ s. refused_as fault ≡ Some s) }
-{
-    match fault {
-        LinkFault::Status(status) => Ok(status),
-        LinkFault::Connect(e) => {
-            let message = connect_message(alloc, &e)?;
-            Ok(GrpcStatusError::new(GrpcStatusCode::Unavailable, message))
-        }
-        LinkFault::OutOfMemory => Err(OutOfMemory),
-    }
-}
-
-/// The headers of each `start`.
-fn stream_headers(alloc: Global) -> Result<Headers, OutOfMemory>
-    ensures { IfOk result (λ h. h ≡ stream_start.headers) }
-{
-    let mut headers = Headers::new(alloc);
-    match MetadataAdder::new(NoInterceptor).call(&mut headers) {
-        Ok(()) => Ok(headers),
-        Err(_) => Err(OutOfMemory),
-    }
-}
-
-/// Asks for a client. Its link takes the place of the one before.
-fn ask_client<C: Connector>(
-    connector: &mut C,
-    link: &mut Option<C::Link>,
-) -> Result<JwtEvent, OutOfMemory>
-where
-    C::Link: Drop,
-    ensures { ClientAsked C.Connector C.Link.answers connector.old result connector.new link.new }
-{
-    match connector.connect() {
-        Ok(made) => {
-            *link = Some(made);
-            Ok(JwtEvent::ClientMade)
-        }
-        Err(fault) => {
-            *link = None;
-            match fault {
-                ClientFault::OutOfMemory => Err(OutOfMemory),
-                fault => Ok(JwtEvent::ClientFailed(fault)),
-            }
-        }
-    }
-}
-
-/// Asks the link for a stream of JWT bundles, with these headers.
-fn ask_stream<L: Link>(
-    alloc: Global,
-    link: &mut L,
-    headers: &Headers,
-) -> Result<JwtEvent, OutOfMemory>
-    requires { headers.now ≡ stream_start.headers }
-    ensures { StreamAsked L.Link link.old result link.new }
-{
-    match link.start(headers, &Request::JwtBundles) {
-        Ok(()) => Ok(JwtEvent::Connected),
-        Err(fault) => Ok(JwtEvent::ConnectStatus(status_of(alloc, fault)?)),
-    }
-}
 
 /// Asks the link for the next item of its stream.
 fn ask_item<L: Link>(alloc: Global, link: &mut L) -> Result<JwtEvent, OutOfMemory>
     requires { L.kind link.old ≡ Some kind.JwtBundles }
-    ensures asked { ItemAsked L.Link link.old result link.new }
+    ensures asked { ItemAsked bundles_of L.Link link.old result link.new }
     ensures kind { L.kind link.new ≡ Some kind.JwtBundles }
 {
     match link.next() {
@@ -124,7 +49,7 @@ where
             let Some(asked) = link.as_mut() else {
                 unreachable!()
             };
-            ask_stream(alloc, asked, &headers)
+            ask_stream(alloc, asked, &headers, &Request::JwtBundles)
         }
         Phase::Next => {
             let Some(asked) = link.as_mut() else {

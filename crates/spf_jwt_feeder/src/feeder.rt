@@ -10,8 +10,9 @@ ghost use Rattle.spf_jwt_feeder.specs.Kept.{Advances, Published, core_of, rules_
 ghost use Rattle.spf_jwt_feed.specs.Steps.{HasStep};
 ghost use Rattle.spf_feeder.specs.Asking.{is_client};
 ghost use Rattle.spf_jwt_feeder.specs.Coming.{AllYielded};
-ghost use Rattle.spf_jwt_feeder.specs.Orderly.{GoesOn, IsOrderly};
-ghost use Rattle.spf_jwt_feeder.specs.Orderly as spec;
+ghost use Rattle.spf_feeder.specs.Orderly.{GoesOn};
+ghost use Rattle.spf_jwt_feeder.specs.Orderly.{IsOrderly};
+ghost use Rattle.spf_feeder.specs.Orderly as spec;
 
 use crate::ask::ask;
 use crate::session::{JwtSessionParts, JwtSessionRules, Session};

@@ -6,7 +6,6 @@ mod ask;
 mod attempt;
 mod feeder;
 mod opening;
-mod pace;
 mod received;
 mod session;
 mod supervisor;
@@ -14,7 +13,6 @@ mod synchronisation;
 
 pub use feeder::JwtFeeder;
 pub use opening::{JwtOpening, open_jwt_feeder};
-pub use pace::Pace;
 pub use session::{JwtSessionParts, JwtSessionRules};
 pub use spf_feeder::Stop;
 pub use supervisor::supervise;

@@ -11,7 +11,8 @@ ghost use Rattle.spf_jwt_feed.specs.Steps.{HasStep};
 ghost use Rattle.spf_jwt_feed.specs.Turns.{MayTake, listed};
 ghost use Rattle.spf_jwt_feeder.specs.Kept.{Advances, Published, PublishesTurn, accepts, core_of};
 ghost use Rattle.spf_jwt_feeder.specs.Kept.{rules_of};
-ghost use Rattle.spf_jwt_feeder.specs.Orderly.{IsOrderly, does_answer, is_moment};
+ghost use Rattle.spf_feeder.specs.Orderly.{does_answer, is_moment};
+ghost use Rattle.spf_jwt_feeder.specs.Orderly.{IsOrderly};
 
 use crate::attempt::{end_of, gave_after};
 use crate::received::received_of;

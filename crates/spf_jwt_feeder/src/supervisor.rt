@@ -3,16 +3,17 @@
 ghost use Rattle.std.specs.Prelude.{◌≡◌, false, IfErr, IfNone, IfSome, OnOk};
 ghost use Rattle.spf_jwt_feeder.specs.Fed.{StopsBy};
 ghost use Rattle.spf_jwt_feeder.specs.Kept.{rules_of};
-ghost use Rattle.spf_jwt_feeder.specs.Orderly.{AddsAnswer, GoesOn};
+ghost use Rattle.spf_feeder.specs.Orderly.{GoesOn};
+ghost use Rattle.spf_jwt_feeder.specs.Orderly.{AddsAnswer};
 ghost use Rattle.spf_jwt_feeder.specs.Pacing.{Halted, KeepsPace, PacesOn};
 
 use crate::feeder::JwtFeeder;
-use crate::pace::Pace;
 use rand_core::Rng;
 use spf_close::{Closed, Maker, Watch};
 use spf_feeder::Stop;
 use spf_jwt_feed::{JwtMetricsRecorder, JwtPublisher};
 use spf_link::Connector;
+use spf_pace::Pace;
 use spf_system::Pause;
 use std::sync::Wait;
 

@@ -11,16 +11,16 @@ ghost use Rattle.spf_jwt_feeder.specs.Orderly.{IsAboutToAsk, IsOneStep, IsOpenin
 ghost use Rattle.spf_jwt_feeder.specs.Pacing.{KeepsPace};
 ghost use Rattle.spf_feeder.specs.Times.{TakesMoment};
 ghost use Rattle.spf_feeder.specs.Times as spec;
-ghost use Rattle.spf_jwt_feeder.specs.Times.{Gives};
-ghost use Rattle.spf_jwt_feeder.specs.declared.pace.Pace.{Pace as Paces};
+ghost use Rattle.spf_feeder.specs.Times.{Gives};
+ghost use Rattle.spf_pace.specs.declared.pace.Pace.{Pace as Paces};
 
 use crate::feeder::JwtFeeder;
-use crate::pace::Pace;
 use crate::supervisor::paced_ask;
 use rand_core::Rng;
 use spf_feeder::Stop;
 use spf_jwt_feed::{JwtMetricsRecorder, JwtPublisher};
 use spf_link::Connector;
+use spf_pace::Pace;
 use spf_system::{Clock, Pause};
 use std::sync::Wait;
 use std::time::Duration;

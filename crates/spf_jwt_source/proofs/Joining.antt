@@ -4,7 +4,7 @@ use Rattle.spf_view.specs.Steps.{steps_of}
 use Rattle.spf_jwt_feed.specs.Items.{Event, subject}
 use Rattle.spf_jwt_feed.specs.Steps.{PlainStep}
 use Rattle.spf_jwt_feeder.specs.declared.session.JwtSessionRules.{JwtSessionRules}
-use Rattle.spf_jwt_feeder.specs.declared.pace.Pace.{Pace}
+use Rattle.spf_pace.specs.declared.pace.Pace.{Pace}
 use Rattle.spf_jwt_feeder.specs.Kept.{rules_of}
 use Rattle.spf_jwt_feeder.specs.Orderly.{IsSynced}
 use Rattle.spf_jwt_feeder.specs.Pacing.{KeepsPace}

@@ -5,10 +5,10 @@ use Rattle.spf_close.specs.Marks.{Held}
 use Rattle.spf_link.specs.Connecting.{Member}
 use Rattle.spf_jwt_feed.specs.Items.{Event}
 use Rattle.spf_jwt_feeder.specs.declared.session.JwtSessionRules.{JwtSessionRules}
-use Rattle.spf_jwt_feeder.specs.declared.pace.Pace.{Pace}
+use Rattle.spf_pace.specs.declared.pace.Pace.{Pace}
 use Rattle.spf_jwt_feeder.specs.Coming.{AllYielded}
 use Rattle.spf_jwt_feeder.specs.Kept.{rules_of}
-use Rattle.spf_jwt_feeder.specs.Orderly.{GoesOn}
+use Rattle.spf_feeder.specs.Orderly.{GoesOn}
 use Rattle.spf_jwt_source.specs.Records.{Assigned, IsOf, Recorded}
 
 pub recorded_of_job : {S : Type 0} (members : S → Option (List Member)) (job : Assigned S)

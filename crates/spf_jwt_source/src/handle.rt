@@ -7,10 +7,10 @@ ghost use Rattle.spf_jwt_source.specs.Records.{IsOf, IsRecord};
 ghost use Rattle.spf_jwt_source.specs.Shutdowns.{Shuts, ShutsBy, ShutsConfigured};
 ghost use Rattle.spiffe.specs.Shutdowns.{is_late as spec_is_late};
 
-use crate::closing::Closing;
 use crate::job::JwtJob;
 use crate::record::JwtSupervised;
 use rand_core::Rng;
+use spf_close::Closing;
 use spf_io::OutOfMemory;
 use spf_job::{Job, Joins};
 use spf_jwt_board::JwtPass;

@@ -6,7 +6,8 @@ ghost use Rattle.spf_jwt_source.specs.Records.{IsRecord, recorded_of};
 
 use spf_close::Closed;
 use spf_jwt_feed::{JwtEvent, JwtStep};
-use spf_jwt_feeder::{JwtSessionRules, Pace};
+use spf_jwt_feeder::JwtSessionRules;
+use spf_pace::Pace;
 use spiffe::SupervisorEnd;
 use std::fmt;
 use std::marker::Model;

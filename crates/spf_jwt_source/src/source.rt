@@ -14,9 +14,9 @@ ghost use Rattle.spf_jwt_source.specs.Reads.{BundleAnswer, FetchesLive, Gets, Is
 ghost use Rattle.spf_jwt_source.specs.Reads.{SaysClosed};
 ghost use Rattle.spf_jwt_source.specs.Reads.{Follows, HasPlaceCause, SeesNoLess, TriesBundle};
 
-use crate::closing::{Closing, LastHandle, check_open, look};
+use crate::closing::{check_open, look};
 use crate::updates::JwtSourceUpdates;
-use spf_close::{Bell, Closer, Maker, Watch};
+use spf_close::{Bell, Closer, Closing, LastHandle, Maker, Watch};
 use spf_id::{SpiffeId, TrustDomain};
 use spf_io::{OutOfMemory, Text};
 use spf_jwt::{JwtBundle, JwtBundleSet, JwtSvid};

@@ -14,6 +14,7 @@ use Rattle.spf_feeder.specs.Coming.{AllYielded}
 use Rattle.spf_feeder.specs.Kept.{rules_by}
 use Rattle.spf_feeder.specs.Orderly.{GoesOn, has_moment}
 use Rattle.spf_feeder.specs.Times.{Gives, moments_in}
+use Rattle.spf_feeder.proofs.TimeLemmas.{moments_append}
 use Rattle.spiffe.specs.declared.builder.Settings.{Settings}
 use Rattle.spiffe.specs.Building.{IsAssigned}
 use Rattle.spiffe.specs.Records.{Assigned, IsOf, IsRecord, Recorded}
@@ -34,18 +35,6 @@ no_moments (events.Item i ∷ run) timeless = no_moments run timeless
 no_moments (events.ItemStatus s ∷ run) timeless = no_moments run timeless
 no_moments (events.StreamEnd ∷ run) timeless = no_moments run timeless
 no_moments (events.Close ∷ run) timeless = no_moments run timeless
-
-moments_append : (a b : List Event) → moments_in (a ++ b) ≡ moments_in a ++ moments_in b
-moments_append [] b = refl
-moments_append (events.Moment m ∷ a) b = ap (λ (l : List ℤ). m ∷ l) (moments_append a b)
-moments_append (events.ClientMade ∷ a) b = moments_append a b
-moments_append (events.ClientFailed f ∷ a) b = moments_append a b
-moments_append (events.Connected ∷ a) b = moments_append a b
-moments_append (events.ConnectStatus s ∷ a) b = moments_append a b
-moments_append (events.Item i ∷ a) b = moments_append a b
-moments_append (events.ItemStatus s ∷ a) b = moments_append a b
-moments_append (events.StreamEnd ∷ a) b = moments_append a b
-moments_append (events.Close ∷ a) b = moments_append a b
 
 same_moments : (old new : List Event) → GoesOn old new → moments_in new ≡ moments_in old
 same_moments old new on =

@@ -8,7 +8,7 @@ use Rattle.spf_feed.specs.Steps.{PlainStep}
 use Rattle.spf_feeder.specs.Kept.{rules_by}
 use Rattle.spf_feeder.specs.Orderly.{IsSynced}
 use Rattle.spf_feeder.specs.Pacing.{KeepsPace}
-use Rattle.spf_feeder.specs.declared.pace.Pace.{Pace}
+use Rattle.spf_pace.specs.declared.pace.Pace.{Pace}
 
 pub synced_as : {K : Type 0} (picks : K → List Svid → Option ℕ) (s t : SessionRules)
     (p q : Option K) (run more : List Event) → t ≡ s → q ≡ p → more ≡ run

@@ -15,7 +15,7 @@ use Rattle.spf_feeder.specs.Coming.{AllYielded}
 use Rattle.spf_feeder.specs.Kept.{rules_by}
 use Rattle.spf_feeder.specs.Orderly.{GoesOn, IsOrderly, IsSynced}
 use Rattle.spf_feeder.specs.Pacing.{KeepsPace}
-use Rattle.spf_feeder.specs.declared.pace.Pace.{Pace}
+use Rattle.spf_pace.specs.declared.pace.Pace.{Pace}
 
 -- What a supervisor is given: its board, its closed cell, the run of the initial synchronisation,
 -- the rules, the picker, the bounds of its pauses, and the connector as it was handed in.

@@ -6,10 +6,10 @@ ghost use Rattle.spf_history.specs.Lists.{is_ended, steps_of};
 ghost use Rattle.spiffe.specs.Records.{IsOf, IsRecord};
 ghost use Rattle.spiffe.specs.Shutdowns.{Shuts, ShutsBy, ShutsConfigured, is_late as spec_is_late};
 
-use crate::closing::Closing;
 use crate::job::X509Job;
 use crate::record::Supervised;
 use rand_core::Rng;
+use spf_close::Closing;
 use spf_feed::{MetricsRecorder, SvidPicker, X509SourceError};
 use spf_io::OutOfMemory;
 use spf_job::{Job, Joins};

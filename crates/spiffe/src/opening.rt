@@ -17,19 +17,19 @@ ghost use Rattle.spiffe.specs.Building.{IsBuilt, SyncFails, refused_as, stopped_
 ghost use Rattle.spiffe.specs.Reads.{HasPlaceCause};
 
 use crate::builder::Settings;
-use crate::closing::Closing;
 use crate::job::X509Job;
 use crate::publishing::BoardPublisher;
 use crate::source::X509Source;
 use rand_core::Rng;
 use spf_api::{EndpointError, WorkloadApiError};
-use spf_close::{Bell, Closer, Watch, closed_cell};
+use spf_close::{Bell, Closer, Closing, Watch, closed_cell};
 use spf_feed::{
     MemPublisher, MetricsRecorder, Prepared, Step, SvidPicker, Terminal, X509SourceError,
 };
-use spf_feeder::{Feeder, Opening, Pace, Stop, open_feeder};
+use spf_feeder::{Feeder, Opening, Stop, open_feeder};
 use spf_io::OutOfMemory;
 use spf_link::Connector;
+use spf_pace::Pace;
 use spf_system::{Clock, Pause, StopFlag};
 use spf_x509_board::{Front, Pass, PlaceFault, Places, X509, open};
 use std::alloc::Global;

@@ -6,7 +6,7 @@ ghost use Rattle.spiffe.specs.Records.{IsRecord, recorded_of};
 
 use spf_close::Closed;
 use spf_feed::{Event, SessionRules, Step, SvidPicker};
-use spf_feeder::Pace;
+use spf_pace::Pace;
 use std::fmt;
 use std::marker::Model;
 use std::time::Duration;

@@ -10,9 +10,9 @@ ghost use Rattle.spf_x509_board.specs.States.{IsStateOf};
 ghost use Rattle.spiffe.specs.Reads.{BundleAnswer, BundlesAnswer, Gets, IsHealthy, SaysClosed};
 ghost use Rattle.spiffe.specs.Reads.{Follows, HasPlaceCause, SeesNoLess, Tries, TriesBundle};
 
-use crate::closing::{Closing, LastHandle, check_open, look};
+use crate::closing::{check_open, look};
 use crate::updates::X509SourceUpdates;
-use spf_close::{Bell, Closer, Watch};
+use spf_close::{Bell, Closer, Closing, LastHandle, Watch};
 use spf_feed::{X509SourceError, X509SourceState};
 use spf_id::TrustDomain;
 use spf_io::OutOfMemory;

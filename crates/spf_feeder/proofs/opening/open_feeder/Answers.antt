@@ -2,7 +2,8 @@ use Rattle.std.proofs.Common.{rules, ◌≡◌, [], ◌∷◌, refl, reverse, sy
 use Rattle.spf_view.specs.Steps.{steps_of}
 use Rattle.spf_view.specs.Views.{has_synced}
 use Rattle.spf_feed.specs.declared.event.SessionEvent.TheVariants as events
-use Rattle.spf_feed.specs.Items.{Rules, subject}
+use Rattle.spf_feed.specs.Items.{Rules, context_in, subject}
+use Rattle.spf_feed.specs.Run.{ask_of}
 use Rattle.spf_feeder.specs.Kept.{rules_by}
 use Rattle.spf_feeder.specs.Orderly.{IsOneStep}
 use Rattle.spf_feeder.specs.Pacing.{KeepsPace}
@@ -17,8 +18,8 @@ synchronise-requires-clause-keeps g c =
     let rule : Rules = rules_by g.K.SvidPicker.picks core.settings core.picker in
     let run : core.run ≡ events.Moment c.next_moment-first.result ∷ [] = search rules in
     subst (λ l. KeepsPace rule l c.new-pace.result) (sym run)
-    (passes_on rule [] (events.Moment c.next_moment-first.result) c.new-pace.result refl refl
-    (c.new-pace.ensures.keeps rule))
+    (passes_on (subject rule) (ask_of context_in rule) []
+    (events.Moment c.next_moment-first.result) c.new-pace.result refl refl c.new-pace.ensures.paces)
 
 pub returns-in-Ok-clause-synced : goal.returns-in-Ok-clause-synced
 returns-in-Ok-clause-synced g c =

@@ -1,6 +1,6 @@
 use Rattle.std.proofs.Common.{rules, ◌≡◌, ◌∙◌, sym}
 use Rattle.spf_feeder.specs.Kept.{rules_by}
-use Rattle.spf_feeder.proofs.PaceLemmas.{keeps_as}
+use Rattle.spf_feeder.proofs.FeedLemmas.{keeps_as}
 use Rattle.spf_feeder.proofs.OrderLemmas.{goes_further}
 use Rattle.spf_feeder.proofs.supervisor.supervise.Goals as goal
 

@@ -2,13 +2,14 @@ use Rattle.std.proofs.Common.{rules, ◌≡◌, [], ◌∷◌, refl, reverse, sy
 use Rattle.spf_view.specs.Steps.{steps_of}
 use Rattle.spf_view.specs.Views.{has_synced}
 use Rattle.spf_feed.specs.declared.event.SessionEvent.TheVariants as events
-use Rattle.spf_jwt_feed.specs.Items.{Rules, subject}
+use Rattle.spf_jwt_feed.specs.Items.{Rules, item_in, subject}
+use Rattle.spf_jwt_feed.specs.Run.{ask_of}
 use Rattle.spf_jwt_feeder.specs.Kept.{rules_of}
 use Rattle.spf_jwt_feeder.specs.Orderly.{IsOneStep}
 use Rattle.spf_jwt_feeder.specs.Pacing.{KeepsPace}
 use Rattle.spf_jwt_feeder.proofs.FeedLemmas.{stops_as}
-use Rattle.spf_jwt_feeder.proofs.PaceLemmas.{passes_on}
-use Rattle.spf_jwt_feeder.proofs.TimeLemmas.{gives_moment, gives_more}
+use Rattle.spf_feeder.proofs.PaceLemmas.{passes_on}
+use Rattle.spf_feeder.proofs.TimeLemmas.{gives_moment, gives_more}
 use Rattle.spf_jwt_feeder.proofs.opening.open_jwt_feeder.Goals as goal
 
 pub synchronise-requires-clause-keeps : goal.synchronise-requires-clause-keeps
@@ -17,8 +18,8 @@ synchronise-requires-clause-keeps g c =
     let rule : Rules = rules_of core.settings in
     let run : core.run ≡ events.Moment c.next_moment-first.result ∷ [] = search rules in
     subst (λ l. KeepsPace rule l c.new-pace.result) (sym run)
-    (passes_on rule [] (events.Moment c.next_moment-first.result) c.new-pace.result refl refl
-    (c.new-pace.ensures.keeps rule))
+    (passes_on (subject rule) (ask_of item_in rule) []
+    (events.Moment c.next_moment-first.result) c.new-pace.result refl refl c.new-pace.ensures.paces)
 
 pub returns-in-Ok-clause-synced : goal.returns-in-Ok-clause-synced
 returns-in-Ok-clause-synced g c =

@@ -1,7 +1,7 @@
 use Rattle.std.proofs.Common.{rules, ◌≡◌, ◌∙◌, sym}
 use Rattle.spf_jwt_feeder.specs.Kept.{rules_of}
-use Rattle.spf_jwt_feeder.proofs.PaceLemmas.{keeps_as}
-use Rattle.spf_jwt_feeder.proofs.OrderLemmas.{goes_further}
+use Rattle.spf_jwt_feeder.proofs.FeedLemmas.{keeps_as}
+use Rattle.spf_feeder.proofs.OrderLemmas.{goes_further}
 use Rattle.spf_jwt_feeder.proofs.supervisor.supervise.Goals as goal
 
 pub returns-in-Err-clause-goes_on : goal.returns-in-Err-clause-goes_on

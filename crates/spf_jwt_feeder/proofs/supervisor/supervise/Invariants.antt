@@ -1,6 +1,6 @@
 use Rattle.std.proofs.Common.{◌≡◌, false}
 use Rattle.spf_jwt_feeder.specs.Kept.{rules_of}
-use Rattle.spf_jwt_feeder.specs.Orderly.{GoesOn}
+use Rattle.spf_feeder.specs.Orderly.{GoesOn}
 use Rattle.spf_jwt_feeder.specs.Pacing.{KeepsPace}
 use Rattle.spf_jwt_feeder.proofs.supervisor.supervise.Given as goal
 

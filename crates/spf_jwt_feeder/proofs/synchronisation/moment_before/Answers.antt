@@ -1,6 +1,6 @@
 use Rattle.std.proofs.Common.{rules, ◌≡◌, [], ◌∷◌, ◌++◌}
 use Rattle.spf_feed.specs.declared.event.SessionEvent.TheVariants as events
-use Rattle.spf_jwt_feeder.proofs.TimeLemmas.{gives_moment}
+use Rattle.spf_feeder.proofs.TimeLemmas.{gives_moment}
 use Rattle.spf_jwt_feeder.proofs.synchronisation.moment_before.Goals as goal
 
 pub returns-in-Ok-clause-clock : goal.returns-in-Ok-clause-clock

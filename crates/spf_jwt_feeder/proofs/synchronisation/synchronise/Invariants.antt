@@ -2,7 +2,7 @@ use Rattle.std.proofs.Common.{◌≡◌, false}
 use Rattle.spf_jwt_feeder.specs.Kept.{rules_of}
 use Rattle.spf_jwt_feeder.specs.Orderly.{IsOpening}
 use Rattle.spf_jwt_feeder.specs.Pacing.{KeepsPace}
-use Rattle.spf_jwt_feeder.specs.Times.{Gives}
+use Rattle.spf_feeder.specs.Times.{Gives}
 use Rattle.spf_jwt_feeder.proofs.synchronisation.synchronise.Given as goal
 
 abbrev pub invariant-asks : goal.invariant-asks

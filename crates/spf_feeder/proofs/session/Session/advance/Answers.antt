@@ -4,7 +4,7 @@ use Rattle.spf_feed.specs.Items.{Rules, rules_with}
 use Rattle.std.proofs.Common.{true, reverse}
 use Rattle.std.specs.Prelude.{◌||◌}
 use Rattle.spf_feed.specs.Items.{context_in}
-use Rattle.spf_feed.specs.Run.{ask_of}
+use Rattle.spf_feed.specs.Run.{ask_of, stream}
 use Rattle.spf_feeder.specs.Kept.{Published, rules_by}
 use Rattle.spf_feeder.specs.Orderly.{IsOrderly, does_answer, is_moment}
 use Rattle.spf_feeder.proofs.OrderLemmas.{orderly_more}
@@ -47,7 +47,8 @@ invariant_of-self-in_err-record_all g c =
           done.published,
       λ f. absurd cc,
       subst (λ run. IsOrderly rule (reverse run)) (sym items)
-          (orderly_more rule before.events.items c.args.event
+          (orderly_more (ask_of context_in rule) (stream rule).refusal before.events.items
+          c.args.event
           (subst (λ core.
           (is_moment c.args.event || does_answer (ask_of context_in
           (rules_by g.K.SvidPicker.picks core.settings core.picker) (reverse core.run))
@@ -92,7 +93,8 @@ invariant_of-self-2 g c =
           done.published,
       λ f. going_at rule _ _ _ _ _ _ _ items done.going,
       subst (λ run. IsOrderly rule (reverse run)) (sym items)
-          (orderly_more rule before.events.items c.args.event
+          (orderly_more (ask_of context_in rule) (stream rule).refusal before.events.items
+          c.args.event
           (subst (λ core.
           (is_moment c.args.event || does_answer (ask_of context_in
           (rules_by g.K.SvidPicker.picks core.settings core.picker) (reverse core.run))

@@ -3,7 +3,7 @@ use Rattle.spf_jwt_feed.specs.Items.{Rules}
 use Rattle.spf_jwt_feeder.specs.Kept.{rules_of}
 use Rattle.spf_jwt_feeder.proofs.FeedLemmas.{stops_by, ready_of, stays_idle, yields_of}
 use Rattle.spf_jwt_feeder.proofs.FeedLemmas.{turned_of, unyielded_of}
-use Rattle.spf_jwt_feeder.proofs.OrderLemmas.{turn_goes}
+use Rattle.spf_jwt_feeder.proofs.TurnLemmas.{turn_goes}
 use Rattle.spf_jwt_feeder.proofs.feeder.JwtFeeder.ask_once.Goals as goal
 
 pub returns-then-is_stuck-clause-turn : goal.returns-then-is_stuck-clause-turn

@@ -4,10 +4,11 @@ use Rattle.spf_jwt_feed.specs.Items.{Rules}
 use Rattle.std.proofs.Common.{true, reverse}
 use Rattle.std.specs.Prelude.{◌||◌}
 use Rattle.spf_jwt_feed.specs.Items.{item_in}
-use Rattle.spf_jwt_feed.specs.Run.{ask_of}
+use Rattle.spf_jwt_feed.specs.Run.{ask_of, stream}
 use Rattle.spf_jwt_feeder.specs.Kept.{Published, rules_of}
-use Rattle.spf_jwt_feeder.specs.Orderly.{IsOrderly, does_answer, is_moment}
-use Rattle.spf_jwt_feeder.proofs.OrderLemmas.{orderly_more}
+use Rattle.spf_feeder.specs.Orderly.{does_answer, is_moment}
+use Rattle.spf_jwt_feeder.specs.Orderly.{IsOrderly}
+use Rattle.spf_feeder.proofs.OrderLemmas.{orderly_more}
 use Rattle.spf_jwt_feeder.proofs.RunLemmas.{advanced_by, advanced_of, going_at}
 use Rattle.spf_jwt_feeder.proofs.RunLemmas.{refused_by, refused_of}
 use Rattle.spf_jwt_feeder.proofs.session.Session.advance.Goals as goal
@@ -42,7 +43,8 @@ invariant_of-self-in_err-record_all g c =
           done.published,
       λ f. absurd cc,
       subst (λ run. IsOrderly rule (reverse run)) (sym items)
-          (orderly_more rule before.events.items c.args.event
+          (orderly_more (ask_of item_in rule) (stream rule).refusal before.events.items
+          c.args.event
           (subst (λ core.
           (is_moment c.args.event || does_answer (ask_of item_in
           (rules_of core.settings) (reverse core.run))
@@ -82,7 +84,8 @@ invariant_of-self-2 g c =
           done.published,
       λ f. going_at rule _ _ _ _ _ _ items done.going,
       subst (λ run. IsOrderly rule (reverse run)) (sym items)
-          (orderly_more rule before.events.items c.args.event
+          (orderly_more (ask_of item_in rule) (stream rule).refusal before.events.items
+          c.args.event
           (subst (λ core.
           (is_moment c.args.event || does_answer (ask_of item_in
           (rules_of core.settings) (reverse core.run))

@@ -1,6 +1,6 @@
 use Rattle.std.proofs.Common.{[], sym, ap, ◌∙◌, subst}
 use Rattle.spf_feeder.specs.Opened.{HasDeadline}
-use Rattle.spf_jwt_feeder.specs.Times.{Gives}
+use Rattle.spf_feeder.specs.Times.{Gives}
 use Rattle.spf_jwt_source.specs.Building.{IsBuilt}
 use Rattle.spf_jwt_source.proofs.Joining.{synced_as}
 use Rattle.spf_jwt_source.proofs.builder.JwtSourceBuilder.prepare.Goals as goal

@@ -1,0 +1,83 @@
+//! What a handle closes its source by.
+
+ghost use Rattle.std.specs.Prelude.{◌≡◌, IfOk};
+ghost use Rattle.spf_close.specs.declared.maker.Maker.TheVariants as makers;
+
+use crate::bell::Bell;
+use crate::cell::Closer;
+use spf_io::OutOfMemory;
+use spf_system::StopFlag;
+use std::alloc::Global;
+use std::marker::Model;
+
+/// Closes a source in the name of a caller, ends the waits of its supervisor, and wakes those who
+/// wait for a change.
+#[derive(Drop)]
+pub struct Closing {
+    closer: Closer,
+    stop: StopFlag,
+    bell: Bell,
+}
+
+impl Model for Closing {
+    ghost use Rattle.std.specs.Prelude.{◌≡◌, ℕ};
+    ghost use Rattle.spf_close.specs.declared.maker.Maker.TheVariants as makers;
+
+    ghost Value = { ℕ };
+
+    ghost view = { λ c. c.closer.cell };
+
+    ghost invariant = { λ c. c.closer.maker ≡ makers.Caller };
+}
+
+impl Closing {
+    /// Of a caller's closer: what it stops waits with, and what it rings.
+    pub fn new(closer: Closer, stop: StopFlag, bell: Bell) -> Closing
+        requires { closer.maker ≡ makers.Caller }
+        ensures { result ≡ closer.cell }
+    {
+        Closing { closer, stop, bell }
+    }
+
+    pub fn close(&mut self)
+        ensures { self.new ≡ self.old }
+    {
+        self.closer.close();
+        self.stop.set();
+        self.bell.ring();
+    }
+
+    /// What it rings.
+    pub fn bell(&self) -> Result<Bell, OutOfMemory> {
+        self.bell.try_clone()
+    }
+
+    pub fn another(&mut self, alloc: Global) -> Result<Closing, OutOfMemory>
+        ensures unchanged { self.new ≡ self.old }
+        ensures same { IfOk result (λ c. c ≡ self.old) }
+    {
+        Ok(Closing {
+            closer: self.closer.another(alloc)?,
+            stop: self.stop.try_clone()?,
+            bell: self.bell.try_clone()?,
+        })
+    }
+}
+
+/// Closes a source once no handle of it is left.
+pub struct LastHandle {
+    closing: Closing,
+}
+
+impl LastHandle {
+    pub fn new(closing: Closing) -> LastHandle {
+        LastHandle { closing }
+    }
+}
+
+impl Drop for LastHandle {
+    fn drop(self) {
+        let LastHandle { mut closing } = self;
+        closing.close();
+    }
+}
