@@ -23,10 +23,13 @@ use Rattle.spf_feeder.specs.Asking.{Asked, Asks, AsksOnce, contexts}
 use Rattle.spf_feeder.specs.Coming.{AllYielded, Holds, left_after}
 use Rattle.spf_feeder.specs.Fed.{Fed, IsReady, StopsBy, Yields, TurnedAway, Turns}
 use Rattle.spf_feeder.specs.Kept.{Advances, Core, rules_by}
-use Rattle.spf_feeder.specs.Orderly.{IsOneStep}
+use Rattle.spf_feeder.specs.Orderly.{AddsAnswer, IsAboutToAsk, IsOneStep, IsOpening, IsSynced}
+use Rattle.spf_feeder.specs.Orderly.{IsTimed}
+use Rattle.spf_feeder.specs.Orderly.{GoesOn}
 use Rattle.spf_feeder.specs.Pacing.{KeepsPace}
 use Rattle.spf_pace.specs.declared.pace.Pace.{Pace}
 use Rattle.spf_feed.specs.Steps.{Accept, Material, PlainStep, fits}
+use Rattle.spf_feeder.proofs.OrderLemmas.{about_timed, ends_unmoved, synced_on}
 use Rattle.spf_feeder.proofs.YieldLemmas.{FollowsEvents, ready_more, yields_more}
 
 -- an ask that yielded an event was made
@@ -185,6 +188,18 @@ if_some : {X : Type 0} (o : Option X) (P Q : X → Type 0) → ((x : X) → P x 
 if_some None P Q f h = tt
 if_some (Some x) P Q f h = f x h
 
+yields_once : {S L : Type 0} (connector : connectors.Ghosts S L) (link : links.Ghosts L)
+    (rules : Rules) (run : List Event) (old new : Asked S L) (e : Event) (first : List Member)
+    → AsksOnce {E = OutOfMemory} connector link (ask_of context_in rules (reverse run)) old (Ok e) new
+    → IsReady link.kind (ask_of context_in rules (reverse run)) old.link
+    → Yields connector.members link.answers rules run old first
+    → Yields connector.members link.answers rules (run ++ e ∷ []) new first
+unfolding AllYielded left_after
+yields_once connector link rules run old new e first once ready yields =
+    let more = yields_more OutOfMemory contexts (ask_of context_in rules) connector link run old new e first
+    once ready yields.yielded yields.rest in
+    record { yielded = more.0; rest = more.1 }
+
 pub yields_of : {S L P M K : Type 0} (connector : connectors.Ghosts S L) (link : links.Ghosts L)
     (records : M → Option (List MetricsRecord)) (rules later : Rules) (before after : Core P M K)
     (old new : Asked S L) (e : Event) (r : Result (Option AttemptEnd) Stop) (ask : Phase)
@@ -205,8 +220,7 @@ yields_of connector link records rules later before after old new e r ask first 
     (λ f t.
     subst (λ x. Yields connector.members link.answers x after.run new f) (sym same)
     (subst (λ l. Yields connector.members link.answers rules l new f) (sym run)
-    (yields_more OutOfMemory contexts (ask_of context_in rules) connector link before.run old new e
-    f once ready t))) yields
+    (yields_once connector link rules before.run old new e f once ready t))) yields
 
 -- ---- a terminal event
 
@@ -244,6 +258,7 @@ pub yields_still : {S L P M K : Type 0} (members : S → Option (List Member))
     → Advances records rules before (events.Moment m) r after → later ≡ rules
     → IfSome first (Yields members answers rules before.run asked) → after.stuck ≡ false
     → IfSome first (Yields members answers later after.run asked)
+unfolding AllYielded left_after
 yields_still members answers records rules later before after m r asked first h same yields going =
     let run = ran records rules before after (events.Moment m) r h going in
     let more = sym (last_first before.run (events.Moment m)) in
@@ -262,6 +277,30 @@ yields_still members answers records rules later before after m r asked first h 
 pub keeps_as : (rules seen : Rules) (run : List Event) (pace : Pace) → rules ≡ seen
     → KeepsPace rules run pace → KeepsPace seen run pace
 keeps_as rules seen run pace same keeps = subst (λ r. KeepsPace r run pace) same keeps
+
+-- ---- the moments
+
+pub timed_after : (rules : Rules) (run run' : List Event) → IsAboutToAsk rules run
+    → AddsAnswer rules run run' → IsTimed rules (reverse run')
+unfolding IsTimed
+timed_after rules run run' h adds =
+    about_timed (subject rules) (ask_of context_in rules) run run' h.timed h.unsynced h.ends adds
+
+pub opening_after : (rules : Rules) (run run' : List Event) → IsAboutToAsk rules run
+    → AddsAnswer rules run run' → has_synced (subject rules) (reverse run') ≡ false
+    → IsOpening rules run'
+opening_after rules run run' h adds unsynced = record {
+  timed = timed_after rules run run' h adds;
+  unsynced = unsynced;
+  ends = ends_unmoved (ask_of context_in rules) run run' adds;
+}
+
+pub synced_after : (rules : Rules) (old new : List Event) → GoesOn old new
+    → IsSynced rules (reverse old) → IsSynced rules (reverse new)
+unfolding IsTimed
+synced_after rules old new on at =
+    let after = synced_on (subject rules) old new (λ m. refl) on (at.timed, at.synced) in
+    record { timed = after.0; synced = after.1 }
 
 pub one_step : (rules : Rules) {steps : List PlainStep}
     → (m : Material) × (steps ≡ Accept m rules.limits ∷ []) × IsTrue (fits rules.limits m)

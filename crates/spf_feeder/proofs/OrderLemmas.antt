@@ -21,9 +21,8 @@ use Rattle.spf_feed.specs.declared.phase.Phase.{Phase}
 use Rattle.spf_feed.specs.declared.phase.Phase.TheVariants as phases
 use Rattle.spf_feeder.specs.Asking.{Asked, AsksOnceFor, Wanted, is_client, refused_as}
 use Rattle.spf_feeder.specs.Asking.{yielded_by_connect, yielded_by_next, yielded_by_start}
-use Rattle.spf_feeder.specs.Orderly.{AddsAnswerTo, AreOrderly, AreTimed, AsksTimed, GoesOn}
-use Rattle.spf_feeder.specs.Orderly.{OpensTimed, SyncedTimed, does_answer, ends_with_moment}
-use Rattle.spf_feeder.specs.Orderly.{has_moment, is_moment, is_timed}
+use Rattle.spf_feeder.specs.Orderly.{AddsAnswerTo, AreOrderly, AreTimed, GoesOn, does_answer}
+use Rattle.spf_feeder.specs.Orderly.{ends_with_moment, has_moment, is_moment, is_timed}
 
 -- ---- what is yielded answers the ask
 
@@ -178,32 +177,31 @@ timed_answer phases.Next (events.Moment x) ends synced none is h = absurd cc
 timed_answer phases.Next events.Close ends synced none is h = absurd cc
 
 pub about_timed : {I M L D : Type 0} (s : Subject (SessionEvent I) M L D)
-    (ask : List (SessionEvent I) → Phase) (run run' : List (SessionEvent I)) → AsksTimed s ask run
-    → AddsAnswerTo ask run run' → AreTimed s (reverse run')
-about_timed s ask run run' h k =
+    (ask : List (SessionEvent I) → Phase) (run run' : List (SessionEvent I))
+    → AreTimed s (reverse run) → has_synced s (reverse run) ≡ false
+    → ends_with_moment (reverse run) ≡ is_client (ask (reverse run)) → AddsAnswerTo ask run run'
+    → AreTimed s (reverse run')
+about_timed s ask run run' timed unsynced ends k =
     let past = reverse run in
     subst (λ l. AreTimed s (reverse l)) (sym k.run_is)
     (subst (AreTimed s) (sym (last_first run k.event)) (
-      timed_answer (ask past) k.event (ends_with_moment past) (has_synced s past) h.unsynced h.ends
+      timed_answer (ask past) k.event (ends_with_moment past) (has_synced s past) unsynced ends
           k.answers,
-      h.timed,
+      timed,
     ))
 
 no_longer : {X : Type 0} (b : Bool) → b ≡ false → b ≡ true → X
 no_longer true f t = absurd cc
 no_longer false f t = absurd cc
 
-pub about_opening : {I M L D : Type 0} (s : Subject (SessionEvent I) M L D)
-    (ask : List (SessionEvent I) → Phase) (run run' : List (SessionEvent I)) → AsksTimed s ask run
-    → AddsAnswerTo ask run run' → has_synced s (reverse run') ≡ false → OpensTimed s ask run'
-about_opening s ask run run' h k none = record {
-  timed = about_timed s ask run run' h k;
-  unsynced = none;
-  ends = λ t. no_longer (ends_with_moment (reverse run'))
-      (ap (λ l. ends_with_moment (reverse l)) k.run_is
-      ∙ ap ends_with_moment (last_first run k.event)
-      ∙ no_moment (ask (reverse run)) k.event k.answers) t;
-}
+-- an answer is no moment
+pub ends_unmoved : {I : Type 0} (ask : List (SessionEvent I) → Phase)
+    (run run' : List (SessionEvent I)) → AddsAnswerTo ask run run'
+    → ends_with_moment (reverse run') ≡ true → is_client (ask (reverse run')) ≡ true
+ends_unmoved ask run run' k t =
+    no_longer (ends_with_moment (reverse run'))
+    (ap (λ l. ends_with_moment (reverse l)) k.run_is ∙ ap ends_with_moment (last_first run k.event)
+    ∙ no_moment (ask (reverse run)) k.event k.answers) t
 
 -- ---- a run that is synchronised goes on
 
@@ -264,17 +262,22 @@ ends_not s (events.Moment m ∷ past) unread timed synced =
     not_both false true h k = cc
     not_both false false h k = cc
 
+-- something is accepted, and the moments stand where they should; the newest first
+abbrev pub SyncedTimed : {I M L D : Type 0} → Subject (SessionEvent I) M L D
+    → List (SessionEvent I) → Type 0
+SyncedTimed s past = AreTimed s past × (has_synced s past ≡ true)
+
 synced_more : {I M L D : Type 0} (s : Subject (SessionEvent I) M L D)
     (past : List (SessionEvent I)) (e : SessionEvent I) → NoMomentIsRead s → is_moment e ≡ false
     → SyncedTimed s past → SyncedTimed s (e ∷ past)
-synced_more s past e unread h at = record {
-  timed = (
-    timed_later e (ends_with_moment past) (has_synced s past)
-        (ends_not s past unread at.timed at.synced) at.synced h,
-    at.timed,
-  );
-  synced = or_right _ (has_synced s past) at.synced;
-}
+synced_more s past e unread h (timed, synced) = (
+  (
+    timed_later e (ends_with_moment past) (has_synced s past) (ends_not s past unread timed synced)
+        synced h,
+    timed,
+  ),
+  or_right _ (has_synced s past) synced,
+)
 
 synced_later : {I M L D : Type 0} (s : Subject (SessionEvent I) M L D)
     (run later : List (SessionEvent I)) → NoMomentIsRead s → has_moment later ≡ false

@@ -53,7 +53,7 @@ taken (Some x ∷ old) new m h =
 
 pub gives_moment : {I : Type 0} (old new : Option (List (Option ℤ))) (m : ℤ)
     (run run' : List (SessionEvent I)) → TakesMoment old new m → run' ≡ run ++ events.Moment m ∷ []
-        → Gives old new run run'
+    → Gives old new run run'
 gives_moment None new m run run' h is = tt
 gives_moment (Some old) None m run run' h is = absurd h
 gives_moment (Some old) (Some new) m run run' h is =

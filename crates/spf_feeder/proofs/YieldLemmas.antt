@@ -25,7 +25,7 @@ use Rattle.spf_feeder.specs.Asking.{Asked, AsksOnceFor, Wanted, refused_as, yiel
 use Rattle.spf_feeder.specs.Asking.{kind_wanted, yielded_by_next, yielded_by_start}
 use Rattle.spf_feeder.specs.Coming.{AllYieldedBy, Coming, Holds, IsYielded, LinkHolds, answers_in}
 use Rattle.spf_feeder.specs.Coming.{left_after_by, left_at, yielded_at}
-use Rattle.spf_feeder.specs.Fed.{IsReadyFor, YieldsFor}
+use Rattle.spf_feeder.specs.Fed.{IsReadyFor}
 
 -- a fact of what a call that went through gave
 pub if_ok : {T E : Type 0} (q : Result T E) (P : T → Type 0) → ((x : T) → q ≡ Ok x → P x) → IfOk q P
@@ -53,7 +53,7 @@ connect_yielded answers members new (Err (client.Unreachable t)) e c yielded =
 -- what a call of the link yields, and what it leaves
 link_yielded : {I T : Type 0} (coming : List Answer) (new : Option (List Answer))
     (by : List Answer → Result T LinkFault) (event_of : Result T LinkFault → Option (SessionEvent
-        I))
+    I))
     (answer : Result T LinkFault) (e : SessionEvent I) → Takes (Some coming) new by answer
     → (event_of (Err fault.OutOfMemory) ≡ None) → event_of answer ≡ Some e
     → (new ≡ Some (rest_of coming)) × (event_of (by coming) ≡ Some e)
@@ -106,7 +106,7 @@ yielded_rest {I} {S} {L} E wanted connector link phases.Next old new e coming h 
     let kind_is : link.kind h.before ≡ Some (kind_wanted wanted) =
     subst (λ (l : Option L). IsReadyFor (kind_wanted wanted) link.kind phases.Next l) h.was ready in
     let yielded = link_yielded coming.answers (link.answers h.after) (next_by (Some (kind_wanted
-        wanted)))
+    wanted)))
     (yielded_by_next wanted.item) h.asked.answer e
     (subst (λ k. Takes (Some coming.answers) (link.answers h.after) (next_by k) h.asked.answer)
     kind_is
@@ -167,7 +167,7 @@ yielded_asked {I} wanted phases.Connect coming e h =
     sym (ap all_asked h) ∙ start_asked I (started_by coming.answers)
 yielded_asked wanted phases.Next coming e h =
     sym (ap all_asked h) ∙ next_asked wanted.item (next_by (Some (kind_wanted wanted))
-        coming.answers)
+    coming.answers)
 
 left_more : {I : Type 0} (ask : List (SessionEvent I) → Phase) (members : List Member)
     (past : List (SessionEvent I)) (e : SessionEvent I) → is_asked e ≡ true
@@ -204,24 +204,26 @@ pub yields_more : {I S L : Type 0} (E : Type 0) (wanted : Wanted I)
     (e : SessionEvent I) (first : List Member)
     → AsksOnceFor {E = E} wanted connector link (ask (reverse run)) old (Ok e) new
     → IsReadyFor (kind_wanted wanted) link.kind (ask (reverse run)) old.link
-    → YieldsFor wanted ask connector.members link.answers run old first
-    → YieldsFor wanted ask connector.members link.answers (run ++ e ∷ []) new first
-yields_more E wanted ask connector link run old new e first h ready yields =
+    → AllYieldedBy wanted ask first (reverse run)
+    → Holds connector.members link.answers (left_after_by ask first (reverse run)) old.connector
+    old.link
+    → AllYieldedBy wanted ask first (reverse (run ++ e ∷ []))
+    × Holds connector.members link.answers (left_after_by ask first (reverse (run ++ e ∷ [])))
+    new.connector new.link
+yields_more E wanted ask connector link run old new e first h ready yielded holds =
     let past = reverse run in
     let coming = left_after_by ask first past in
-    let rest = yielded_rest E wanted connector link (ask past) old new e coming h ready
-    yields.rest in
+    let rest = yielded_rest E wanted connector link (ask past) old new e coming h ready holds in
     let left = left_more ask first past e (yielded_asked wanted (ask past) coming e rest.0) in
-    let more = sym (last_first run e) in
-    record {
-      yielded = subst (AllYieldedBy wanted ask first) more
-          (yielded_more wanted ask first past e rest.0, yields.yielded);
-      rest = subst (λ l.
+    let more = sym (last_first run e) in (
+      subst (AllYieldedBy wanted ask first) more
+          (yielded_more wanted ask first past e rest.0, yielded),
+      subst (λ l.
           Holds connector.members link.answers (left_after_by ask first l) new.connector new.link)
           more
           (subst (λ c. Holds connector.members link.answers c new.connector new.link) (sym left)
-          rest.1);
-    }
+          rest.1),
+    )
 
 -- ---- where the link is asked next, it is there
 
@@ -313,7 +315,7 @@ ready_next {I} wanted ask link past (Ok (Some r)) after e goes yielded k =
         let same : events.Item i ≡ e = cc in
         subst (λ x. IsReadyFor (kind_wanted wanted) link.kind (ask (x ∷ past)) (Some after)) same
         (subst (λ p. IsReadyFor (kind_wanted wanted) link.kind p (Some after)) (sym (goes.item past
-            i))
+        i))
         (ready_item (kind_wanted wanted) link.kind after (goes.keeps past i) k))
 ready_next wanted ask link past (Err f) after e goes yielded k =
     ready_refused (kind_wanted wanted) ask link past events.ItemStatus (refused_as f) (Some after) e

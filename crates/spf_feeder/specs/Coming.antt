@@ -79,8 +79,8 @@ pub record Holds {S L : Type 0} (members : S → Option (List Member))
 
 -- ---- of an X.509 session
 
-abbrev pub left_after : Rules → List Member → List Event → Coming
+unfoldable pub left_after : Rules → List Member → List Event → Coming
 left_after rules members past = left_after_by (ask_of context_in rules) members past
 
-abbrev pub AllYielded : Rules → List Member → List Event → Type 0
+unfoldable pub AllYielded : Rules → List Member → List Event → Type 0
 AllYielded rules members past = AllYieldedBy contexts (ask_of context_in rules) members past

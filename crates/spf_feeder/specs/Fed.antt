@@ -8,7 +8,6 @@ use Rattle.spf_link.specs.declared.answer.Answer.{Answer}
 use Rattle.spf_link.specs.declared.connector.Connector as connectors
 use Rattle.spf_link.specs.declared.link.Link as links
 use Rattle.spf_pace.specs.declared.pacer.AttemptEnd.{AttemptEnd}
-use Rattle.spf_feed.specs.declared.event.SessionEvent.{SessionEvent}
 use Rattle.spf_feed.specs.declared.phase.Phase.{Phase}
 use Rattle.spf_feed.specs.declared.phase.Phase.TheVariants as phases
 use Rattle.spf_feed.specs.declared.record.MetricsRecord.{MetricsRecord}
@@ -16,9 +15,9 @@ use Rattle.spf_feed.specs.Items.{Event, Rules, context_in}
 use Rattle.spf_feed.specs.Run.{ask_of, stream}
 use Rattle.spf_feeder.specs.declared.session.Stop.{Stop}
 use Rattle.spf_feeder.specs.declared.session.Stop.TheVariants as stops
-use Rattle.spf_feeder.specs.Asking.{Asked, AsksOnce, Wanted, contexts}
+use Rattle.spf_feeder.specs.Asking.{Asked, AsksOnce, contexts}
 use Rattle.spf_feeder.specs.Asking.{kind_wanted}
-use Rattle.spf_feeder.specs.Coming.{AllYieldedBy, Holds, left_after_by}
+use Rattle.spf_feeder.specs.Coming.{AllYielded, Holds, left_after}
 use Rattle.spf_feeder.specs.Kept.{Advanced, Core}
 
 -- What contracts see of a feeder.
@@ -44,24 +43,18 @@ IsReadyFor kind kind_of ask None = ⊥
 IsReadyFor kind kind_of phases.Connect (Some link) = Unit {0}
 IsReadyFor kind kind_of phases.Next (Some link) = kind_of link ≡ Some kind
 
--- The events other than moments are what the asks, in order, take of what the connector had to
--- yield when it was handed in, and the connector and its link have the rest.
-pub record YieldsFor {I S L : Type 0} (wanted : Wanted I) (ask : List (SessionEvent I) → Phase)
-    (members : S → Option (List Member)) (answers : L → Option (List Answer))
-    (run : List (SessionEvent I)) (asked : Asked S L) (first : List Member) : Type 0 where
-  pub yielded : AllYieldedBy wanted ask first (reverse run)
-  pub rest : Holds members answers (left_after_by ask first (reverse run)) asked.connector
-      asked.link
-
 -- ---- of an X.509 session
 
 abbrev pub IsReady : {L : Type 0} → (L → Option ResponseKind) → Phase → Option L → Type 0
 IsReady kind_of ask link = IsReadyFor (kind_wanted contexts) kind_of ask link
 
-abbrev pub Yields : {S L : Type 0} → (S → Option (List Member)) → (L → Option (List Answer))
-    → Rules → List Event → Asked S L → List Member → Type 0
-Yields members answers rules run asked first =
-    YieldsFor contexts (ask_of context_in rules) members answers run asked first
+-- The events other than moments are what the asks, in order, take of what the connector had to
+-- yield when it was handed in, and the connector and its link have the rest.
+pub record Yields {S L : Type 0} (members : S → Option (List Member))
+    (answers : L → Option (List Answer)) (rules : Rules) (run : List Event) (asked : Asked S L)
+    (first : List Member) : Type 0 where
+  pub yielded : AllYielded rules first (reverse run)
+  pub rest : Holds members answers (left_after rules first (reverse run)) asked.connector asked.link
 
 -- A turn that went through: one ask, one event more, which is published before the next turn.
 pub record TurnedOnce {S L P M K : Type 0} (connector : connectors.Ghosts S L)

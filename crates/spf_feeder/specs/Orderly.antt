@@ -84,46 +84,35 @@ AreTimed s [] = Unit {0}
 AreTimed s (e ∷ past) =
     (is_timed (ends_with_moment past) (has_synced s past) e ≡ true) × AreTimed s past
 
--- nothing is accepted yet, and the moments so far stand where they should: a last one is there only
--- where a client is asked for next
-pub record OpensTimed {I M L D : Type 0} (s : Subject (SessionEvent I) M L D)
-    (ask : List (SessionEvent I) → Phase) (run : List (SessionEvent I)) : Type 0 where
-  pub timed : AreTimed s (reverse run)
-  pub unsynced : has_synced s (reverse run) ≡ false
-  pub ends : ends_with_moment (reverse run) ≡ true → is_client (ask (reverse run)) ≡ true
-
--- the same, where the last event is a moment exactly if a client is asked for next
-pub record AsksTimed {I M L D : Type 0} (s : Subject (SessionEvent I) M L D)
-    (ask : List (SessionEvent I) → Phase) (run : List (SessionEvent I)) : Type 0 where
-  pub timed : AreTimed s (reverse run)
-  pub unsynced : has_synced s (reverse run) ≡ false
-  pub ends : ends_with_moment (reverse run) ≡ is_client (ask (reverse run))
-
--- something is accepted, and the moments before it stand where they should; the newest first
-pub record SyncedTimed {I M L D : Type 0} (s : Subject (SessionEvent I) M L D)
-    (past : List (SessionEvent I)) : Type 0 where
-  pub timed : AreTimed s past
-  pub synced : has_synced s past ≡ true
-
 -- ---- of an X.509 session
 
-abbrev pub IsOrderly : Rules → List Event → Type 0
+unfoldable pub IsOrderly : Rules → List Event → Type 0
 IsOrderly rules past = AreOrderly (ask_of context_in rules) (stream rules).refusal past
 
 abbrev pub AddsAnswer : Rules → List Event → List Event → Type 0
 AddsAnswer rules old new = AddsAnswerTo (ask_of context_in rules) old new
 
-abbrev pub IsTimed : Rules → List Event → Type 0
+unfoldable pub IsTimed : Rules → List Event → Type 0
 IsTimed rules past = AreTimed (subject rules) past
 
-abbrev pub IsOpening : Rules → List Event → Type 0
-IsOpening rules run = OpensTimed (subject rules) (ask_of context_in rules) run
+-- nothing is accepted yet, and the moments so far stand where they should: a last one is there only
+-- where a client is asked for next
+pub record IsOpening (rules : Rules) (run : List Event) : Type 0 where
+  pub timed : IsTimed rules (reverse run)
+  pub unsynced : has_synced (subject rules) (reverse run) ≡ false
+  pub ends : ends_with_moment (reverse run) ≡ true
+      → is_client (ask_of context_in rules (reverse run)) ≡ true
 
-abbrev pub IsAboutToAsk : Rules → List Event → Type 0
-IsAboutToAsk rules run = AsksTimed (subject rules) (ask_of context_in rules) run
+-- the same, where the last event is a moment exactly if a client is asked for next
+pub record IsAboutToAsk (rules : Rules) (run : List Event) : Type 0 where
+  pub timed : IsTimed rules (reverse run)
+  pub unsynced : has_synced (subject rules) (reverse run) ≡ false
+  pub ends : ends_with_moment (reverse run) ≡ is_client (ask_of context_in rules (reverse run))
 
-abbrev pub IsSynced : Rules → List Event → Type 0
-IsSynced rules past = SyncedTimed (subject rules) past
+-- something is accepted, and the moments before it stand where they should; the newest first
+pub record IsSynced (rules : Rules) (past : List Event) : Type 0 where
+  pub timed : IsTimed rules past
+  pub synced : has_synced (subject rules) past ≡ true
 
 -- there is exactly one step, which may be the first of all
 abbrev pub IsOneStep : List PlainStep → Type 0

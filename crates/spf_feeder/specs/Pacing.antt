@@ -28,34 +28,22 @@ abbrev pub KeepsPaceBy : {I M L D : Type 0} → Subject (SessionEvent I) M L D
     → (List (SessionEvent I) → Phase) → List (SessionEvent I) → Pace → Type 0
 KeepsPaceBy s ask run pace = Paces (pace_steps s ask (reverse run)) pace
 
--- After a refused ask the delays are those of the run, or of the run before its last event.
-pub record HaltedBy {I M L D : Type 0} (s : Subject (SessionEvent I) M L D)
-    (ask : List (SessionEvent I) → Phase) (run : List (SessionEvent I)) (pace : Pace) : Type 0 where
-  pub before : List (SessionEvent I)
-  pub keeps : KeepsPaceBy s ask before pace
-  pub run_is : (run ≡ before) ⊎ ((e : SessionEvent I) × (run ≡ before ++ e ∷ []))
-
--- where an ask and the pause after it leave the delays
-abbrev pub PacesOnBy : {I M L D T E : Type 0} → Subject (SessionEvent I) M L D
-    → (List (SessionEvent I) → Phase) → List (SessionEvent I) → Pace → Result T E
-    → List (SessionEvent I) → Pace → Type 0
-PacesOnBy s ask run pace (Ok done) run' pace' =
-    KeepsPaceBy s ask run pace → KeepsPaceBy s ask run' pace'
-PacesOnBy s ask run pace (Err e) run' pace' =
-    KeepsPaceBy s ask run pace → HaltedBy s ask run' pace'
-
 -- ---- of an X.509 session
 
 abbrev pub opens : Rules → List Event → Event → Bool
 opens rules past e = opens_by (subject rules) past e
 
-abbrev pub KeepsPace : Rules → List Event → Pace → Type 0
+unfoldable pub KeepsPace : Rules → List Event → Pace → Type 0
 KeepsPace rules run pace = KeepsPaceBy (subject rules) (ask_of context_in rules) run pace
 
-abbrev pub Halted : Rules → List Event → Pace → Type 0
-Halted rules run pace = HaltedBy (subject rules) (ask_of context_in rules) run pace
+-- After a refused ask the delays are those of the run, or of the run before its last event.
+pub record Halted (rules : Rules) (run : List Event) (pace : Pace) : Type 0 where
+  pub before : List Event
+  pub keeps : KeepsPace rules before pace
+  pub run_is : (run ≡ before) ⊎ ((e : Event) × (run ≡ before ++ e ∷ []))
 
+-- where an ask and the pause after it leave the delays
 abbrev pub PacesOn : {T E : Type 0} → Rules → List Event → Pace → Result T E → List Event → Pace
     → Type 0
-PacesOn rules run pace r run' pace' =
-    PacesOnBy (subject rules) (ask_of context_in rules) run pace r run' pace'
+PacesOn rules run pace (Ok done) run' pace' = KeepsPace rules run pace → KeepsPace rules run' pace'
+PacesOn rules run pace (Err e) run' pace' = KeepsPace rules run pace → Halted rules run' pace'

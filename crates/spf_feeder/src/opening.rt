@@ -46,6 +46,7 @@ fn deadline_of(first: i64, timeout: Option<Duration>) -> Option<i64>
 
 /// A feeder whose first item was accepted, and its pace. It takes a moment from the clock, from
 /// which the deadline counts, and synchronises.
+#[tactic(auto, unfolding(crate::specs::Orderly::IsTimed))]
 pub fn open_feeder<C, P, M, K, R, T, W, H>(
     rt: &H,
     alloc: Global,

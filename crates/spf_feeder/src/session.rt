@@ -155,6 +155,7 @@ impl<P: Publisher + Drop, M: MetricsRecorder + Drop, K: SvidPicker + Drop> Model
 
 impl<P: Publisher + Drop, M: MetricsRecorder + Drop, K: SvidPicker + Drop> Session<P, M, K> {
     /// A session of no events yet, whose publisher has no steps.
+    #[tactic(auto, unfolding(crate::specs::Orderly::IsOrderly))]
     pub(crate) fn new(
         alloc: Global,
         publisher: P,

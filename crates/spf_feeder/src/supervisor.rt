@@ -17,6 +17,7 @@ use spf_system::Pause;
 use std::sync::Wait;
 
 /// Asks once, and pauses where that ended an attempt.
+#[tactic(auto, unfolding(crate::specs::Pacing::KeepsPace))]
 pub(crate) fn paced_ask<C, P, M, K, R, W>(
     feeder: &mut Feeder<C, P, M, K>,
     pace: &mut Pace,

@@ -54,6 +54,7 @@ pub(crate) fn deadline_after(first: i64, timeout: Duration) -> i64
 }
 
 /// Where a client is asked for next, a moment of the clock stands right before it.
+#[tactic(auto, unfolding(crate::specs::Orderly::IsTimed, crate::specs::Pacing::KeepsPace))]
 fn moment_before<C, P, M, K, T, W, H>(
     rt: &H,
     feeder: &mut Feeder<C, P, M, K>,

@@ -6,8 +6,8 @@ use Rattle.spf_jwt_feed.specs.Items.{Event, Rules, item_in}
 use Rattle.spf_jwt_feed.specs.Run.{ask_of}
 use Rattle.spf_jwt_feeder.specs.Asking.{jwt_bundles}
 
-abbrev pub left_after : Rules → List Member → List Event → Coming
+unfoldable pub left_after : Rules → List Member → List Event → Coming
 left_after rules members past = left_after_by (ask_of item_in rules) members past
 
-abbrev pub AllYielded : Rules → List Member → List Event → Type 0
+unfoldable pub AllYielded : Rules → List Member → List Event → Type 0
 AllYielded rules members past = AllYieldedBy jwt_bundles (ask_of item_in rules) members past

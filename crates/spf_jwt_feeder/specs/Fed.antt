@@ -13,7 +13,9 @@ use Rattle.spf_feed.specs.declared.phase.Phase.TheVariants as phases
 use Rattle.spf_feeder.specs.declared.session.Stop.{Stop}
 use Rattle.spf_feeder.specs.declared.session.Stop.TheVariants as stops
 use Rattle.spf_feeder.specs.Asking.{Asked, kind_wanted}
-use Rattle.spf_feeder.specs.Fed.{IsReadyFor, YieldsFor}
+use Rattle.spf_feeder.specs.Fed.{IsReadyFor}
+use Rattle.spf_feeder.specs.Coming.{Holds}
+use Rattle.spf_jwt_feeder.specs.Coming.{AllYielded, left_after}
 use Rattle.spf_jwt_feed.specs.declared.record.JwtMetricsRecord.{JwtMetricsRecord}
 use Rattle.spf_jwt_feed.specs.Items.{Event, Rules, item_in}
 use Rattle.spf_jwt_feed.specs.Run.{ask_of, stream}
@@ -39,10 +41,13 @@ fed connector link core first = record {
 abbrev pub IsReady : {L : Type 0} → (L → Option ResponseKind) → Phase → Option L → Type 0
 IsReady kind_of ask link = IsReadyFor (kind_wanted jwt_bundles) kind_of ask link
 
-abbrev pub Yields : {S L : Type 0} → (S → Option (List Member)) → (L → Option (List Answer))
-    → Rules → List Event → Asked S L → List Member → Type 0
-Yields members answers rules run asked first =
-    YieldsFor jwt_bundles (ask_of item_in rules) members answers run asked first
+-- The events other than moments are what the asks, in order, take of what the connector had to
+-- yield when it was handed in, and the connector and its link have the rest.
+pub record Yields {S L : Type 0} (members : S → Option (List Member))
+    (answers : L → Option (List Answer)) (rules : Rules) (run : List Event) (asked : Asked S L)
+    (first : List Member) : Type 0 where
+  pub yielded : AllYielded rules first (reverse run)
+  pub rest : Holds members answers (left_after rules first (reverse run)) asked.connector asked.link
 
 -- A turn that went through: one ask, one event more, which is published before the next turn.
 pub record TurnedOnce {S L P M : Type 0} (connector : connectors.Ghosts S L)

@@ -79,6 +79,7 @@ where
     C::Link: Drop,
 {
     /// A feeder that has asked nothing yet.
+    #[tactic(auto, unfolding(crate::specs::Coming::AllYielded, crate::specs::Coming::left_after))]
     pub(crate) fn new(
         alloc: Global,
         connector: C,

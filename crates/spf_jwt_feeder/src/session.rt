@@ -138,6 +138,7 @@ impl<P: JwtPublisher + Drop, M: JwtMetricsRecorder + Drop> Model for Session<P, 
 
 impl<P: JwtPublisher + Drop, M: JwtMetricsRecorder + Drop> Session<P, M> {
     /// A session of no events yet, whose publisher has no steps.
+    #[tactic(auto, unfolding(crate::specs::Orderly::IsOrderly))]
     pub(crate) fn new(
         alloc: Global,
         publisher: P,

@@ -18,6 +18,7 @@ use spf_system::Pause;
 use std::sync::Wait;
 
 /// Asks once, and pauses where that ended an attempt.
+#[tactic(auto, unfolding(crate::specs::Pacing::KeepsPace))]
 pub(crate) fn paced_ask<C, P, M, R, W>(
     feeder: &mut JwtFeeder<C, P, M>,
     pace: &mut Pace,

@@ -55,6 +55,7 @@ pub(crate) fn deadline_after(first: i64, timeout: Duration) -> i64
 }
 
 /// Where a client is asked for next, a moment of the clock stands right before it.
+#[tactic(auto, unfolding(crate::specs::Orderly::IsTimed, crate::specs::Pacing::KeepsPace))]
 fn moment_before<C, P, M, T, W, H>(
     rt: &H,
     feeder: &mut JwtFeeder<C, P, M>,

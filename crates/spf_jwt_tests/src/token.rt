@@ -5,8 +5,8 @@ use spf_jwt::JwtSvid;
 use std::alloc::Global;
 use std::test::Fail;
 
-const TOKEN1: &str =
-    "eyJhbGciOiJFUzI1NiIsImtpZCI6ImsxIiwidHlwIjoiSldUIn0.eyJzdWIiOiJzcGlmZmU6Ly9leGFtcGxlLm9yZy93IiwiYXVkIjoiYSIsImV4cCI6OX0.sig";
+const TOKEN1: &str = "eyJhbGciOiJFUzI1NiIsImtpZCI6ImsxIiwidHlwIjoiSldUIn0.\
+     eyJzdWIiOiJzcGlmZmU6Ly9leGFtcGxlLm9yZy93IiwiYXVkIjoiYSIsImV4cCI6OX0.sig";
 
 /// The token of a header and claims, each the text of a JSON value.
 fn token_of(alloc: Global, header: &str, claims: &str) -> Result<String, Fail> {

@@ -5,7 +5,7 @@ use Rattle.spf_feed.specs.declared.event.SessionEvent.TheVariants as events
 use Rattle.spf_feed.specs.Items.{Rules, context_in, subject}
 use Rattle.spf_feed.specs.Run.{ask_of}
 use Rattle.spf_feeder.specs.Kept.{rules_by}
-use Rattle.spf_feeder.specs.Orderly.{IsOneStep}
+use Rattle.spf_feeder.specs.Orderly.{IsOneStep, IsTimed}
 use Rattle.spf_feeder.specs.Pacing.{KeepsPace}
 use Rattle.spf_feeder.proofs.FeedLemmas.{stops_as}
 use Rattle.spf_feeder.proofs.PaceLemmas.{passes_on}
@@ -13,6 +13,7 @@ use Rattle.spf_feeder.proofs.TimeLemmas.{gives_moment, gives_more}
 use Rattle.spf_feeder.proofs.opening.open_feeder.Goals as goal
 
 pub synchronise-requires-clause-keeps : goal.synchronise-requires-clause-keeps
+unfolding KeepsPace
 synchronise-requires-clause-keeps g c =
     let core = c.take_moment.new.self.core in
     let rule : Rules = rules_by g.K.SvidPicker.picks core.settings core.picker in
@@ -34,6 +35,12 @@ returns-in-Ok-clause-once g c =
     subst (λ r. IsOneStep (steps_of (subject r) c.synchronise.new.feeder.core.run))
     (λ i. rules_by g.K.SvidPicker.picks (sym c.in-Ok.ensures.settings i)
     (sym c.in-Ok.ensures.picker i)) c.in-Ok.ensures.once
+
+pub returns-in-Ok-clause-timed : goal.returns-in-Ok-clause-timed
+returns-in-Ok-clause-timed g c =
+    subst (λ r. IsTimed r (reverse c.synchronise.new.feeder.core.run))
+    (λ i. rules_by g.K.SvidPicker.picks (sym c.in-Ok.ensures.settings i)
+    (sym c.in-Ok.ensures.picker i)) c.in-Ok.ensures.timed
 
 pub returns-in-Ok-clause-clock : goal.returns-in-Ok-clause-clock
 returns-in-Ok-clause-clock g c =

@@ -3,7 +3,7 @@ use Rattle.spf_feed.specs.Items.{Rules, context_in, subject}
 use Rattle.spf_feed.specs.Run.{ask_of}
 use Rattle.spf_feeder.specs.Asking.{contexts}
 use Rattle.spf_feeder.specs.Kept.{rules_by}
-use Rattle.spf_feeder.specs.Pacing.{opens}
+use Rattle.spf_feeder.specs.Pacing.{KeepsPace, opens}
 use Rattle.spf_feeder.proofs.PaceLemmas.{paces_ended, paces_opened, paces_passed, shut_after}
 use Rattle.spf_feeder.proofs.PaceLemmas.{unopened}
 use Rattle.spf_feeder.proofs.supervisor.paced_ask.Goals.{else-not-was_synced-via-then-not-was_synced+else-is_synced}
@@ -13,6 +13,7 @@ use Rattle.spf_feeder.proofs.OrderLemmas.{once_answers}
 use Rattle.spf_feeder.proofs.supervisor.paced_ask.Goals as goal
 
 pub returns-then-is_synced-clause-paces : goal.returns-then-is_synced-clause-paces
+unfolding KeepsPace
 returns-then-is_synced-clause-paces g c =
     let old = c.args.feeder.now.core in
     let rule : Rules = rules_by g.K.SvidPicker.picks old.settings old.picker in
@@ -21,22 +22,24 @@ returns-then-is_synced-clause-paces g c =
     c.ask_once.new.self.core.picker) ≡ subject rule = λ i. subject
     (rules_by g.K.SvidPicker.picks (c.ask_once.ensures.settings i) (c.ask_once.ensures.picker i)) in
     paces_opened (subject rule) _ (ask_of context_in rule) old.run _ turn.event _ _ _
-        c.args.pace.now c.synchronised.new.self same
+    c.args.pace.now c.synchronised.new.self same
     turn.advanced.run_is turn.advanced.end_is c.in-None.is c.is_synced-was_synced.ensures
     c.if-not-was_synced.true c.is_synced.ensures c.if-is_synced.true
     c.synchronised.ensures.paces
 
 pub returns-in_ok-delay-in-Some-clause-paces : goal.returns-in_ok-delay-in-Some-clause-paces
+unfolding KeepsPace
 returns-in_ok-delay-in-Some-clause-paces g c =
     let old = c.args.feeder.now.core in
     let rule : Rules = rules_by g.K.SvidPicker.picks old.settings old.picker in
     let turn = c.in_ok-end.ensures.turn in
     paces_ended (subject rule) (ask_of context_in rule) old.run _ turn.event _ c.in-Some.end
-        c.args.pace.now c.after.new.self
+    c.args.pace.now c.after.new.self
     turn.advanced.run_is turn.advanced.end_is c.in-Some.is
     c.in_ok-delay-in-Some.ensures.paces
 
 pub returns-else-not-was_synced-clause-paces : goal.returns-else-not-was_synced-clause-paces
+unfolding KeepsPace
 returns-else-not-was_synced-clause-paces g c =
     let old = c.args.feeder.now.core in
     let rule : Rules = rules_by g.K.SvidPicker.picks old.settings old.picker in
@@ -51,7 +54,7 @@ returns-else-not-was_synced-clause-paces g c =
           (sym c.is_synced-was_synced.ensures ∙ w.if-not-was_synced.false)
     ] in
     paces_passed (subject rule) (ask_of context_in rule) old.run _ turn.event _ c.args.pace.now
-        turn.advanced.run_is
+    turn.advanced.run_is
     turn.advanced.end_is c.in-None.is shut
 
 pub returns-else-not-was_synced-clause-adds : goal.returns-else-not-was_synced-clause-adds

@@ -1,5 +1,6 @@
-use Rattle.std.proofs.Common.{rules, ◌≡◌, ◌∙◌, sym}
+use Rattle.std.proofs.Common.{rules, ◌≡◌, ◌∙◌, subst, sym}
 use Rattle.spf_feeder.specs.Kept.{rules_by}
+use Rattle.spf_feeder.specs.Pacing.{Halted}
 use Rattle.spf_feeder.proofs.FeedLemmas.{keeps_as}
 use Rattle.spf_feeder.proofs.OrderLemmas.{goes_further}
 use Rattle.spf_feeder.proofs.supervisor.supervise.Goals as goal
@@ -7,6 +8,17 @@ use Rattle.spf_feeder.proofs.supervisor.supervise.Goals as goal
 pub returns-in-Err-clause-goes_on : goal.returns-in-Err-clause-goes_on
 returns-in-Err-clause-goes_on g c =
     goes_further _ _ _ c.turns.invariant.goes_on c.in-Err.ensures.goes_on
+
+pub returns-in-Err-clause-halted : goal.returns-in-Err-clause-halted
+returns-in-Err-clause-halted g c =
+    let loop = c.turns.invariant in
+    let core = c.args.feeder.now.core in
+    let same : rules_by g.K.SvidPicker.picks c.turns.feeder.core.settings c.turns.feeder.core.picker
+    ≡ rules_by g.K.SvidPicker.picks core.settings core.picker =
+    λ i. rules_by g.K.SvidPicker.picks (loop.settings i) (loop.picker i) in
+    subst (λ r. Halted r c.paced_ask.new.feeder.core.run c.paced_ask.new.pace) same
+    (c.in-Err.ensures.paces
+    (keeps_as _ _ c.turns.feeder.core.run c.turns.pace (sym same) loop.keeps))
 
 pub turns-preserved : goal.turns-preserved
 turns-preserved g c =

@@ -1,13 +1,13 @@
 use Rattle.std.proofs.Common.{◌≡◌, true, reverse, sym, ap, ◌∙◌, subst}
 use Rattle.std.proofs.lemmas.Result.{err_from_is_err_and}
 use Rattle.spf_view.specs.Views.{has_synced}
-use Rattle.spf_feed.specs.Items.{Rules, context_in, subject}
-use Rattle.spf_feed.specs.Run.{ask_of}
+use Rattle.spf_feed.specs.Items.{Rules, subject}
 use Rattle.spf_feeder.specs.Kept.{rules_by}
-use Rattle.spf_feeder.proofs.FeedLemmas.{keeps_as, one_step, stops_as}
+use Rattle.spf_feeder.proofs.FeedLemmas.{keeps_as, one_step, opening_after, stops_as}
+use Rattle.spf_feeder.proofs.FeedLemmas.{timed_after}
 use Rattle.std.proofs.Common.{rules, false}
 use Rattle.spf_feeder.specs.Orderly.{AddsAnswer, IsAboutToAsk}
-use Rattle.spf_feeder.proofs.OrderLemmas.{about_opening, about_timed, first_step, no_moment}
+use Rattle.spf_feeder.proofs.OrderLemmas.{first_step, no_moment}
 use Rattle.spf_feeder.proofs.TimeLemmas.{gives_more, gives_still}
 use Rattle.spf_feeder.proofs.synchronisation.synchronise.Goals as goal
 
@@ -57,7 +57,7 @@ returns-then-is_synced-clause-timed g c =
     let at_ask : rules_by g.K.SvidPicker.picks asked.settings asked.picker ≡ rule =
     λ i. rules_by g.K.SvidPicker.picks ((before.settings ∙ loop.settings) i)
     ((before.picker ∙ loop.picker) i) in
-    about_timed (subject rule) (ask_of context_in rule) _ _
+    timed_after rule _ _
     (subst (λ r. IsAboutToAsk r c.moment_before.new.feeder.core.run) at_loop before.timed)
     (subst (λ r. AddsAnswer r c.moment_before.new.feeder.core.run c.paced_ask.new.feeder.core.run)
     at_ask after.adds)
@@ -122,7 +122,7 @@ asks-preserved g c =
       bounds = after.bounds ∙ loop.bounds;
       going = after.going;
       keeps = keeps_as _ _ c.paced_ask.new.feeder.core.run c.paced_ask.new.pace at_ask paced;
-      timed = about_opening (subject rule) (ask_of context_in rule) _ _ about adds unsynced;
+      timed = opening_after rule _ _ about adds unsynced;
       clock = gives_still _ _ _ _ _ adds.event (no_moment _ adds.event adds.answers) adds.run_is
           (gives_more _ _ _ _ _ _ loop.clock before.clock);
     }

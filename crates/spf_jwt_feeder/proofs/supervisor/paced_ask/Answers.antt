@@ -3,7 +3,7 @@ use Rattle.spf_jwt_feed.specs.Items.{Rules, item_in, subject}
 use Rattle.spf_jwt_feed.specs.Run.{ask_of}
 use Rattle.spf_jwt_feeder.specs.Asking.{jwt_bundles}
 use Rattle.spf_jwt_feeder.specs.Kept.{rules_of}
-use Rattle.spf_jwt_feeder.specs.Pacing.{opens}
+use Rattle.spf_jwt_feeder.specs.Pacing.{KeepsPace, opens}
 use Rattle.spf_feeder.proofs.PaceLemmas.{paces_ended, paces_opened, paces_passed, shut_after}
 use Rattle.spf_feeder.proofs.PaceLemmas.{unopened}
 use Rattle.spf_jwt_feeder.proofs.supervisor.paced_ask.Goals.{else-not-was_synced-via-then-not-was_synced+else-is_synced}
@@ -13,6 +13,7 @@ use Rattle.spf_feeder.proofs.OrderLemmas.{once_answers}
 use Rattle.spf_jwt_feeder.proofs.supervisor.paced_ask.Goals as goal
 
 pub returns-then-is_synced-clause-paces : goal.returns-then-is_synced-clause-paces
+unfolding KeepsPace
 returns-then-is_synced-clause-paces g c =
     let old = c.args.feeder.now.core in
     let rule : Rules = rules_of old.settings in
@@ -26,6 +27,7 @@ returns-then-is_synced-clause-paces g c =
     c.synchronised.ensures.paces
 
 pub returns-in_ok-delay-in-Some-clause-paces : goal.returns-in_ok-delay-in-Some-clause-paces
+unfolding KeepsPace
 returns-in_ok-delay-in-Some-clause-paces g c =
     let old = c.args.feeder.now.core in
     let rule : Rules = rules_of old.settings in
@@ -36,6 +38,7 @@ returns-in_ok-delay-in-Some-clause-paces g c =
     c.in_ok-delay-in-Some.ensures.paces
 
 pub returns-else-not-was_synced-clause-paces : goal.returns-else-not-was_synced-clause-paces
+unfolding KeepsPace
 returns-else-not-was_synced-clause-paces g c =
     let old = c.args.feeder.now.core in
     let rule : Rules = rules_of old.settings in

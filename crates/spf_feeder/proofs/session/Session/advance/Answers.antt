@@ -29,6 +29,7 @@ returns-in_err-record_all-clause-published g c =
     done.published
 
 pub invariant_of-self-in_err-record_all : goal.invariant_of-self-in_err-record_all
+unfolding IsOrderly
 invariant_of-self-in_err-record_all g c =
     let before = c.self.inside in
     let rule : Rules = rules_by g.K.SvidPicker.picks before.rules before.picker in
@@ -74,6 +75,7 @@ returns-clause-published g c =
     done.published
 
 pub invariant_of-self-2 : goal.invariant_of-self-2
+unfolding IsOrderly
 invariant_of-self-2 g c =
     let before = c.self.inside in
     let rule : Rules = rules_by g.K.SvidPicker.picks before.rules before.picker in

@@ -28,6 +28,7 @@ returns-in_err-record_all-clause-published g c =
     (sym items) done.published
 
 pub invariant_of-self-in_err-record_all : goal.invariant_of-self-in_err-record_all
+unfolding IsOrderly
 invariant_of-self-in_err-record_all g c =
     let before = c.self.inside in
     let rule : Rules = rules_of before.rules in
@@ -68,6 +69,7 @@ returns-clause-published g c =
     (sym items) done.published
 
 pub invariant_of-self-2 : goal.invariant_of-self-2
+unfolding IsOrderly
 invariant_of-self-2 g c =
     let before = c.self.inside in
     let rule : Rules = rules_of before.rules in

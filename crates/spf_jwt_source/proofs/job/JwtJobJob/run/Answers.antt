@@ -1,10 +1,10 @@
 use Rattle.std.proofs.Common.{Option, ap, ◌∙◌, sym, subst, reverse}
 use Rattle.std.specs.Prelude.{IfSome}
-use Rattle.spf_jwt_feed.specs.Items.{Rules, subject}
+use Rattle.spf_jwt_feed.specs.Items.{Rules}
 use Rattle.spf_jwt_feeder.specs.Kept.{rules_of}
 use Rattle.spf_feeder.specs.Orderly.{GoesOn}
 use Rattle.spf_jwt_feeder.specs.Orderly.{IsSynced}
-use Rattle.spf_feeder.proofs.OrderLemmas.{synced_on}
+use Rattle.spf_jwt_feeder.proofs.FeedLemmas.{synced_after}
 use Rattle.spiffe.proofs.Leaving.{same_board}
 use Rattle.spf_jwt_source.specs.Records.{Assigned, IsOf, Left, Recorded}
 use Rattle.spf_jwt_source.proofs.Recording.{recorded_of_job}
@@ -19,7 +19,7 @@ recorded-done-requires-clause-synced g c =
     let run = c.supervise-closed.new.feeder.core.run in
     subst (λ r. IsSynced r (reverse run))
     (λ i. rules_of (sym went.settings i))
-    (synced_on (subject rule) core.run run (λ m. refl) went.goes_on c.self.invariant.1)
+    (synced_after rule core.run run went.goes_on c.self.invariant.1)
 
 pub returns-clause-left : goal.returns-clause-left
 returns-clause-left g c =

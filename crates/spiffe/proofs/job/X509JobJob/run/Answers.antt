@@ -1,8 +1,8 @@
 use Rattle.std.proofs.Common.{sym, subst, reverse}
-use Rattle.spf_feed.specs.Items.{Rules, subject}
+use Rattle.spf_feed.specs.Items.{Rules}
 use Rattle.spf_feeder.specs.Kept.{rules_by}
 use Rattle.spf_feeder.specs.Orderly.{IsSynced}
-use Rattle.spf_feeder.proofs.OrderLemmas.{synced_on}
+use Rattle.spf_feeder.proofs.FeedLemmas.{synced_after}
 use Rattle.spiffe.proofs.job.X509JobJob.run.Goals as goal
 
 pub recorded-done-requires-clause-synced : goal.recorded-done-requires-clause-synced
@@ -13,4 +13,4 @@ recorded-done-requires-clause-synced g c =
     let run = c.supervise-closed.new.feeder.core.run in
     subst (λ r. IsSynced r (reverse run))
     (λ i. rules_by g.K.SvidPicker.picks (sym went.settings i) (sym went.picker i))
-    (synced_on (subject rule) core.run run (λ m. refl) went.goes_on c.self.invariant.1)
+    (synced_after rule core.run run went.goes_on c.self.invariant.1)
