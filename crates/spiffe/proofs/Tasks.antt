@@ -44,6 +44,6 @@ record_of_job picks job (Some r) h = record {
 -- what is left by the task of a job whose connector has unknown answers is left by the job
 pub left_by_job : {S K : Type 0} (picks : K → List Svid → Option ℕ) (job : Assigned S K)
     (done : Left K) → IsLeftBy unyielded picks (task_of job) done → IsLeftBy unyielded picks job
-        done
+    done
 left_by_job picks job done h =
     record { board = h.board; record_is = record_of_job picks job done.recorded h.record_is }

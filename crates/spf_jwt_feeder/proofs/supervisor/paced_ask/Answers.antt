@@ -21,7 +21,7 @@ returns-then-is_synced-clause-paces g c =
     let same : subject (rules_of c.ask_once.new.self.core.settings) ≡ subject rule =
     λ i. subject (rules_of (c.ask_once.ensures.settings i)) in
     paces_opened (subject rule) _ (ask_of item_in rule) old.run _ turn.event _ _ _ c.args.pace.now
-        c.synchronised.new.self same
+    c.synchronised.new.self same
     turn.advanced.run_is turn.advanced.end_is c.in-None.is c.is_synced-was_synced.ensures
     c.if-not-was_synced.true c.is_synced.ensures c.if-is_synced.true
     c.synchronised.ensures.paces
@@ -33,7 +33,7 @@ returns-in_ok-delay-in-Some-clause-paces g c =
     let rule : Rules = rules_of old.settings in
     let turn = c.in_ok-end.ensures.turn in
     paces_ended (subject rule) (ask_of item_in rule) old.run _ turn.event _ c.in-Some.end
-        c.args.pace.now c.after.new.self
+    c.args.pace.now c.after.new.self
     turn.advanced.run_is turn.advanced.end_is c.in-Some.is
     c.in_ok-delay-in-Some.ensures.paces
 
@@ -52,7 +52,7 @@ returns-else-not-was_synced-clause-paces g c =
           (sym c.is_synced-was_synced.ensures ∙ w.if-not-was_synced.false)
     ] in
     paces_passed (subject rule) (ask_of item_in rule) old.run _ turn.event _ c.args.pace.now
-        turn.advanced.run_is
+    turn.advanced.run_is
     turn.advanced.end_is c.in-None.is shut
 
 pub returns-else-not-was_synced-clause-adds : goal.returns-else-not-was_synced-clause-adds
