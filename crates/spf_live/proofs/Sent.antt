@@ -23,7 +23,7 @@ use Rattle.spiffe.specs.contracts.job.X509Job as X509Job
 use Rattle.spiffe.specs.contracts.job.X509Job.TheInside as inside
 use Rattle.spf_feed.proofs.picker.HintPicker.TheSendSync as picker
 use Rattle.spf_feed.proofs.record.NoRecorder.TheSendSync as recorder
-use Rattle.spf_feeder.proofs.pace.Pace.TheSendSync as pace
+use Rattle.spf_pace.proofs.pace.Pace.TheSendSync as pace
 use Rattle.spf_feeder.proofs.session.Session.TheSendSync as session
 use Rattle.spf_close.proofs.bell.Bell.TheSendSync as bell
 use Rattle.spf_close.proofs.cell.Closer.TheSendSync as closer
