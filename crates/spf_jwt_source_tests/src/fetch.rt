@@ -13,18 +13,18 @@ use std::test::Fail;
 
 /// What a fetch returned.
 #[derive(Clone, Copy, Debug, PartialEq, Eq)]
-enum Fetched {
+enum Outcome {
     Token,
     Denied,
     Closed,
     Other,
 }
 
-fn error_of(error: &JwtSourceError) -> Fetched {
+fn error_of(error: &JwtSourceError) -> Outcome {
     match error {
-        JwtSourceError::FetchJwtSvid(WorkloadApiError::PermissionDenied(_)) => Fetched::Denied,
-        JwtSourceError::Closed => Fetched::Closed,
-        _ => Fetched::Other,
+        JwtSourceError::FetchJwtSvid(WorkloadApiError::PermissionDenied(_)) => Outcome::Denied,
+        JwtSourceError::Closed => Outcome::Closed,
+        _ => Outcome::Other,
     }
 }
 
@@ -34,14 +34,14 @@ fn fetched(
     source: &JwtSource,
     connector: MemConnector,
     audience: &[Text],
-) -> Fetched {
+) -> Outcome {
     let mut fetcher = JwtFetcher::new(connector);
     match source.fetch_jwt_svid(alloc, &mut fetcher, audience) {
         Ok(svid) => {
             if svid.token() == TOKEN1 {
-                Fetched::Token
+                Outcome::Token
             } else {
-                Fetched::Other
+                Outcome::Other
             }
         }
         Err(error) => error_of(&error),
@@ -55,11 +55,11 @@ fn fetches_of_a_source(rt: HostRuntime) -> Result<(), Fail> {
     let audience = vec![in alloc; Text::copy_of(alloc, "a")?]?;
     let (mut source, _pass, _desk, _stop) = opened(rt, alloc)?;
     let grants = granting(alloc)?;
-    assert!(rt; fetched(alloc, &source, grants, audience.as_slice()) == Fetched::Token);
+    assert!(rt; fetched(alloc, &source, grants, audience.as_slice()) == Outcome::Token);
     let denies = refusing(alloc, GrpcStatusCode::PermissionDenied)?;
-    assert!(rt; fetched(alloc, &source, denies, audience.as_slice()) == Fetched::Denied);
+    assert!(rt; fetched(alloc, &source, denies, audience.as_slice()) == Outcome::Denied);
     source.shutdown();
     let unasked = granting(alloc)?;
-    assert!(rt; fetched(alloc, &source, unasked, audience.as_slice()) == Fetched::Closed);
+    assert!(rt; fetched(alloc, &source, unasked, audience.as_slice()) == Outcome::Closed);
     Ok(())
 }
