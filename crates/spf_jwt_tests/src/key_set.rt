@@ -123,11 +123,11 @@ fn kept_key_set(rt: HostRuntime) -> Result<(), Fail> {
     Ok(())
 }
 
-/// A bundle whose key set was read anew, with a key added.
+/// A bundle whose key set was read anew, with a copy of a key added.
 fn with_another(alloc: Global) -> Result<JwtBundle, Fail> {
     let mut bundle = keeping(alloc, KEPT)?;
     let key = JwtAuthority::from_jwk_json(alloc, b"{\"kid\":\"a\"}")?;
-    bundle.add_jwt_authority(key)?;
+    bundle.add_jwt_authority(key.try_clone(alloc)?)?;
     Ok(bundle)
 }
 
