@@ -45,8 +45,8 @@ each_kept {A} {B} f P holds (x ∷ xs) ys h =
     let same : y ∷ others ≡ ys = cc in
     subst (AllByRecursion P) same (holds x y y_is, each_kept f P holds xs others o_is)))
 
-pub all_map : {A B : Type 0} (f : A → B) (P : A → Type 0) (Q : B → Type 0) → ((x : A) → P x → Q (f x))
-    → (xs : List A) → AllByRecursion P xs → AllByRecursion Q (map f xs)
+pub all_map : {A B : Type 0} (f : A → B) (P : A → Type 0) (Q : B → Type 0)
+    → ((x : A) → P x → Q (f x)) → (xs : List A) → AllByRecursion P xs → AllByRecursion Q (map f xs)
 all_map f P Q holds [] all = tt
 all_map f P Q holds (x ∷ xs) all = (holds x all.0, all_map f P Q holds xs all.1)
 

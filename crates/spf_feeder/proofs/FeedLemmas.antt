@@ -190,14 +190,15 @@ if_some (Some x) P Q f h = f x h
 
 yields_once : {S L : Type 0} (connector : connectors.Ghosts S L) (link : links.Ghosts L)
     (rules : Rules) (run : List Event) (old new : Asked S L) (e : Event) (first : List Member)
-    → AsksOnce {E = OutOfMemory} connector link (ask_of context_in rules (reverse run)) old (Ok e) new
+    → AsksOnce {E = OutOfMemory} connector link (ask_of context_in rules (reverse run)) old (Ok e)
+      new
     → IsReady link.kind (ask_of context_in rules (reverse run)) old.link
     → Yields connector.members link.answers rules run old first
     → Yields connector.members link.answers rules (run ++ e ∷ []) new first
 unfolding AllYielded left_after
 yields_once connector link rules run old new e first once ready yields =
-    let more = yields_more OutOfMemory contexts (ask_of context_in rules) connector link run old new e first
-    once ready yields.yielded yields.rest in
+    let more = yields_more OutOfMemory contexts (ask_of context_in rules) connector link run old new e
+    first once ready yields.yielded yields.rest in
     record { yielded = more.0; rest = more.1 }
 
 pub yields_of : {S L P M K : Type 0} (connector : connectors.Ghosts S L) (link : links.Ghosts L)

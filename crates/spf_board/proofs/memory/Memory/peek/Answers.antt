@@ -9,8 +9,8 @@ returns-clause-found g c =
     let e = c.enter-reader in
     let finds = g.L.Look.finds c.args.look.now in
     elim c.match-found.branch [
-      | in-Some-Some w ↦ rw (← c.self.view_is, w.result-is) (peeks_in g.K.Kind.legal g.K.Replay.replays
-          finds i.seen i.entered e.new.entered i.missed e.new.missed (view c.args.reader.place)
+      | in-Some-Some w ↦ rw (← c.self.view_is, w.result-is) (peeks_in g.K.Kind.legal
+          g.K.Replay.replays finds i.seen i.entered e.new.entered i.missed e.new.missed (view c.args.reader.place)
           (view e.result.0.place) w.in-Some-Some.found c.self.invariant.1 e.ensures.entered
           (rw w.in-Some-Some.field-0-is at
           (rw w.in-Some-Some.is at e.ensures.found)) (rw w.in-Some-Some.is at e.ensures.once))
