@@ -7,8 +7,6 @@ mod bell;
 mod cell;
 mod closing;
 mod maker;
-#[cfg(test)]
-mod tests;
 
 pub use bell::Bell;
 pub use cell::{Closed, Closer, Watch, closed_cell};
