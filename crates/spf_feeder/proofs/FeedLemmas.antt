@@ -191,7 +191,7 @@ if_some (Some x) P Q f h = f x h
 yields_once : {S L : Type 0} (connector : connectors.Ghosts S L) (link : links.Ghosts L)
     (rules : Rules) (run : List Event) (old new : Asked S L) (e : Event) (first : List Member)
     → AsksOnce {E = OutOfMemory} connector link (ask_of context_in rules (reverse run)) old (Ok e)
-      new
+    new
     → IsReady link.kind (ask_of context_in rules (reverse run)) old.link
     → Yields connector.members link.answers rules run old first
     → Yields connector.members link.answers rules (run ++ e ∷ []) new first
