@@ -103,8 +103,8 @@ fn held_bundle<'a>(
     held?.bundle_set().get_ref(trust_domain)
 }
 
-/// Adds the bundle of a trust domain to the set. The
-/// entries before most often have the same bundle.
+/// Adds the bundle of a trust domain to the set. The entries before it most often have the same
+/// bundle.
 fn add_bundle(
     alloc: Global,
     trust_domain: &TrustDomain,

@@ -56,6 +56,6 @@ unique_rule oid extensions = only_one (contents_with oid extensions)
 abbrev pub index_rule : List ℕ → List ExtensionPart → Result (Option ℕ) X509ParseKind
 index_rule oid extensions = only_one (indices_with oid 0 extensions)
 
--- memory plays no part
+-- no error says that memory ran out
 abbrev pub never : X509ParseKind → Bool
 never _ = false

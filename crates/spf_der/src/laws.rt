@@ -85,8 +85,8 @@ pub fn written_key()
     ensures { (serial : ℕ) → is_key (key_text serial) ≡ true }
 {}
 
-/// What is read of bytes is the certificate at their
-/// start, and none stands there where they are refused.
+/// Returns what is read of bytes is the certificate at their start, and none stands there where
+/// they are refused.
 pub fn certificate_in_front<'a>(
     alloc: Global,
     der: &'a [u8],

@@ -1,4 +1,4 @@
--- What keeps the limits.
+-- Which bundle sets keep the limits.
 use Rattle.std.specs.Prelude.{ℕ, ◌-◌, ◌^◌, nat_lt, min, sum_by, List, [], ◌∷◌, length, codes}
 use Rattle.std.specs.Prelude.{if◌then◌else◌, Option, None, Some, Result, Ok, Err}
 use Rattle.spf_io.specs.Rule.{◌>>=◌}

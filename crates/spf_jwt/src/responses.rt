@@ -103,7 +103,7 @@ pub(crate) fn require_entries(alloc: Global, r: &JwtSvidsResponse) -> Result<(),
     check_entries(alloc, r.svids.as_slice())
 }
 
-/// A hint, which is none where it is empty.
+/// A hint, where an empty one counts as none.
 fn hint_of(alloc: Global, hint: &str) -> Result<Option<Text>, OutOfMemory>
     ensures { IfOk result (λ t. t ≡ hint_rule hint.now) }
 {

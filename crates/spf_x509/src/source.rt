@@ -1,4 +1,4 @@
-//! Where others take identities and bundles from.
+//! Sources of identities and bundles.
 
 ghost use Rattle.std.specs.Prelude.{ℕ, ℤ, List, Option, IfOk};
 ghost use Rattle.std.specs.Option.{option_map};
@@ -7,7 +7,7 @@ ghost use Rattle.std.specs.Arc.{arc_value};
 use spf_id::TrustDomain;
 use std::sync::Arc;
 
-/// A source of bundles, which is lent what its reader has seen of it.
+/// A source of bundles. Each call is lent what the reader has seen of the source.
 pub trait BundleSource {
     type Item;
 
@@ -33,7 +33,7 @@ pub trait BundleSource {
             (λ o. answers self.now seen.new trust_domain.now (option_map arc_value o)) };
 }
 
-/// A source of the current SVID, which is lent what its reader has seen of it.
+/// A source of the current SVID. Each call is lent what the reader has seen of the source.
 pub trait SvidSource {
     type Item;
 
