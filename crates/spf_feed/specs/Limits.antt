@@ -1,4 +1,4 @@
--- What keeps the limits.
+-- Which contexts keep the limits.
 use Rattle.std.specs.Prelude.{ℕ, ◌-◌, ◌^◌, nat_lt, min, sum_by, List, [], ◌∷◌, length}
 use Rattle.std.specs.Prelude.{if◌then◌else◌, Option, None, Some, Result, Ok, Err}
 use Rattle.spf_io.specs.Rule.{◌>>=◌}

@@ -35,7 +35,7 @@ rules_for setting =
     rules_with setting.limits setting.deadline setting.ready
     (option_map first_with_hint setting.hint)
 
--- What is followed: a stream of events, what they give, and the most frames.
+-- What is followed: a stream of events, what they give, and the limit of frames.
 pub record Session (E X Y : Type 0) : Type 0 where
   pub stream : Stream E Terminal
   pub outputs : Outputs E X Y
