@@ -16,7 +16,7 @@ pub(crate) enum AskFault {
     Failed(WorkloadApiError),
 }
 
-/// Whether a status is of the connection, so that another one may do better.
+/// Whether a status is of the connection, so that another connection may do better.
 fn is_transient_code(code: GrpcStatusCode) -> bool
     ensures { result ≡ spec.is_transient_code code }
 {

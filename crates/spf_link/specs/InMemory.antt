@@ -1,4 +1,4 @@
--- How a link and a connector of memory answer: what they are made of, and what each call leaves.
+-- How a link and a connector in memory answer: what they are made of, and what each call leaves.
 use Rattle.std.specs.Prelude.{◌≡◌, ℕ, ◌⊎◌, List, [], ◌∷◌, ◌++◌, map, Option, None, Some, Result, Ok}
 use Rattle.std.specs.Prelude.{Err}
 use Rattle.spf_io.specs.Memory.{next_number}
@@ -71,7 +71,7 @@ client_refusals_after (Ok _) refusals = refusals
 client_refusals_after (Err client.OutOfMemory) refusals = refusals
 client_refusals_after (Err f) refusals = next_number refusals
 
--- the next link or fault: none refuses
+-- the next link or fault; where there is none, a refusal
 abbrev pub next_link : List (Result LinkState ClientFault) → Result LinkState ClientFault
 next_link [] = Err (client.Status unavailable)
 next_link (link ∷ links) = link

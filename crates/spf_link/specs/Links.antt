@@ -40,11 +40,11 @@ StartAppends None new result start = Unit {0}
 StartAppends (Some old) new (Err fault.OutOfMemory) start = new ≡ Some old
 StartAppends (Some old) new result start = new ≡ Some (old ++ start ∷ [])
 
--- UNAVAILABLE with an empty message, by which a link refuses that has no answer that fits
+-- UNAVAILABLE with an empty message, with which a link refuses where no answer fits
 abbrev pub unavailable : Refused
 unavailable = record { code = code.Unavailable; message = []; source = None }
 
--- the members behind the first one
+-- the members after the first one
 abbrev pub rest_of : {A : Type 0} → List A → List A
 rest_of [] = []
 rest_of (x ∷ xs) = xs

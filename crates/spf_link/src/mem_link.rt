@@ -1,4 +1,4 @@
-//! A link of memory.
+//! A link in memory.
 
 ghost use Rattle.std.specs.Prelude.{◌≡◌, List, [], None, Option, Some, Result, IfOk, IfSome};
 ghost use Rattle.std.specs.Option.{option_to_list};
@@ -136,7 +136,7 @@ impl MemLink {
         }
     }
 
-    /// What each `start` was given, oldest first.
+    /// Returns what each `start` was given, oldest first.
     pub fn starts(&self) -> &[Start]
         ensures { result.now ≡ self.now.starts }
     {

@@ -51,7 +51,7 @@ line_of_end (Err e) = error_line e
 abbrev pub program_rules : Rules
 program_rules = rules_with default_limits None readiness.Usable None
 
--- the most messages that the program follows
+-- how many messages the program follows at most
 abbrev pub max_messages : ℕ
 max_messages = 1000000
 

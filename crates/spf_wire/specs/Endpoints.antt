@@ -10,7 +10,7 @@ use Rattle.spf_system.specs.declared.environment.EnvValue.{EnvValue}
 use Rattle.spf_wire.specs.declared.endpoint_connector.Target.{Target}
 use Rattle.spf_wire.specs.declared.endpoint_connector.Target.TheVariants as target
 
--- no more than whether the rules are kept
+-- only whether the rules are kept
 abbrev pub kept : {A E : Type 0} → Result A E → Result (Unit {0}) E
 kept (Ok x) = Ok tt
 kept (Err e) = Err e
