@@ -1,4 +1,4 @@
-//! What counts the places that passes are refused.
+//! What gives or refuses places to passes, and counts the refusals.
 
 ghost use Rattle.std.specs.Prelude.{◌≡◌, ◌≤◌};
 ghost use Rattle.spf_board.specs.Passes.{Rose};

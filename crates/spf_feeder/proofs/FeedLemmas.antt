@@ -143,7 +143,7 @@ turned_of {S} {L} {P} {M} {K} connector link records picks before old new e r as
 
 -- ---- what a feeder keeps
 
--- an event more is in the run where the run goes on
+-- one more event is in the run where the run goes on
 ran : {P M K : Type 0} (records : M → Option (List MetricsRecord)) (rules : Rules)
     (old new : Core P M K) (e : Event) (r : Result (Option AttemptEnd) Stop)
     → Advances records rules old e r new → new.stuck ≡ false → new.run ≡ old.run ++ e ∷ []

@@ -76,7 +76,7 @@ pub record Advanced {P M K : Type 0} (records : M → Option (List MetricsRecord
   pub records_are : Grows (records old.recorder) (records new.recorder)
       ((outputs rules).records (reverse old.run) e)
 
--- The event is terminal: it is no event of the run.
+-- The event is terminal, and is not part of the run.
 pub record Ended {P M K : Type 0} (rules : Rules) (old : Core P M K) (e : Event) (end : Terminal)
     (new : Core P M K) : Type 0 where
   pub run_is : new.run ≡ old.run

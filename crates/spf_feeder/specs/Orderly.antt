@@ -27,7 +27,7 @@ does_answer phases.Next (events.ItemStatus s) = true
 does_answer phases.Next events.StreamEnd = true
 does_answer _ _ = false
 
--- an event that may stand after a history
+-- an event that is allowed after a history
 pub record MayStand {I A : Type 0} (ask : List (SessionEvent I) → Phase)
     (refusal : List (SessionEvent I) → SessionEvent I → Option A) (past : List (SessionEvent I))
     (e : SessionEvent I) : Type 0 where
@@ -95,8 +95,8 @@ AddsAnswer rules old new = AddsAnswerTo (ask_of context_in rules) old new
 unfoldable pub IsTimed : Rules → List Event → Type 0
 IsTimed rules past = AreTimed (subject rules) past
 
--- nothing is accepted yet, and the moments so far stand where they should: a last one is there only
--- where a client is asked for next
+-- nothing is accepted yet, and the moments so far stand where they should: the last event is one
+-- only where a client is asked for next
 pub record IsOpening (rules : Rules) (run : List Event) : Type 0 where
   pub timed : IsTimed rules (reverse run)
   pub unsynced : has_synced (subject rules) (reverse run) ≡ false

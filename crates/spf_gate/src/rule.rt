@@ -156,7 +156,7 @@ fn rule_in(alloc: Global, text: &str) -> Result<Option<Rule>, OutOfMemory>
     }
 }
 
-/// The rule of a line of a policy. None for an empty line and for one that begins with `#`.
+/// Returns the rule of a line of a policy. None for an empty line and for one that begins with `#`.
 #[tactic(auto, unfolding(crate::specs::Rules::policy_line))]
 pub fn parse_rule(alloc: Global, line: &str) -> Result<Option<Rule>, RuleError>
     ensures { Gives is_memory (λ rule. rule) result (spec.policy_line line.now) }
@@ -170,7 +170,7 @@ pub fn parse_rule(alloc: Global, line: &str) -> Result<Option<Rule>, RuleError>
     }
 }
 
-/// Whether a path goes no further, or goes on with a slash.
+/// Whether the rest of a path is empty, or begins with a slash.
 fn ends_or_goes_on(rest: &[u8]) -> bool
     ensures { result ≡ spec.ends_or_goes_on rest.now }
 {

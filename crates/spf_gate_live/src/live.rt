@@ -20,7 +20,7 @@ use spiffe::{X509Job, X509SourceBuilder};
 use std::alloc::Global;
 use std::sync::Wait;
 
-/// The max number of lines of an input.
+/// The maximum number of lines of an input.
 pub(crate) const MAX_LINES: u64 = 1_000_000;
 
 /// Answers the asks of the input from a source over the connector, and returns the exit status: 0

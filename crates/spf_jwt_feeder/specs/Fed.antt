@@ -37,7 +37,7 @@ fed connector link core first = record {
   first = first;
 }
 
--- where the link is asked next it is there, and it was asked for JWT bundles
+-- where the link is asked next there is one, and it was asked for JWT bundles
 abbrev pub IsReady : {L : Type 0} → (L → Option ResponseKind) → Phase → Option L → Type 0
 IsReady kind_of ask link = IsReadyFor (kind_wanted jwt_bundles) kind_of ask link
 
@@ -87,7 +87,7 @@ Turns connector link records rules old (Ok end) new =
     TurnedOnce connector link records rules old end new
 Turns connector link records rules old (Err e) new = TurnedAway connector link rules old new
 
--- a terminal event came after the run: it is no event of it
+-- a terminal event came after the run, and is not part of it
 abbrev pub StopsBy : Rules → List Event → Stop → Type 0
 StopsBy rules run (stops.Terminal end) =
     (e : Event) × ((stream rules).refusal (reverse run) e ≡ Some end)

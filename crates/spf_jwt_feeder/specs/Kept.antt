@@ -72,7 +72,7 @@ pub record Advanced {P M : Type 0} (records : M → Option (List JwtMetricsRecor
   pub records_are : Grows (records old.recorder) (records new.recorder)
       ((outputs rules).records (reverse old.run) e)
 
--- The event is terminal: it is no event of the run.
+-- The event is terminal, and is not part of the run.
 pub record Ended {P M : Type 0} (rules : Rules) (old : Core P M) (e : Event) (end : Terminal)
     (new : Core P M) : Type 0 where
   pub run_is : new.run ≡ old.run

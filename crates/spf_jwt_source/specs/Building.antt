@@ -54,7 +54,7 @@ abbrev pub Stops : JwtSettings → Terminal → Type 0
 Stops set end =
     StopsOpening set.limits set.timeout (stops.Terminal end)
 
--- Why an initial synchronisation gives an error: the endpoint is none, or a terminal event came
+-- Why an initial synchronisation gives an error: the endpoint is invalid, or a terminal event came
 -- by the connector or the clock before anything was accepted.
 abbrev pub SyncFails : JwtSettings
     → Result (Unit {0}) EndpointError → JwtSourceError → Type 0
@@ -106,7 +106,7 @@ pub record IsBuilt {S : Type 0} (source : Source) (pass : PassView) (closing : �
 
 -- ---- by a builder on which nothing was set
 
--- what is left to the supervisor of such a connector, of which nobody knows what it will give
+-- what is left to the supervisor of such a connector, of which nothing is known that it will give
 abbrev pub IsAssignedByDefault : {S : Type 0} → (S → Type 0) → Option (List (Option ℤ))
     → Option (List (Option ℤ)) → Assigned S → Type 0
 IsAssignedByDefault {S} is_connector clock clock' job =

@@ -116,7 +116,7 @@ pub record Printed (first seen : Seen) (earlier : Option ℕ) (count : ℕ) (clo
   pub text : Appends held held' (text_of lines)
   pub number : length lines ≡ count
 
--- behind a first line, whatever that is, others are printed, as many as there are to be
+-- after a first line, whatever that is, the others are printed, as many as are wanted
 abbrev pub PrintsOn : Seen → ℕ → Seen → ℕ → Moments → Moments → Option (List ℕ)
     → Option (List ℕ) → Result (Unit {0}) LiveError → Type 0
 PrintsOn seen marked last count clock clock' held held' r =

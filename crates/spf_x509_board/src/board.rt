@@ -17,7 +17,7 @@ use spf_io::OutOfMemory;
 use std::alloc::Global;
 use std::sync::Wait;
 
-/// A board on which one step is published, and its first pass.
+/// Returns a board on which one step is published, and its first pass.
 pub fn open<R: Wait + Drop>(
     alloc: Global,
     rt: R,

@@ -57,7 +57,7 @@ abbrev pub Stops : {K : Type 0} → (K → List Svid → Option ℕ) → Setting
 Stops picks set end =
     StopsOpening picks set.limits set.timeout set.ready set.picker (stops.Terminal end)
 
--- Why an initial synchronisation gives an error: the endpoint is none, or a terminal event came
+-- Why an initial synchronisation gives an error: the endpoint is invalid, or a terminal event came
 -- by the connector or the clock before anything was accepted.
 abbrev pub SyncFails : {K : Type 0} → (K → List Svid → Option ℕ) → Settings K
     → Result (Unit {0}) EndpointError → X509SourceError → Type 0
@@ -111,7 +111,7 @@ pub record IsBuilt {S K : Type 0} (picks : K → List Svid → Option ℕ) (sour
 
 -- ---- by a builder on which nothing was set
 
--- what is left to the supervisor of such a connector, of which nobody knows what it will give
+-- what is left to the supervisor of such a connector, of which nothing is known that it will give
 abbrev pub IsAssignedByDefault : {S K : Type 0} → (S → Type 0) → (K → List Svid → Option ℕ)
     → Option (List (Option ℤ)) → Option (List (Option ℤ)) → Assigned S K → Type 0
 IsAssignedByDefault {S} {K} is_connector picks clock clock' job =

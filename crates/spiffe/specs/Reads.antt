@@ -69,7 +69,7 @@ Gets answer cell old new (Err errors.OutOfMemory) = Unit {0}
 Gets answer cell old new (Err e) = Reads old new (λ view. answer view (Err e))
 Gets answer cell old new (Ok x) = Reads old new (λ view. answer view (Ok x))
 
--- What a try form returns: the value of the getter, and none where the getter has none.
+-- What a `try_` call returns: the value of the getter, and none where the getter has none.
 abbrev pub Tries : {T : Type 0} → (View Material Denial → Result T X509SourceError → Type 0)
     → ℕ → PassView → PassView → Result (Option T) OutOfMemory → Type 0
 Tries answer cell old new (Ok (Some x)) = Gets answer cell old new (Ok x)
