@@ -1,4 +1,4 @@
-//! Live runs over links in memory: the row watch-live, and the statuses.
+//! Live runs over in-memory links: their lines and their statuses.
 
 use spf_api::GrpcStatusCode;
 use spf_fixtures::is_written;

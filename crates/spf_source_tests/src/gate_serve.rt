@@ -42,7 +42,7 @@ fn is_served<R: Wait + Drop>(
     Ok(out.bytes() == lines.as_bytes() && end == wanted)
 }
 
-/// An input, the max number of its lines, what is written, and the end.
+/// An input, the maximum number of its lines, what is written, and the end.
 type Case = (&'static [u8], u64, &'static str, Result<u64, GateError>);
 
 static INPUTS: [Case; 14] = [

@@ -13,7 +13,7 @@ fn is_refused(alloc: Global, text: &str, error: SpiffeIdError) -> bool {
     SpiffeId::new(alloc, text).err() == Some(error)
 }
 
-/// Texts that are no IDs, and the first rule that each breaks.
+/// Texts that are not IDs, and the first rule that each breaks.
 const BROKEN_IDS: &[(&str, SpiffeIdError)] = &[
     ("", SpiffeIdError::Empty),
     ("spiffe://example.org/", SpiffeIdError::TrailingSlash),
