@@ -40,7 +40,7 @@ authorities_rule der = many authority_at (ParseX509Certificate InvalidCertificat
 abbrev pub texts : List (Parts × List ℕ) → List (List ℕ)
 texts parts = map (λ (p : Parts × List ℕ). p.1) parts
 
--- SignRule for each intermediate, in order: the first that breaks it decides
+-- the rule of each intermediate, in order: the first that breaks it decides
 abbrev pub intermediates_rule : List (Parts × List ℕ) → Result (Unit {0}) X509SvidError
 intermediates_rule intermediates =
     each (λ (p : Parts × List ℕ). intermediate_rule p.0) intermediates >>= λ _. Ok tt
