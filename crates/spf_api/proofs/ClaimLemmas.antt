@@ -1,4 +1,4 @@
--- What is laid out is read, and what is read is laid out so: claims.
+-- What is laid out is read, and what is read was laid out: claims.
 use Rattle.std.proofs.Common.{◌≡◌, ℕ, ℤ, zero, suc, ◌+◌, ◌^◌, ◌<◌, Bool, true, false, cond, eqb}
 use Rattle.std.proofs.Common.{List, [], ◌∷◌, ◌++◌, map, Option, Some, None, SFits, to_z, of_z}
 use Rattle.std.proofs.Common.{rules, refl, sym, ap, ◌∙◌, subst, append_assoc, arith}

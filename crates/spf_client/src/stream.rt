@@ -44,8 +44,8 @@ fn next_response<L: Link>(
 }
 
 impl<L: Link, I> WorkloadApiClient<L, I> {
-    /// Returns the next response to the request that was begun last: none at the end of the stream,
-    /// and where it has ended. Whether it has ended is kept by the caller.
+    /// Returns the next response to the last request that was begun: none at the end of the stream,
+    /// and after it. The caller keeps whether the stream has ended.
     pub fn next_response(&mut self, ended: &mut bool) -> Option<Result<Response, WorkloadApiError>>
         ensures brings { Brings L.Link ended.old self.old.link result self.new.link ended.new }
         ensures kind { IfSome result (λ r. IfOk r

@@ -179,7 +179,7 @@ pub record CertText (b : List ℕ) (parts : Parts) : Type 0 where
   pub signed : SignedText b parts.expiry list
   pub extensions : ExtensionTexts list parts.extensions
 
--- the certificates of which the bytes are the concatenation
+-- the certificates whose concatenation the bytes are
 abbrev pub CertsOf : List ℕ → List (List ℕ) → Type 0
 CertsOf b [] = b ≡ []
 CertsOf b (text ∷ texts) =

@@ -17,7 +17,7 @@ use Rattle.spf_der.specs.declared.error.X509ParseKind.TheVariants.{DuplicateExte
 abbrev pub part_at : List ℕ → Result (ExtensionPart × List ℕ) CertReadError
 part_at bytes = here (extension_at bytes)
 
--- the extensions of which the text is the concatenation
+-- the extensions whose concatenation the text is
 abbrev pub extensions_rule : List ℕ → Result (List ExtensionPart) CertReadError
 extensions_rule text = many part_at (Parse InvalidCertificate) (length text) text
 

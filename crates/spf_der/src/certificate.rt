@@ -193,7 +193,7 @@ pub fn extension<'a>(bytes: &'a [u8]) -> Option<(ExtensionView<'a>, &'a [u8])>
 /// For how many extensions of a certificate room is allocated at once.
 const ROOM: usize = 8;
 
-/// The extensions of which the text is the concatenation.
+/// The extensions whose concatenation the text is.
 fn extensions<'a>(alloc: Global, text: &'a [u8]) -> Result<Vec<ExtensionView<'a>>, CertReadError>
     ensures { Gives is_memory (λ v. map plain v.items) result (extensions_rule text.now) }
 {

@@ -87,7 +87,7 @@ fn with_extension<'a>(found: Extensions<'a>, extension: ExtensionView<'a>) -> Ex
     }
 }
 
-/// What is found in the extensions of which the text is the concatenation.
+/// What is found in the extensions whose concatenation the text is.
 fn scan_extensions<'a>(text: &'a [u8]) -> Result<Extensions<'a>, CertReadError>
     ensures { IsScanned result (extensions_rule text.now) }
 {

@@ -271,7 +271,7 @@ fn deny<P: Publisher, M: MetricsRecorder>(
     Ok(is_change(change))
 }
 
-/// Does what an event does, and says whether the snapshot changed.
+/// Does what an event does, and returns whether the snapshot changed.
 #[inline(always)]
 fn take<P: Publisher, M: MetricsRecorder>(
     alloc: Global,

@@ -170,8 +170,8 @@ impl X509SourceState {
         })
     }
 
-    /// The same state of a source that is closed or not. It allocates nothing, and shares what is
-    /// held with this one alone.
+    /// Returns the same state for a source that is closed or not. It allocates nothing, and shares
+    /// what is held with this one alone.
     pub fn share(&self, closed: bool) -> Result<X509SourceState, OutOfMemory>
         ensures { IfOk result (λ s. s ≡ record self.now { closed = closed }) }
     {

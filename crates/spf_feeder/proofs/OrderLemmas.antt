@@ -85,7 +85,7 @@ no_moment phases.Connect (events.Moment x) h = absurd cc
 no_moment phases.Next (events.Moment x) h = absurd cc
 no_moment ask events.Close h = refl
 
--- ---- one event more
+-- ---- one more event
 
 pub orderly_more : {I A : Type 0} (ask : List (SessionEvent I) → Phase)
     (refusal : List (SessionEvent I) → SessionEvent I → Option A) (run : List (SessionEvent I))

@@ -46,7 +46,7 @@ steps_synced s ask (e ∷ past) = λ words.
     (steps_synced s ask past) words
     ∙ sym (synced_next s past e)
 
--- ---- an event more
+-- ---- one more event
 
 -- an event that ends no attempt and opens nothing
 pub passes_on : {I M L D : Type 0} (s : Subject (SessionEvent I) M L D)

@@ -197,7 +197,7 @@ yielded_more wanted ask members past events.StreamEnd h = h
 yielded_more wanted ask members past (events.Moment x) h = tt
 yielded_more wanted ask members past events.Close h = tt
 
--- one ask more
+-- one more ask
 pub yields_more : {I S L : Type 0} (E : Type 0) (wanted : Wanted I)
     (ask : List (SessionEvent I) → Phase) (connector : connectors.Ghosts S L)
     (link : links.Ghosts L) (run : List (SessionEvent I)) (old new : Asked S L)

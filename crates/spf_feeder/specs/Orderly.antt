@@ -51,7 +51,7 @@ pub record GoesOn {I : Type 0} (old new : List (SessionEvent I)) : Type 0 where
   pub run_is : new ≡ old ++ later
   pub timeless : has_moment later ≡ false
 
--- one event more, which the ask before it yielded
+-- one more event, which the ask before it yielded
 pub record AddsAnswerTo {I : Type 0} (ask : List (SessionEvent I) → Phase)
     (old new : List (SessionEvent I)) : Type 0 where
   pub event : SessionEvent I

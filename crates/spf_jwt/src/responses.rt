@@ -48,8 +48,8 @@ fn named_bundles(alloc: Global, entries: &[BundleEntry]) -> Result<Vec<JwtBundle
     Ok(bundles)
 }
 
-/// Returns the bundles of the response, of which a
-/// later one of a trust domain replaces an earlier one.
+/// Returns the bundles of the response, where a later one of a trust domain replaces an earlier
+/// one.
 #[tactic(auto, unfolding(crate::specs::Responses::jwt_bundle_set_of))]
 pub fn jwt_bundle_set_from(
     alloc: Global,

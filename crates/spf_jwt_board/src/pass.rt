@@ -21,7 +21,7 @@ use spf_jwt_feed::JwtSourceState;
 use std::alloc::Global;
 use std::marker::Model;
 
-/// What one reader has seen. It has a place on the board, and may have places for passes to come.
+/// What one reader has seen. It has a place on the board, and may hold places for further passes.
 #[derive(Drop)]
 pub struct JwtPass {
     // There is one between two calls.

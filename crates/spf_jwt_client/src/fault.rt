@@ -67,7 +67,7 @@ fn failed(e: WorkloadApiError) -> JwtSourceError
 }
 
 impl AskFault {
-    /// The error of a fetch whose last ask failed so.
+    /// The error of a fetch whose last ask failed like this.
     pub(crate) fn into_error(self) -> JwtSourceError
         ensures { result ≡ fault_error self }
     {

@@ -237,7 +237,7 @@ fn deny<P: JwtPublisher, M: JwtMetricsRecorder>(
     Ok(is_change(change))
 }
 
-/// Does what an event does, and says whether the snapshot changed.
+/// Does what an event does, and returns whether the snapshot changed.
 fn take<P: JwtPublisher, M: JwtMetricsRecorder>(
     alloc: Global,
     publisher: &mut P,

@@ -49,7 +49,7 @@ pub record Yields {S L : Type 0} (members : S → Option (List Member))
   pub yielded : AllYielded rules first (reverse run)
   pub rest : Holds members answers (left_after rules first (reverse run)) asked.connector asked.link
 
--- A turn that went through: one ask, one event more, which is published before the next turn.
+-- A turn that went through: one ask, one more event, which is published before the next turn.
 pub record TurnedOnce {S L P M : Type 0} (connector : connectors.Ghosts S L)
     (link : links.Ghosts L) (records : M → Option (List JwtMetricsRecord)) (rules : Rules)
     (old : Fed S L P M) (end : Option AttemptEnd) (new : Fed S L P M) : Type 0 where

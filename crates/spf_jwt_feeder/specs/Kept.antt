@@ -62,7 +62,7 @@ pub record Going (rules : Rules) (run : List Event) (steps : Option (List PlainS
   pub gave_is : gave_accepted rules (reverse run) ≡ gave
   pub synced : IsTrue (is_some kept) → HasStep steps
 
--- One event more went through: its step was published and its records were recorded.
+-- One more event went through: its step was published and its records were recorded.
 pub record Advanced {P M : Type 0} (records : M → Option (List JwtMetricsRecord)) (rules : Rules)
     (old : Core P M) (e : Event) (end : Option AttemptEnd) (new : Core P M) : Type 0 where
   pub run_is : new.run ≡ old.run ++ e ∷ []

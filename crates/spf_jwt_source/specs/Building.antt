@@ -49,7 +49,7 @@ stopped_as (stops.Terminal terminal.InitialSyncTimeout) = errors.InitialSyncTime
 stopped_as (stops.Terminal terminal.Closed) = errors.OutOfMemory
 stopped_as stops.OutOfMemory = errors.OutOfMemory
 
--- the initial synchronisation may stop so
+-- the initial synchronisation may stop with this terminal event
 abbrev pub Stops : JwtSettings → Terminal → Type 0
 Stops set end =
     StopsOpening set.limits set.timeout (stops.Terminal end)

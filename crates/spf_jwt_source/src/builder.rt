@@ -141,9 +141,9 @@ where
         self
     }
 
-    /// Synchronises, and makes all of a source but what runs its supervisor: the source, its first
-    /// pass, the job of the supervisor, and what is left to make a handle of it. The caller starts
-    /// the job, as on a thread of its own.
+    /// Synchronises, and makes all of a source but a running supervisor: the source, its first
+    /// pass, the job of the supervisor, and what is then needed to make its handle. The caller
+    /// starts the job, for instance on a thread.
     pub fn prepare<T, W, N, R, L>(
         self,
         rt: R,

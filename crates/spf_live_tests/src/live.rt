@@ -45,7 +45,7 @@ struct Wanted {
     error: &'static str,
 }
 
-/// Whether a run ended so.
+/// Whether a run ended like this.
 fn is_so(
     alloc: Global,
     status: u8,
@@ -61,8 +61,8 @@ fn is_so(
     )
 }
 
-/// Whether a run of these arguments ends so, whose supervisor runs where it is joined, and whose
-/// output fails at these calls.
+/// Whether a run of these arguments ends like this, where the supervisor runs where it is joined,
+/// and the output fails at these calls.
 fn ends<R: Wait + Clock + Copy + Drop>(
     rt: R,
     alloc: Global,

@@ -14,7 +14,7 @@ abbrev pub folded : {M : Type 0} → (M → WireField → Option M) → M → Li
 folded step message [] = Some message
 folded step message (f ∷ fs) = step message f >>= λ next. folded step next fs
 
--- a message, and the fields of which the bytes are the concatenation
+-- a message, and the fields whose concatenation the bytes are
 abbrev pub message_from : {M : Type 0} → (M → WireField → Option M) → M → List ℕ → Option M
 message_from step message bytes = fields_of bytes >>= folded step message
 

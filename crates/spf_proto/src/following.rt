@@ -60,7 +60,7 @@ fn buffers(alloc: Global, seconds: u64) -> Result<(Vec<u8>, Vec<u8>), OutOfMemor
     Ok((chunk_of(alloc)?, frame_of(alloc, seconds)?))
 }
 
-/// Follows the messages of a source that is lent, and gives it back.
+/// Follows the messages of a source that is lent, and returns the source.
 fn follow_lent<N: Origin, T: LentSource, K: Sink, P: Publisher, M: MetricsRecorder, C: SvidPicker>(
     alloc: Global,
     source: T,

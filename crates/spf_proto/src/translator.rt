@@ -303,7 +303,7 @@ impl<'p, T: LentSource, C: SvidPicker, N: Origin> Translator<'p, T, C, N> {
         }
     }
 
-    /// How following the body ended, where following the frames ended so.
+    /// How following the body ended, where following the frames ended like this.
     pub(crate) fn result_of(&mut self, end: FrameEnd, max: u32) -> Result<u64, ProtoError>
         requires max { max ≡ N.begin.max }
         ensures { IsResultOf T.left T.failures N.begin

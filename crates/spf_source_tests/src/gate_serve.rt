@@ -29,7 +29,7 @@ fn source_of(alloc: Global, input: &[u8]) -> Result<MemSource, Fail> {
     Ok(MemSource::new(bytes, Vec::new(alloc), Vec::new(alloc)))
 }
 
-/// Whether these lines are written for the input, and its answering ends so.
+/// Whether these lines are written for the input, and its answering ends like this.
 fn is_served<R: Wait + Drop>(
     rt: R,
     alloc: Global,

@@ -21,7 +21,7 @@ pub trait BundleSource {
     // domain to a reader that has seen this much of it.
     ghost answers: { Self → Self.Seen → List ℕ → Option Self.Item → Type 0 };
 
-    /// A share of the bundle of that trust domain.
+    /// Returns a share of the bundle of that trust domain.
     fn bundle_for_trust_domain(
         &self,
         seen: &mut Self::Seen,
@@ -46,7 +46,7 @@ pub trait SvidSource {
     // What the source returns for a moment to a reader that has seen this much of it.
     ghost answers: { Self → Self.Seen → Option ℤ → Self.Item → Type 0 };
 
-    /// A share of the SVID that is current at that moment, in Unix seconds.
+    /// Returns a share of the SVID that is current at that moment, in Unix seconds.
     fn svid(&self, seen: &mut Self::Seen, now: Option<i64>) -> Result<Arc<Self::Item>, Self::Error>
         requires { fits self.now seen.old }
         ensures fits { fits self.now seen.new }

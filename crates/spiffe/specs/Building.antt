@@ -52,7 +52,7 @@ stopped_as (stops.Terminal terminal.InitialSyncTimeout) = errors.InitialSyncTime
 stopped_as (stops.Terminal terminal.Closed) = errors.OutOfMemory
 stopped_as stops.OutOfMemory = errors.OutOfMemory
 
--- the initial synchronisation may stop so
+-- the initial synchronisation may stop with this terminal event
 abbrev pub Stops : {K : Type 0} → (K → List Svid → Option ℕ) → Settings K → Terminal → Type 0
 Stops picks set end =
     StopsOpening picks set.limits set.timeout set.ready set.picker (stops.Terminal end)

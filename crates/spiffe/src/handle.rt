@@ -76,7 +76,7 @@ impl<J: Job, H: Joins<J> + Drop> Model for SupervisorHandle<J, H> {
 }
 
 impl<J: Job, H: Joins<J> + Drop> SupervisorHandle<J, H> {
-    /// Closes the source, waits for the supervisor, and gives what its job leaves.
+    /// Closes the source, waits for the supervisor, and returns what its job leaves.
     pub fn close_and_join(self) -> J::Done
         ensures { J.may_give self.job result }
     {
@@ -162,8 +162,8 @@ where
     R: Wait + Drop,
     H: Joins<X509Job<C, K, M, W, N, R>> + Drop,
 {
-    /// Closes the source, waits for the supervisor, and gives its record: what the pass of the same
-    /// source has then seen is exactly the steps of the record, and it never sees more.
+    /// Closes the source, waits for the supervisor, and returns its record: what the pass of the
+    /// same source has then seen is exactly the steps of the record, and it never sees more.
     pub fn join_record(self, pass: &mut Pass) -> Result<Supervised<K>, OutOfMemory>
         requires { pass.old.book ≡ self.job.board }
         ensures record { IfOk result (IsOf C.members K.picks self.job) }
