@@ -24,7 +24,7 @@ pub record OpensStream {L I : Type 0} (link : links.Ghosts L) (made : Intercepte
 
 module _ (L I : RattleType) (link : links.Ghosts L.Denot) (made : Intercepted) (request : Request)
     (client : MutBor (WorkloadApiClient L.Denot I.Denot)) where
-  -- where there is no stream, the request was begun without success
+  -- where there is no stream, beginning the request failed
   abbrev pub EndsInVain : {T : Type 0} → Result T WorkloadApiError
       → WorkloadApiClient L.Denot I.Denot → Type 0
   EndsInVain result end = MatchResult result (λ _. Unit {0})

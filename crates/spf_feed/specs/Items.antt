@@ -46,7 +46,7 @@ IsReceived (Ok context) r = r ≡ Ok (Some context)
 IsReceived (Err api.OutOfMemory) r = IsErr r
 IsReceived (Err e) r = r ≡ Ok None
 
--- the same of a payload that lays out a response
+-- the context of the response that a payload lays out
 abbrev pub item_at : List ℕ → Option (Option Context)
 item_at payload = option_map context_in (context_at payload)
 

@@ -152,7 +152,7 @@ records_by read synced limits (events.ItemStatus s) = ended synced (Some kinds.S
 records_by read synced limits events.StreamEnd = ended synced (Some kinds.StreamEnded)
 records_by read synced limits _ = []
 
--- an accepted item is an update where something else was visible before it; the first one is none
+-- an accepted item is an update where something else was visible before it; the first one is not
 abbrev pub update_records : View Material Denial → Material → List MetricsRecord
 update_records Waiting material = []
 update_records view material =

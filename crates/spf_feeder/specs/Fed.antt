@@ -94,7 +94,7 @@ Turns connector link records rules old (Ok end) new =
     TurnedOnce connector link records rules old end new
 Turns connector link records rules old (Err e) new = TurnedAway connector link rules old new
 
--- a terminal event came after the run, and is not part of it
+-- a terminal event came after the run, and is not part of it; or memory ran out
 abbrev pub StopsBy : Rules → List Event → Stop → Type 0
 StopsBy rules run (stops.Terminal end) =
     (e : Event) × ((stream rules).refusal (reverse run) e ≡ Some end)

@@ -40,7 +40,7 @@ abbrev pub AreOrderly : {I A : Type 0} → (List (SessionEvent I) → Phase)
 AreOrderly ask refusal [] = Unit {0}
 AreOrderly ask refusal (e ∷ past) = MayStand ask refusal past e × AreOrderly ask refusal past
 
--- one of these is a moment
+-- whether one of these is a moment
 abbrev pub has_moment : {I : Type 0} → List (SessionEvent I) → Bool
 has_moment [] = false
 has_moment (e ∷ run) = is_moment e || has_moment run

@@ -112,7 +112,7 @@ records_by read synced limits (events.ItemStatus s) = ended synced (Some kinds.S
 records_by read synced limits events.StreamEnd = ended synced (Some kinds.StreamEnded)
 records_by read synced limits _ = []
 
--- an accepted item is an update where something else was visible before it; the first one is none
+-- an accepted item is an update where something else was visible before it; the first one is not
 abbrev pub update_records : View BundleSet Denial → BundleSet → List JwtMetricsRecord
 update_records Waiting set = []
 update_records view set =

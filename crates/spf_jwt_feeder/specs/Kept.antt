@@ -52,8 +52,8 @@ core_of publisher recorder settings run stuck = record {
 abbrev pub rules_of : JwtSessionRules → Rules
 rules_of settings = record { limits = settings.limits; deadline = settings.deadline }
 
--- What is kept in place stands for the events so far. Where the last moment
--- stands makes no difference to what is accepted, so it is not kept.
+-- What is kept in place stands for the events so far. The last moment makes no difference to what
+-- is accepted, so it is not kept.
 pub record Going (rules : Rules) (run : List Event) (steps : Option (List PlainStep))
     (kept : Option (Kept BundleSet Denial)) (phase : Phase) (gave : Bool) : Type 0 where
   pub moment : Option ℤ

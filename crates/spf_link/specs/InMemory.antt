@@ -39,8 +39,8 @@ abbrev pub kind_after : {T : Type 0} → Result T LinkFault → Request → Opti
 kind_after (Ok _) request = Some (answered_by request)
 kind_after (Err f) request = None
 
--- a `start` returns by the next answer, and keeps what it was given; where memory runs out, at most
--- an answer is taken
+-- a `start` returns what the next answer says, and keeps what it was given; where memory runs out,
+-- at most an answer is taken
 abbrev pub StartsInMemory : LinkState → Start → Result (Unit {0}) LinkFault → LinkState → Type 0
 StartsInMemory old start (Err fault.OutOfMemory) new = (new ≡ old)
     ⊎ ((started_by old.answers ≡ Err fault.OutOfMemory)
@@ -55,7 +55,7 @@ StartsInMemory old start result new =
       refusals = refusals_after result old.refusals;
     })
 
--- a `next` returns by the next answer
+-- a `next` returns what the next answer says
 abbrev pub NextsInMemory : LinkState → Result (Option Response) LinkFault → LinkState → Type 0
 NextsInMemory old result new =
     (result ≡ next_by old.kind old.answers)

@@ -62,7 +62,8 @@ AreAt clock (line ∷ earlier) clock' =
 -- ---- what is printed
 
 -- One more line is printed, of a state that was read of what the pass has seen, whose revision is
--- marked and above an earlier one. A failed sink may cut it; out of memory there is none.
+-- marked and above an earlier one. A failed sink may cut it; where memory runs out, none is
+-- printed.
 pub record IsNext (seen : Seen) (marked : ℕ) (earlier : Option ℕ) (clock clock' : Moments)
     (line : Line) : Type 0 where
   pub list_is : line.list ≡ seen

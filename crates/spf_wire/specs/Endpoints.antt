@@ -33,7 +33,7 @@ abbrev pub IsOwnFault : {E : Type 0} → Result (Unit {0}) E → ClientFault →
 IsOwnFault (Ok _) f = Unit {0}
 IsOwnFault (Err e) f = IsNoStatus f
 
--- nobody is reached by a text that breaks a rule
+-- nobody is reached by a text that breaks a rule, and no status is then returned
 abbrev pub IsUnreached : {E L : Type 0} → Result (Unit {0}) E → Result L ClientFault → Type 0
 IsUnreached rule (Ok link) = rule ≡ Ok tt
 IsUnreached rule (Err f) = IsOwnFault rule f

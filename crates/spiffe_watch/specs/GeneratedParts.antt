@@ -31,7 +31,7 @@ pub record IsExpiry (generation : ℕ) (text : List ℕ) : Type 0 where
   pub is : text ≡ expiry_text (expiry_of generation)
   pub size : length text ≡ 15
 
--- each operation may raise the generation
+-- the generation stays within 16 bits, also where each operation that is left raises it
 abbrev pub HasRoom : Option ℕ → ℕ → Type 0
 HasRoom left generation = IfSome left (λ left. generation + left ≤ 65535)
 
