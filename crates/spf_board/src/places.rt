@@ -37,7 +37,7 @@ impl BoardPlaces {
         BoardPlaces { refused: 0 }
     }
 
-    /// Counts a refusal.
+    /// Counts a refusal, and returns it.
     pub fn refuse(&mut self) -> PlaceFault
         ensures later { self.old ≤ self.new }
         ensures counted { Rose self.old self.new }
@@ -69,7 +69,7 @@ impl RefusingPlaces {
         RefusingPlaces { refused: 0 }
     }
 
-    /// Counts a refusal.
+    /// Counts a refusal, and returns it.
     pub fn refuse(&mut self) -> PlaceFault
         ensures later { self.old ≤ self.new }
         ensures counted { Rose self.old self.new }

@@ -78,7 +78,7 @@ impl X509ParseError {
 }
 
 impl CertReadError {
-    /// Returns the bytes are not a certificate.
+    /// Returns the error that the bytes are not a certificate.
     #[inline]
     pub fn invalid() -> CertReadError
         ensures { result ≡ CertReadError.Parse X509ParseKind.InvalidCertificate }

@@ -14,9 +14,9 @@ use std::fmt;
 pub struct ResourceLimits {
     pub max_svids: Option<usize>,
     pub max_bundles: Option<usize>,
-    /// The limit of octets of the authorities of one trust domain.
+    /// How many octets the authorities of one trust domain may have.
     pub max_bundle_der_bytes: Option<usize>,
-    /// The limit of octets of all revocation lists.
+    /// How many octets all revocation lists may have.
     pub max_crl_bytes: Option<usize>,
 }
 

@@ -69,7 +69,8 @@ impl<F: Fn(&[Arc<X509Svid>]) -> Option<usize>, N: PickFunction> SvidPicker for F
     }
 }
 
-/// Picks the first SVID of a hint. An empty text picks nothing, since an empty hint is no hint.
+/// Picks the first SVID that has its hint. An empty text picks nothing, since an empty hint is no
+/// hint.
 #[derive(Debug, Drop)]
 pub struct HintPicker {
     hint: Text,

@@ -44,8 +44,8 @@ moments_in [] = []
 moments_in (events.Moment m ∷ run) = m ∷ moments_in run
 moments_in (_ ∷ run) = moments_in run
 
--- What a clock gave are the moments that a run has more, in order, where the moments of the clock
--- are known.
+-- The moments that a run has in addition are those that the clock gave, in order, where the moments
+-- of the clock are known.
 abbrev pub Gives : {I : Type 0} → Option (List (Option ℤ)) → Option (List (Option ℤ))
     → List (SessionEvent I) → List (SessionEvent I) → Type 0
 Gives None new before run = Unit {0}

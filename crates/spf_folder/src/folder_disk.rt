@@ -13,9 +13,9 @@ use spf_disk::{Disk, DiskFailed, HelperFile, MemDisk};
 use std::alloc::Global;
 use std::fs;
 
-/// The three files of a folder. What they held when they were opened, and what is written since,
-/// is kept in memory too: reads are served from there, and contracts speak of that. That the
-/// operating system keeps the files so is trusted. After a call that failed each later one fails.
+/// The three files of a folder. What they held when they were opened, and what is written since, is
+/// kept in memory too: reads are served from there, and contracts speak of that. It is trusted that
+/// the operating system keeps the files like this. After a call that failed each later one fails.
 #[derive(Drop)]
 pub struct FolderDisk {
     memory: MemDisk,

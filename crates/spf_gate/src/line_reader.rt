@@ -15,10 +15,10 @@ use memchr::memchr;
 use spf_io::Source;
 use std::alloc::Global;
 
-/// The most bytes of a line.
+/// The maximum number of bytes of a line.
 const MAX_LINE: usize = 4096;
 
-/// The bytes that are asked of the source at once.
+/// How many bytes are read at once.
 const PIECE: usize = 4096;
 
 /// Where the first line of the bytes ends.

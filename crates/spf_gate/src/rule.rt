@@ -20,7 +20,8 @@ pub enum Pattern {
     Id(SpiffeId),
     /// Each ID of this trust domain.
     Domain(TrustDomain),
-    /// Each ID of the same trust domain whose path is this one, or this one, `/` and more.
+    /// Each ID of the same trust domain whose path is this one, or this one followed by `/` and
+    /// more.
     Prefix(SpiffeId),
 }
 
@@ -177,7 +178,7 @@ fn ends_or_goes_on(rest: &[u8]) -> bool
     matches!(rest, [] | [b'/', ..])
 }
 
-/// Whether a path is this one, or this one, `/` and more.
+/// Whether a path is this one, or this one followed by `/` and more.
 #[tactic(auto, unfolding(crate::specs::Rules::is_under))]
 fn is_under(own: &str, path: &str) -> bool
     ensures { result ≡ spec.is_under own.now path.now }

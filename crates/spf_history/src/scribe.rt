@@ -66,8 +66,8 @@ impl<K: Kind> Scribe<K> {
         Front::new(self.number, &self.seen)
     }
 
-    /// Adds a step, and returns whether it did. It does not at the greatest length of a history,
-    /// nor where something else has written to it, which nothing can.
+    /// Adds a step, and returns whether it did. It does not where the history has its greatest
+    /// length, or where something else has written to it, which nothing can.
     pub fn add(&mut self, step: &K::Step) -> bool
         requires { MayFollow K.legal self.old.list (entry.Step step.now) }
         ensures book { self.new.book ≡ self.old.book }

@@ -12,7 +12,7 @@ use std::fmt;
 #[derive(Clone, Copy, Debug, PartialEq, Eq)]
 pub struct JwtResourceLimits {
     pub max_bundles: Option<usize>,
-    /// The limit of octets of the keys of one trust domain.
+    /// How many octets the keys of one trust domain may have.
     pub max_bundle_jwks_bytes: Option<usize>,
 }
 

@@ -8,8 +8,8 @@ use spf_io::{OutOfMemory, Text};
 use std::alloc::Global;
 use std::marker::Model;
 
-/// Names and values, a name once, in the order in which they were first set. Contracts see the list
-/// of pairs.
+/// Names and values, each name once, in the order in which they were first set. Contracts see the
+/// list of pairs.
 #[derive(Drop)]
 pub struct Headers {
     alloc: Global,

@@ -61,7 +61,7 @@ fn unfit(alloc: Global) -> LinkFault
     LinkFault::Status(unavailable(alloc))
 }
 
-/// What a `start` returns by an answer.
+/// What a `start` returns for an answer.
 fn started_by(alloc: Global, answer: Option<Answer>) -> Result<(), LinkFault>
     ensures { result ≡ spec.started_by (option_to_list answer) }
 {
@@ -85,7 +85,7 @@ fn is_asked(kind: Option<ResponseKind>, response: &Response) -> bool
     }
 }
 
-/// What a `next` returns by an answer, where responses of that kind were asked for.
+/// What a `next` returns for an answer, where responses of that kind were asked for.
 fn given_by(
     alloc: Global,
     kind: Option<ResponseKind>,

@@ -183,7 +183,8 @@ impl X509Svid {
         Ok(Arc::new(alloc, svid)?)
     }
 
-    /// The SVID of a chain which may have the certificates after its leaf from this one.
+    /// The SVID of a chain, whose certificates after the leaf are copied from this SVID where they
+    /// are the same.
     fn parse_beside(
         &self,
         alloc: Global,

@@ -86,7 +86,7 @@ impl<R: Wait + Drop> Held<R> {
         (Held { writer, scribe, rt }, result)
     }
 
-    // Says whether the end was published.
+    // Publishes the end, and returns whether it was published.
     fn end(self) -> (Held<R>, bool)
         requires { is_ended self.list ≡ false }
         ensures whole { result.1 ≡ is_ended result.0.list }

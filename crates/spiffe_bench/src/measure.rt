@@ -37,7 +37,7 @@ fn start_reader<R: Threads + Wait + Clock + Copy + Drop + Send + 'static>(
     }
 }
 
-/// Starts as many threads that read.
+/// Starts that many threads that read.
 fn start_readers<R: Threads + Wait + Clock + Copy + Drop + Send + 'static>(
     rt: R,
     alloc: Global,
