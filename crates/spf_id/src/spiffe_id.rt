@@ -48,7 +48,7 @@ fn is_lower_case_scheme(octets: &[u8]) -> bool
     matches!(octets, [b's', b'p', b'i', b'f', b'f', b'e', b':'])
 }
 
-/// Returns whether a URI begins with `spiffe:`, in whatever ASCII case.
+/// Returns whether a URI begins with `spiffe:`, ignoring ASCII case.
 #[tactic(auto, unfolding(crate::specs::Rule::has_spiffe_scheme))]
 pub fn uri_has_spiffe_scheme(uri: &str) -> bool
     ensures { result ≡ has_spiffe_scheme uri.now }
