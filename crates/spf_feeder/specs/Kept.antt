@@ -83,7 +83,7 @@ pub record Ended {P M K : Type 0} (rules : Rules) (old : Core P M K) (e : Event)
   pub stuck_is : new.stuck ≡ true
   pub refused : (stream rules).refusal (reverse old.run) e ≡ Some end
 
--- Memory ran out: the event is in the run exactly where its step, if it has one, was published.
+-- Memory ran out: the event was added to the run, or was not.
 pub record Stopped {P M K : Type 0} (old : Core P M K) (e : Event) (new : Core P M K) :
     Type 0 where
   pub run_is : (new.run ≡ old.run) ⊎ (new.run ≡ old.run ++ e ∷ [])

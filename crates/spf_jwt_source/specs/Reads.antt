@@ -146,7 +146,7 @@ abbrev pub OfState : PassView → (View BundleSet Denial → Type 0) → Type 0
 OfState pass holds =
     (state : StateView) × IsStateOf pass.seen state.closed state × holds state.view
 
--- a source that is closed: out of memory, where no caller closed it
+-- the error of a closed source, or out of memory
 abbrev pub IsClosing : {T : Type 0} → Result T JwtSourceError → Type 0
 IsClosing (Err errors.Closed) = Unit {0}
 IsClosing (Err errors.OutOfMemory) = Unit {0}
