@@ -29,7 +29,7 @@ impl StepWords {
     }
 
     /// Returns the generator whose seed is a moment of the clock, in Unix seconds; 0 where there is
-    /// none.
+    /// none, or it is before the epoch.
     pub fn seeded_at(moment: Option<i64>) -> StepWords
         ensures { result ≡ seed_of moment }
     {
