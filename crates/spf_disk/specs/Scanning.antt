@@ -53,7 +53,7 @@ abbrev pub at_slot : Standing → Standing → Slot → Standing
 at_slot first second slot.First = first
 at_slot first second slot.Second = second
 
--- The latest entry stands in the other slot than the next one.
+-- The latest entry stands in the slot other than the next one.
 pub record IsChosen (first second : Standing) (s : Scanned) : Type 0 where
   pub other : at_slot first second (other_slot s.next) ≡ held_as s.entry
   pub passed : IsPassed (at_slot first second s.next) (at_slot first second (other_slot s.next))
