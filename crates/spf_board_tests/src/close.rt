@@ -25,7 +25,7 @@ fn first_mark_stays(rt: HostRuntime) -> Result<(), Fail> {
     Ok(())
 }
 
-/// A further closer closes in the name of its maker.
+/// Another closer closes in the name of its maker.
 #[test]
 fn another_closer(rt: HostRuntime) -> Result<(), Fail> {
     let (mut caller, _supervisor, watch) = closed_cell(rt.alloc())?;

@@ -29,7 +29,7 @@ impl Job for Sum {
     }
 }
 
-/// What a live source does with its spawner: what the job leaves, it may leave.
+/// What a live source does with its spawner: the job leaves what it may leave.
 fn sum_by<S: Spawner<Sum>>(spawner: &mut S, left: u32, right: u32) -> Result<u64, Failed> {
     let handle = spawner.start(Sum { left, right })?;
     Ok(handle.join())

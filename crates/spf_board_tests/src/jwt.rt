@@ -45,7 +45,7 @@ fn withdraw<R: Wait + Drop>(alloc: Global, desk: &mut JwtDesk<R>) -> Result<(), 
     desk.publish(JwtStep::Deny { reason })
 }
 
-// That an ended writer is of the board of a front.
+// The promise that an ended writer is of the board of a front.
 #[derive(Drop)]
 struct OfBoard(Snapshot<Front<Jwt>>);
 
@@ -69,7 +69,7 @@ fn end_elsewhere<R: Threads + Wait + Copy + Drop + Send + 'static>(
     Ok(child.join(rt))
 }
 
-// Whether a revision is read within so many turns.
+// Whether a revision is read within this many turns.
 fn reads(pass: &mut JwtPass, revision: u64) -> bool {
     for _ in 0..TURNS {
         if let Ok(state) = pass.state(false) {

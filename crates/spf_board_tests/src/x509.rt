@@ -47,7 +47,7 @@ fn withdraw<R: Wait + Drop>(alloc: Global, desk: &mut Desk<R>) -> Result<(), Out
     desk.publish(Step::Deny { reason })
 }
 
-// That an ended writer is of the board of a front.
+// The promise that an ended writer is of the board of a front.
 #[derive(Drop)]
 struct OfBoard(Snapshot<Front<X509>>);
 
@@ -71,7 +71,7 @@ fn end_elsewhere<R: Threads + Wait + Copy + Drop + Send + 'static>(
     Ok(child.join(rt))
 }
 
-// Whether a revision is read within so many turns.
+// Whether a revision is read within this many turns.
 fn reads(pass: &mut Pass, revision: u64) -> bool {
     for _ in 0..TURNS {
         if let Ok(state) = pass.state(false) {

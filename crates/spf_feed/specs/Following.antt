@@ -1,4 +1,4 @@
--- How a session ends.
+-- Following a session: reading an event, taking its turn, its line, and how it ends.
 use Rattle.std.specs.Prelude.{◌≡◌, ℕ, ◌+◌, ℤ, ◌≤◌, ◌<◌, Bool, true, false, IsTrue, List, [], ◌∷◌}
 use Rattle.std.specs.Prelude.{length, Option, None, Some, Result, Ok, Err, IfErr, if◌then◌else◌}
 use Rattle.std.specs.Option.{option_to_list}
@@ -182,7 +182,8 @@ abbrev pub IsLineOf : LineView → Option (Kept Material Denial) → Option ℤ 
 IsLineOf line None now = line.text ≡ shown_text Waiting 0 None
 IsLineOf line (Some kept) now = ShowsKept kept now line
 
--- a line is written anew where what is kept changed, or where the choice appears or expires
+-- the line stays where nothing is kept; otherwise the new line shows what is kept, where that
+-- changed or the old line showed it
 abbrev pub IsShownAfter : LineView → LineView → Option (Kept Material Denial) → Bool → Option ℤ
     → Type 0
 IsShownAfter old new None changed now = new ≡ old

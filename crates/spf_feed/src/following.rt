@@ -91,7 +91,7 @@ fn is_close(event: &Received) -> bool
     matches!(event, Received::Close)
 }
 
-/// The last moment after an event.
+/// Returns the last moment after an event.
 pub fn moment_after(now: Option<i64>, event: &Received) -> Option<i64>
     ensures { result ≡ option_or (received_moment event.now) now }
 {
@@ -131,7 +131,7 @@ pub enum Change {
     Unchanged,
 }
 
-/// One more step, which opens the snapshot where there is none before it.
+/// Applies one more step, which opens the snapshot where there is none yet.
 fn take_step(snapshot: &mut Option<Snapshot>, step: Prepared) -> Change
     requires { snapshot.old ≡ None → IsTrue (is_accept step) }
     ensures change { result ≡ change_of snapshot.old step }
@@ -164,8 +164,8 @@ fn is_held(snapshot: &Option<Snapshot>, step: &Step) -> bool
     }
 }
 
-/// Publishes a step that is prepared before, and then takes it into the snapshot. A step that
-/// accepts what is held needs no preparation.
+/// Prepares a step, publishes it, and then applies it to the snapshot. A step that accepts what is
+/// held needs no preparation.
 pub fn publish<P: Publisher>(
     alloc: Global,
     publisher: &mut P,
@@ -194,7 +194,7 @@ pub fn publish<P: Publisher>(
     Ok(take_step(snapshot, prepared))
 }
 
-/// An update is recorded where something else than before is visible.
+/// Records an update where something else is visible than before.
 fn record_change<M: MetricsRecorder>(recorder: &mut M, change: Change) -> Result<(), OutOfMemory>
     ensures { HandsOn (M.records recorder.old) (M.records recorder.new) result (update_of change) }
 {
@@ -204,7 +204,7 @@ fn record_change<M: MetricsRecorder>(recorder: &mut M, change: Change) -> Result
     }
 }
 
-/// Whether something else than before is visible.
+/// Whether something else is visible than before.
 fn is_change(change: Change) -> bool
     ensures { result ≡ is_changed change }
 {
@@ -271,7 +271,7 @@ fn deny<P: Publisher, M: MetricsRecorder>(
     Ok(is_change(change))
 }
 
-/// Does what an event does, and says whether the snapshot changed.
+/// Does what an event does, and returns whether the snapshot changed.
 #[inline(always)]
 fn take<P: Publisher, M: MetricsRecorder>(
     alloc: Global,

@@ -38,7 +38,7 @@ limits_in arguments =
       max_crl_bytes = crls;
     })
 
--- the setting of a live run, whose options come each at most once
+-- the setting of a live run, each of whose options comes at most once
 unfoldable pub live_setting : List (List ℕ) → Option LiveSetting
 live_setting arguments =
     if not (are_pairs (is_one_of live_names) arguments) then None

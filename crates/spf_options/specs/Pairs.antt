@@ -22,7 +22,7 @@ values_of option (name ∷ []) = []
 values_of option (name ∷ value ∷ arguments) =
     if bytes_eq name option then value ∷ values_of option arguments else values_of option arguments
 
--- the one value, or that there is none; none where there are several
+-- the one value, if any; none where there are several
 abbrev pub at_most_one : List (List ℕ) → Option (Option (List ℕ))
 at_most_one [] = Some None
 at_most_one (value ∷ []) = Some (Some value)

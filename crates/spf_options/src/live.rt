@@ -77,7 +77,7 @@ fn limits_of(arguments: &[String]) -> Option<ResourceLimits>
     ))
 }
 
-/// What the arguments of a live run set; `None` where they are not those of one.
+/// Returns what the arguments of a live run set; `None` where they are not those of one.
 #[tactic(auto, unfolding(crate::specs::Live::live_setting))]
 pub fn live_options(arguments: &[String]) -> Option<LiveOptions<'_>>
     ensures setting { result ≡ live_setting (map string_bytes arguments.now) }

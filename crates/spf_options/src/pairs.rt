@@ -5,7 +5,7 @@ ghost use Rattle.std.specs.Option.{option_map, option_copied};
 ghost use Rattle.spf_options.specs.Pairs.{at_most_one, values_of};
 ghost use Rattle.spf_options.specs.Pairs as spec;
 
-/// The value that pairs give to an option, if any; `None` where they give several.
+/// Returns the value that pairs give to an option, if any; `None` where they give several.
 pub fn value_of<'a>(arguments: &'a [String], option: &str) -> Option<Option<&'a str>>
     ensures { option_map option_copied result
         ≡ at_most_one (values_of option.now (map string_bytes arguments.now)) }

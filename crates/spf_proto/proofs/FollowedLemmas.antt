@@ -292,7 +292,7 @@ read_so_far loan left failures b t bytes more i first now stop =
           ∙ body_of b.max i.text (t.got ++ more) i.messages t.allowed i.are i.counted stop;
     }
 
--- its own source tells its bytes
+-- the bytes of its own source are known
 tells : {T : Type 0} (loan : T → ℕ) (left : T → Option (List ℕ)) (failures : T → ℕ)
     (b : Beginning) (t : Translating T) (bytes : List ℕ) → IsTranslator loan left failures b t
     → b.left ≡ Some bytes → IsKnown (left t.source)

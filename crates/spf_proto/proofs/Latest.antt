@@ -56,7 +56,7 @@ last_with false e done kept next is has last =
     ∙ ap (map bundle_entry_of) (sym (reverse-append kept (e ∷ [])))
     ∙ ap (λ (l : List BundleEntryView). map bundle_entry_of (reverse l)) (sym is))
 
--- one entry more was looked at
+-- one more entry was looked at
 pub kept_with : (entries left before kept next : List BundleEntryView)
     (names met : BTreeSet (Bor (List ℕ))) (e : BundleEntryView)
     → left ≡ before ++ e ∷ [] → KeptWith e kept next names met → Kept entries left kept names

@@ -44,7 +44,7 @@ fn frame_of(alloc: Global, seconds: u64) -> Result<Vec<u8>, OutOfMemory>
     Ok(frame)
 }
 
-/// What octets are read into.
+/// The buffer that octets are read into.
 fn chunk_of(alloc: Global) -> Result<Vec<u8>, OutOfMemory>
     ensures { IfOk result (λ v. 0 < vec_len v) }
 {
@@ -60,7 +60,7 @@ fn buffers(alloc: Global, seconds: u64) -> Result<(Vec<u8>, Vec<u8>), OutOfMemor
     Ok((chunk_of(alloc)?, frame_of(alloc, seconds)?))
 }
 
-/// Follows the messages of a source that is lent, and gives it back.
+/// Follows the messages of a source that is lent, and returns the source.
 fn follow_lent<N: Origin, T: LentSource, K: Sink, P: Publisher, M: MetricsRecorder, C: SvidPicker>(
     alloc: Global,
     source: T,
@@ -171,7 +171,7 @@ pub fn follow_proto<S: Source, K: Sink, P: Publisher, M: MetricsRecorder, C: Svi
     ensures cause { HasCauses (S.failures source.old) (S.failures source.new) (K.failures sink.old)
         (K.failures sink.new) result }
     // A message is refused where the bytes are whole messages up to it, and then none; too many are
-    // refused where octets stand behind the most messages that are allowed.
+    // refused where octets follow as many messages as are allowed.
     ensures refused { RefusedFor max_messages (S.left source.old) result }
     // Of the errors of a session only these come.
     ensures only { OnlyThese result }

@@ -20,7 +20,7 @@ use spf_io::OutOfMemory;
 use spf_x509::X509Context;
 use std::alloc::Global;
 
-/// The max length of a message, and of a payload.
+/// The maximum length of a message, and of a payload.
 const MAX_PAYLOAD: usize = 1 << 24;
 
 /// The frames of a client and its connection.
@@ -37,7 +37,7 @@ const CLIENT: [u8; 10] = [
     0,
 ];
 
-/// By what items are accepted.
+/// What decides whether an item is accepted.
 #[derive(Clone, Copy, Debug)]
 pub(crate) struct Acceptance {
     pub(crate) limits: ResourceLimits,
@@ -177,7 +177,7 @@ fn put_frames(frames: &mut Vec<u8>, is_open: bool, payload: &[u8]) -> Result<(),
 }
 
 /// Puts the frames of a message in place of what the buffer held, and returns where the session
-/// stands after it. None where the octets are no message. What is held is the last context that
+/// stands after it. None where the octets are not a message. What is held is the last context that
 /// was read: with any other the result is the same.
 fn frames_of<C: SvidPicker>(
     alloc: Global,

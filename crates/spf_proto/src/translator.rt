@@ -39,8 +39,8 @@ impl Origin for Brand {
 /// How many octets are read at once.
 const CHUNK: usize = 1 << 16;
 
-/// The translating source. It fails where a message is bad, past the most messages, where memory
-/// runs out and where its own source failed, and keeps the reason.
+/// The translating source. It fails where a message is bad, where there are too many messages,
+/// where memory runs out and where its own source failed, and keeps the reason.
 #[derive(Drop)]
 pub(crate) struct Translator<'p, T: LentSource, C: SvidPicker, N: Origin> {
     source: T,
@@ -275,7 +275,7 @@ impl<'p, T: LentSource, C: SvidPicker, N: Origin> Translator<'p, T, C, N> {
         }
     }
 
-    /// The error of a reason: a bad message has the number behind those that were translated.
+    /// The error of a reason: a bad message has the number after those that were translated.
     fn error(&self, stop: Stop, max: u32) -> ProtoError
         requires max { max ≡ N.begin.max }
         ensures { result ≡ error_of max self.now.allowed stop }
@@ -303,7 +303,7 @@ impl<'p, T: LentSource, C: SvidPicker, N: Origin> Translator<'p, T, C, N> {
         }
     }
 
-    /// How following the body ended, where following the frames ended so.
+    /// How following the body ended, where following the frames ended like this.
     pub(crate) fn result_of(&mut self, end: FrameEnd, max: u32) -> Result<u64, ProtoError>
         requires max { max ≡ N.begin.max }
         ensures { IsResultOf T.left T.failures N.begin

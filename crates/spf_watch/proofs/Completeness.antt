@@ -34,7 +34,7 @@ whole_end s es fs rest other same left calm accepted whole =
       count = length es;
     }))
 
--- an answer that is no refusal to read the session whole
+-- a result that the bytes do not fix, where neither side failed: memory ran out
 fails_freely : (answer : Result ℕ FollowError) (r : Result (Unit {0}) ExitReason)
     (reads reads' writes writes' n : ℕ) → r ≡ ended_by answer
     → HasCauses reads reads' writes writes' r → (Rose reads reads' → ⊥) → (Rose writes writes' → ⊥)

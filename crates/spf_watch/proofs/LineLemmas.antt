@@ -15,7 +15,7 @@ use Rattle.spf_watch.specs.Tallied.{first_word, after_word, revision_in, withdra
 use Rattle.spf_watch.proofs.TallyLemmas.{counted}
 use Rattle.spf_watch.proofs.Searched.{Avoids, first_word_cut, after_word_cut}
 
--- digits are no spaces
+-- digits are not spaces
 digits_avoid : (ds : List ℕ) → AllDigits 10 ds → Avoids 32 ds
 digits_avoid [] digits k lt is = omega arith
 digits_avoid (c ∷ cs) digits zero lt is = let low = digit_from_value c digits.0 in omega arith
@@ -83,7 +83,7 @@ decimal_read n small =
 pub front_passed : (n : ℕ) (rest : List ℕ) → n < 2 ^ 64 → after_word (decimal n ++ 32 ∷ rest) ≡ rest
 front_passed n rest small = after_word_cut (decimal n) rest (decimal_avoids n small)
 
--- `waiting` is no number
+-- `waiting` is not a number
 pub waiting_unread : (before n : ℕ) → n < 2 ^ 64
     → revision_in before (decimal n ++ 32 ∷ codes "waiting") ≡ before
 unfolding revision_in number_up_to is_numeral

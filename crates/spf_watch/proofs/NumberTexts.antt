@@ -21,7 +21,7 @@ numeral_text word numeral =
     (λ k d lt. small_digit _
     (AllPass-from_list_all is_ascii_digit word (digits_of word numeral).1 k d lt)))
 
--- what is no text is no number
+-- what is not text is not a number
 pub no_text : {T E : Type 0} (P : T → Type 0) (Q : E → Type 0) (max : ℕ) (word : List ℕ)
     (r : Result T E) → MatchResult r P (λ e. (IsUtf8 word → ⊥) × Q e) → false ≡ is_ok r
     → None ≡ number_up_to max word

@@ -16,7 +16,7 @@ abbrev pub longer : Tallied → List ℕ → Tallied
 longer t piece =
     record { revision = t.revision; withdrawn = t.withdrawn; unfinished = t.unfinished ++ piece }
 
--- no octet more
+-- no more octets
 pub tally_nothing : (t : Tallied) → tally_from t [] ≡ t
 unfolding tally_from
 tally_nothing t = refl

@@ -20,7 +20,7 @@ option_names =
     ∷ codes "--max-crl-bytes" ∷ codes "--deadline" ∷ codes "--max-frames" ∷ codes "--hint"
     ∷ codes "--ready" ∷ []
 
--- the setting of a session of X.509 updates, whose options come each at most once
+-- the setting of a session of X.509 updates, each of whose options comes at most once
 unfoldable pub x509_setting : List (List ℕ) → Option Setting
 x509_setting arguments =
     if not (are_pairs (is_one_of option_names) arguments) then None
@@ -52,11 +52,11 @@ x509_setting arguments =
       ready = ready;
     }))
 
--- the values that an option may have which stands only with x509: none
+-- the values that an option of `x509` alone may have elsewhere: none
 abbrev pub not_there : List ℕ → Option (Unit {0})
 not_there value = None
 
--- the setting of a session of JWT bundles, whose options come each at most once
+-- the setting of a session of JWT bundles, each of whose options comes at most once
 unfoldable pub jwt_setting : List (List ℕ) → Option JwtArguments
 jwt_setting arguments =
     if not (are_pairs (is_one_of option_names) arguments) then None

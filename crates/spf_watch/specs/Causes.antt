@@ -45,12 +45,12 @@ abbrev pub frame_in : ExitReason → Option ℕ
 frame_in (reasons.BadFrame frame) = Some frame
 frame_in _ = None
 
--- whether a run ended since its arguments are not those of the program
+-- whether a run ended because its arguments are not those of the program
 abbrev pub is_bad_arguments : ExitReason → Bool
 is_bad_arguments reasons.BadArguments = true
 is_bad_arguments _ = false
 
--- whether a run ended since memory ran out or its output failed
+-- whether a run ended because memory ran out or its output failed
 abbrev pub is_output_failure : ExitReason → Bool
 is_output_failure reasons.OutOfMemory = true
 is_output_failure reasons.WriteFailed = true

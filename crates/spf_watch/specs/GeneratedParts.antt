@@ -31,11 +31,11 @@ pub record IsExpiry (generation : ℕ) (text : List ℕ) : Type 0 where
   pub is : text ≡ expiry_text (expiry_of generation)
   pub size : length text ≡ 15
 
--- each operation may raise the generation
+-- the generation stays within 16 bits, also where each operation that is left raises it
 abbrev pub HasRoom : Option ℕ → ℕ → Type 0
 HasRoom left generation = IfSome left (λ left. generation + left ≤ 65535)
 
--- these frames stand next; none where nothing is to come
+-- these frames come next; none where nothing is to come
 pub record Yields (more : Bool) (old new frames : List ℕ) : Type 0 where
   pub next : old ≡ frames ++ new
   pub ended : more ≡ false → old ≡ []

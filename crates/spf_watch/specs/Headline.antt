@@ -35,7 +35,7 @@ rules_for setting =
     rules_with setting.limits setting.deadline setting.ready
     (option_map first_with_hint setting.hint)
 
--- What is followed: a stream of events, what they give, and the most frames.
+-- What is followed: a stream of events, what they give, and the limit of frames.
 pub record Session (E X Y : Type 0) : Type 0 where
   pub stream : Stream E Terminal
   pub outputs : Outputs E X Y
@@ -122,8 +122,8 @@ pub record IsSummary (arguments : MakeArguments) (text : List ℕ) : Type 0 wher
   pub session : IsWholeSession (x509_session default_setting) (made_session arguments)
   pub is : text ≡ summary (rules_for default_setting) session.es
 
--- What a run does that its arguments ask for: a session is followed;
--- a generated session, or its summary, is put and nothing is read.
+-- What a run does that its arguments ask for: a session is followed; a generated session, or its
+-- summary, is put and nothing is read; where they are bad, nothing is read or put.
 abbrev pub Does : Option Command → Streams → Streams → Result (Unit {0}) ExitReason → Type 0
 Does (Some (commands.X509 setting)) before after end =
     FollowsSession (x509_session setting) before.input.bytes after.input.bytes before.output.bytes

@@ -7,8 +7,8 @@ use Rattle.spf_feed.specs.declared.ready.Ready.{Ready}
 use Rattle.spf_feed.specs.declared.ready.Ready.TheVariants as readiness
 use Rattle.spf_watch.specs.declared.arguments.JwtArguments.{JwtArguments}
 
--- the limits, the moment by which an update must be accepted, the max number of frames, the hint of
--- the SVID to take, and what the first update must hold
+-- the limits, the moment by which an update must be accepted, the maximum number of frames, the
+-- hint of the SVID to take, and what the first update must hold
 pub record Setting : Type 0 where
   pub limits : ResourceLimits
   pub deadline : Option ℤ

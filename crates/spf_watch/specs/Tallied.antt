@@ -47,7 +47,7 @@ with_line t =
       unfinished = [];
     }
 
--- one octet more, where a line feed finishes the line
+-- one more octet, where a line feed finishes the line
 abbrev pub with_octet : Tallied → ℕ → Tallied
 with_octet t c =
     if c == LINE_FEED then with_line t

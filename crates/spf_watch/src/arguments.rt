@@ -22,10 +22,10 @@ use std::marker::Model;
 /// The default of `--max-frames`.
 pub(crate) const DEFAULT_MAX_FRAMES: u64 = 1_000_000;
 
-/// The max number of operations of a generated session.
+/// The maximum number of operations of a generated session.
 const MAX_OPERATIONS: u64 = 10_000;
 
-/// The max seed of a generated session.
+/// The maximum seed of a generated session.
 const MAX_SEED: u64 = 65_535;
 
 /// What the arguments ask for.
@@ -109,7 +109,7 @@ fn make_arguments(arguments: &[String]) -> Option<MakeArguments>
     })
 }
 
-/// The setting of a session, whose options come each at most once.
+/// The setting of a session, each of whose options comes at most once.
 #[tactic(auto, unfolding(crate::specs::Arguments::x509_setting))]
 fn x509_arguments(arguments: &[String]) -> Option<X509Arguments<'_>>
     ensures { result ≡ x509_setting (map string_bytes arguments.now) }
@@ -132,7 +132,7 @@ fn x509_arguments(arguments: &[String]) -> Option<X509Arguments<'_>>
     })
 }
 
-/// The setting of a session of JWT bundles, whose options come each at most once.
+/// The setting of a session of JWT bundles, each of whose options comes at most once.
 #[tactic(auto, unfolding(crate::specs::Arguments::jwt_setting))]
 fn jwt_arguments(arguments: &[String]) -> Option<JwtArguments>
     ensures { result ≡ jwt_setting (map string_bytes arguments.now) }

@@ -53,8 +53,8 @@ fn assert_failed(
     assert_eq!(rt; str::from_utf8(ran.errors.bytes()), Ok(error), "at {at}");
 }
 
-/// Row failing-io: the bytes of row first-session one by one, where each read in turn fails. The
-/// lines of the frames that were whole stand.
+/// The bytes of the row first-session one by one, where each read in turn fails. The lines of the
+/// frames that were whole are there.
 #[test]
 fn failing_reads(rt: HostRuntime) -> Result<(), Fail> {
     let alloc = rt.alloc();
@@ -78,7 +78,7 @@ fn failing_reads(rt: HostRuntime) -> Result<(), Fail> {
     Ok(())
 }
 
-/// Row failing-io: row first-session, where each put in turn fails. The lines before it stand.
+/// The row first-session, where each put in turn fails. The lines before it are there.
 #[test]
 fn failing_puts(rt: HostRuntime) -> Result<(), Fail> {
     let alloc = rt.alloc();

@@ -34,7 +34,7 @@ fn written_by(alloc: Global, arguments: &str) -> Result<Vec<u8>, Fail> {
     Ok(Vec::from_slice(alloc, ran.out.bytes())?)
 }
 
-/// Row made-session: the summary of `bench` is that of the lines of the session that `make` writes.
+/// The summary of `bench` is that of the lines of the session that `make` writes.
 #[test]
 fn made_session(rt: HostRuntime) -> Result<(), Fail> {
     let alloc = rt.alloc();
