@@ -12,8 +12,8 @@ mod no_publisher;
 mod output;
 mod tally;
 mod template;
-mod watch;
+mod watching;
 
 pub use exit_reason::{ExitReason, report};
 pub use output::put;
-pub use watch::watch;
+pub use watching::watch;

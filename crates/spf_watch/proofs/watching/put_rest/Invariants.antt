@@ -1,6 +1,6 @@
 use Rattle.std.proofs.Common.{◌≡◌, ◌≤◌, ◌++◌, List, ℕ, length}
 use Rattle.spf_view.specs.Sessions.{Grows}
-use Rattle.spf_watch.proofs.watch.put_rest.Given as goal
+use Rattle.spf_watch.proofs.watching.put_rest.Given as goal
 
 -- what came before was put
 abbrev pub invariant-loop-out : goal.invariant-loop-out

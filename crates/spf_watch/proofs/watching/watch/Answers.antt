@@ -3,7 +3,7 @@ use Rattle.spf_watch.specs.Headline.{status_of_end}
 use Rattle.spf_program.specs.Streams.{Streams, side}
 use Rattle.spf_watch.proofs.Completeness.{completes}
 use Rattle.spf_watch.proofs.HeadlineLemmas.{headline, unreported}
-use Rattle.spf_watch.proofs.watch.watch.Goals as goal
+use Rattle.spf_watch.proofs.watching.watch.Goals as goal
 
 pub returns-in-Ok-clause-does : goal.returns-in-Ok-clause-does
 returns-in-Ok-clause-does g c =

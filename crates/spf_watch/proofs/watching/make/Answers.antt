@@ -3,7 +3,7 @@ use Rattle.std.proofs.lemmas.Result.{err_from_is_err_and}
 use Rattle.spf_watch.specs.Causes.{is_output_failure}
 use Rattle.spf_watch.specs.MadeSession.{made_session}
 use Rattle.spf_watch.proofs.PutLemmas.{puts_then, puts_err}
-use Rattle.spf_watch.proofs.watch.make.Goals as goal
+use Rattle.spf_watch.proofs.watching.make.Goals as goal
 
 pub returns-in_err-put-clause-text : goal.returns-in_err-put-clause-text
 returns-in_err-put-clause-text g c =

@@ -5,7 +5,7 @@ use Rattle.spf_feed.specs.Items.{rules_with}
 use Rattle.spf_watch.specs.Headline.{FollowsSession, x509_session}
 use Rattle.spf_watch.specs.Setting.{Setting}
 use Rattle.spf_watch.proofs.HeadlineLemmas.{ran, ran_early, shared_map}
-use Rattle.spf_watch.proofs.watch.follow.Goals as goal
+use Rattle.spf_watch.proofs.watching.follow.Goals as goal
 
 pub returns-in_err-picker-clause-session : goal.returns-in_err-picker-clause-session
 returns-in_err-picker-clause-session g c =

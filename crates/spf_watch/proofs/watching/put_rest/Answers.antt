@@ -1,6 +1,6 @@
 use Rattle.std.proofs.Common.{◌∙◌, ap, refl, sym, ◌++◌, List, ℕ, append_assoc, arith}
 use Rattle.spf_view.proofs.FollowLemmas.{grows_trans}
-use Rattle.spf_watch.proofs.watch.put_rest.Goals as goal
+use Rattle.spf_watch.proofs.watching.put_rest.Goals as goal
 
 pub loop-out-preserved : goal.loop-out-preserved
 loop-out-preserved g c =
