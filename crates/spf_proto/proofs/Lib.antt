@@ -12,6 +12,8 @@ pub mod EndLemmas
 pub mod BodyErrorLemmas
 pub mod LaidMessages
 pub mod BodySessions
+pub mod GivenLemmas
+pub mod AnswerLemmas
 pub mod FollowedLemmas
 pub mod WatchLemmas
 pub mod VarintLemmas
