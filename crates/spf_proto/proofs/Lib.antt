@@ -1,7 +1,7 @@
 pub mod Contexts
 pub mod Entries
 pub mod Fields
-pub mod Latest
+pub mod LastOfEach
 pub mod OctetsLemmas
 pub mod TakingLemmas
 pub mod PayloadLemmas

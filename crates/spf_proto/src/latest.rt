@@ -71,7 +71,7 @@ pub(crate) fn translate<C: SvidPicker>(
     requires head { 5 ≤ length message.old.items }
     requires latest { IsLatest
         (rules_with acceptance.limits None acceptance.ready
-        (option_map (λ p. C.picks p.now) picker.entry)) acceptance.start latest.old }
+        (option_map (λ p. C.picks p.now) picker)) acceptance.start latest.old }
     ensures latest { IsLatest
         (rules_with acceptance.limits None acceptance.ready
         (option_map (λ p. C.picks p.now) picker.entry)) acceptance.start latest.new }

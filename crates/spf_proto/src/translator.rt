@@ -335,7 +335,7 @@ impl<'p, T: LentSource, C: SvidPicker, N: Origin> Source for Translator<'p, T, C
 pub(crate) struct LastRead;
 
 impl<'p, T: LentSource, C: SvidPicker, N: Origin> Sharing<Translator<'p, T, C, N>> for LastRead {
-    fn context(source: &Translator<'p, T, C, N>) -> Option<&X509Context> {
+    fn context<'a>(source: &'a Translator<'p, T, C, N>) -> Option<&'a X509Context> {
         source.latest.held.as_ref()
     }
 }
