@@ -4,7 +4,7 @@ use Rattle.std.specs.Option.{option_map}
 use Rattle.spf_feed.specs.Items.{rules_with}
 use Rattle.spf_feed.specs.Steps.{HasStep}
 use Rattle.spf_feed.proofs.Loop.{LoopAt}
-use Rattle.spf_feed.proofs.following.follow_x509.Given as goal
+use Rattle.spf_feed.proofs.following.follow_x509_sharing.Given as goal
 
 abbrev pub invariant-events : goal.invariant-events
 invariant-events g l = record {

@@ -6,7 +6,7 @@ use Rattle.spf_feed.specs.Items.{Rules, rules_with}
 use Rattle.spf_feed.proofs.FailureLemmas.{no_failure}
 use Rattle.spf_feed.proofs.Loop.{loop_begins, next_of, exit_end, exit_unread, went_through}
 use Rattle.spf_feed.proofs.Loop.{exit_turn, lined_on, exit_no_line, exit_unput, exit_close, loop_on}
-use Rattle.spf_feed.proofs.following.follow_x509.Goals as goal
+use Rattle.spf_feed.proofs.following.follow_x509_sharing.Goals as goal
 
 pub returns-in-Ok-None-clause-cause : goal.returns-in-Ok-None-clause-cause
 returns-in-Ok-None-clause-cause g c =
