@@ -11,10 +11,10 @@ use crate::frame_end::FrameEnd;
 use crate::lent::LentSource;
 use crate::proto_error::ProtoError;
 use crate::translating::Acceptance;
-use crate::translator::{Origin, Translator};
+use crate::translator::{LastRead, Origin, Translator};
 use spf_feed::{
-    FollowError, MetricsRecorder, Publisher, Ready, ResourceLimits, SvidPicker, follow_x509,
-    frame_kind,
+    FollowError, MetricsRecorder, Publisher, Ready, ResourceLimits, SvidPicker,
+    follow_x509_sharing, frame_kind,
 };
 use spf_io::{OutOfMemory, Sink, Source};
 use std::alloc::Global;
@@ -118,7 +118,7 @@ fn follow_lent<N: Origin, T: LentSource, K: Sink, P: Publisher, M: MetricsRecord
         chunk,
         frames,
     );
-    let followed = follow_x509(
+    let followed = follow_x509_sharing::<Translator<'_, T, C, N>, K, P, M, C, LastRead>(
         alloc,
         &mut translator,
         sink,
