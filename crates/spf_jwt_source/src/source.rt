@@ -263,11 +263,12 @@ impl BundleSource for JwtSource {
 
     type Seen = JwtPass;
 
-    ghost use Rattle.std.specs.Prelude.{◌≡◌};
-    ghost use Rattle.std.specs.Option.{option_and_then};
+    ghost use Rattle.std.specs.Prelude.{◌≡◌, IfOk};
+    ghost use Rattle.std.specs.Arc.{arc_value};
+    ghost use Rattle.std.specs.Option.{option_and_then, option_map};
     ghost use Rattle.spf_view.specs.Standing.{held_in};
     ghost use Rattle.spf_x509.specs.Bundle.{find_entry};
-    ghost use Rattle.spf_jwt_source.specs.Reads.{OfState};
+    ghost use Rattle.spf_jwt_source.specs.Reads.{BundleAnswer, Gets, OfState, SeesNoLess};
 
     ghost fits = { λ source pass. pass.book ≡ source.board };
 
@@ -278,7 +279,16 @@ impl BundleSource for JwtSource {
         &self,
         seen: &mut JwtPass,
         trust_domain: &TrustDomain,
-    ) -> Result<Option<Arc<JwtBundle>>, JwtSourceError> {
+    ) -> Result<Option<Arc<JwtBundle>>, JwtSourceError>
+        requires { seen.old.book ≡ self.now.board }
+        ensures fits { seen.new.book ≡ self.now.board }
+        ensures answer { IfOk result (λ o. OfState seen.new (λ view.
+            option_and_then (find_entry trust_domain.now) (held_in view)
+            ≡ option_map arc_value o)) }
+        ensures gets { Gets (λ view. BundleAnswer view trust_domain.now) self.now.cell seen.old
+            seen.new result }
+        ensures pass { SeesNoLess seen.old seen.new }
+    {
         self.bundle_of(seen, trust_domain)
     }
 }

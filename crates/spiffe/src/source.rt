@@ -252,11 +252,12 @@ impl BundleSource for X509Source {
 
     type Seen = Pass;
 
-    ghost use Rattle.std.specs.Prelude.{◌≡◌, IfSome};
-    ghost use Rattle.std.specs.Option.{option_and_then};
+    ghost use Rattle.std.specs.Prelude.{◌≡◌, IfOk, IfSome};
+    ghost use Rattle.std.specs.Arc.{arc_value};
+    ghost use Rattle.std.specs.Option.{option_and_then, option_map};
     ghost use Rattle.spf_x509.specs.Bundle.{find_entry};
     ghost use Rattle.spf_feed.specs.Steps.{held_in};
-    ghost use Rattle.spiffe.specs.Reads.{OfState};
+    ghost use Rattle.spiffe.specs.Reads.{BundleAnswer, Gets, OfState, SeesNoLess};
 
     ghost fits = { λ source pass. pass.book ≡ source.board };
 
@@ -267,7 +268,16 @@ impl BundleSource for X509Source {
         &self,
         seen: &mut Pass,
         trust_domain: &TrustDomain,
-    ) -> Result<Option<Arc<X509Bundle>>, X509SourceError> {
+    ) -> Result<Option<Arc<X509Bundle>>, X509SourceError>
+        requires { seen.old.book ≡ self.now.board }
+        ensures fits { seen.new.book ≡ self.now.board }
+        ensures answer { IfOk result (λ o. OfState seen.new (λ view. option_and_then
+            (λ m. find_entry trust_domain.now m.context.bundles) (held_in view)
+            ≡ option_map arc_value o)) }
+        ensures gets { Gets (λ view. BundleAnswer view trust_domain.now) self.now.cell seen.old
+            seen.new result }
+        ensures pass { SeesNoLess seen.old seen.new }
+    {
         self.bundle_of(seen, trust_domain)
     }
 }
@@ -279,18 +289,27 @@ impl SvidSource for X509Source {
 
     type Seen = Pass;
 
-    ghost use Rattle.std.specs.Prelude.{◌≡◌, Some};
+    ghost use Rattle.std.specs.Prelude.{◌≡◌, IfOk, Some};
+    ghost use Rattle.std.specs.Arc.{arc_value};
     ghost use Rattle.std.specs.Option.{option_and_then};
     ghost use Rattle.spf_feed.specs.Pick.{usable};
+    ghost use Rattle.spf_feed.specs.States.{SvidAnswer};
     ghost use Rattle.spf_feed.specs.Steps.{chosen_of, held_in};
-    ghost use Rattle.spiffe.specs.Reads.{OfState};
+    ghost use Rattle.spiffe.specs.Reads.{Gets, OfState, SeesNoLess};
 
     ghost fits = { λ source pass. pass.book ≡ source.board };
 
     ghost answers = { λ _ pass now svid. OfState pass (λ view.
         usable (option_and_then chosen_of (held_in view)) now ≡ Some svid) };
 
-    fn svid(&self, seen: &mut Pass, now: Option<i64>) -> Result<Arc<X509Svid>, X509SourceError> {
+    fn svid(&self, seen: &mut Pass, now: Option<i64>) -> Result<Arc<X509Svid>, X509SourceError>
+        requires { seen.old.book ≡ self.now.board }
+        ensures fits { seen.new.book ≡ self.now.board }
+        ensures answer { IfOk result (λ a. OfState seen.new (λ view.
+            usable (option_and_then chosen_of (held_in view)) now ≡ Some (arc_value a))) }
+        ensures gets { Gets (λ view. SvidAnswer view now) self.now.cell seen.old seen.new result }
+        ensures pass { SeesNoLess seen.old seen.new }
+    {
         X509Source::svid(self, seen, now)
     }
 }
