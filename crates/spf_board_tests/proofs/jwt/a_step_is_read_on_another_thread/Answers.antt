@@ -1,6 +1,6 @@
 use Rattle.std.proofs.Common.{sym, ◌∙◌}
 use Rattle.spf_history.proofs.Prefixes.{first_steps}
-use Rattle.spf_jwt_board.proofs.tests.a_step_is_read_on_another_thread.Goals as goal
+use Rattle.spf_board_tests.proofs.jwt.a_step_is_read_on_another_thread.Goals as goal
 
 pub withdraw-requires : goal.withdraw-requires
 withdraw-requires g c = λ none.
