@@ -9,20 +9,20 @@ use Rattle.std.specs.declared.sync.Wait.{Ghosts}
 use Rattle.std.proofs.Crossing.{crosses}
 use Rattle.spf_feed.specs.contracts.picker.NoPicker as NoPicker
 use Rattle.spf_feed.specs.contracts.picker.NoPickerSvidPicker.TheImpl as picks
-use Rattle.spf_thread_tests.specs.contracts.doubles.HeldRecorder as HeldRecorder
-use Rattle.spf_thread_tests.specs.contracts.doubles.HeldRecorderMetricsRecorder.TheImpl as records
+use Rattle.spf_agent.specs.contracts.doubles.HeldRecorder as HeldRecorder
+use Rattle.spf_agent.specs.contracts.doubles.HeldRecorderMetricsRecorder.TheImpl as records
 use Rattle.spf_job.specs.contracts.step_words.StepWords as StepWords
 use Rattle.spf_job.specs.contracts.step_words.StepWordsRng.TheImpl as draws
-use Rattle.spf_thread_tests.specs.contracts.doubles.AgentConnector as AgentConnector
-use Rattle.spf_thread_tests.specs.contracts.doubles.AgentConnectorConnector.TheImpl as connects
-use Rattle.spf_thread_tests.specs.contracts.doubles.AgentLink as AgentLink
-use Rattle.spf_thread_tests.specs.contracts.doubles.AgentLinkLink.TheImpl as links
-use Rattle.spf_thread_tests.specs.contracts.doubles.ShortPause as ShortPause
-use Rattle.spf_thread_tests.specs.contracts.doubles.ShortPausePause.TheImpl as pauses
+use Rattle.spf_agent.specs.contracts.doubles.AgentConnector as AgentConnector
+use Rattle.spf_agent.specs.contracts.doubles.AgentConnectorConnector.TheImpl as connects
+use Rattle.spf_agent.specs.contracts.doubles.AgentLink as AgentLink
+use Rattle.spf_agent.specs.contracts.doubles.AgentLinkLink.TheImpl as links
+use Rattle.spf_agent.specs.contracts.doubles.ShortPause as ShortPause
+use Rattle.spf_agent.specs.contracts.doubles.ShortPausePause.TheImpl as pauses
 use Rattle.spiffe.specs.contracts.job.X509Job as X509Job
 use Rattle.spiffe.specs.contracts.job.X509Job.TheInside as inside
 use Rattle.spf_feed.proofs.picker.NoPicker.TheSendSync as picker
-use Rattle.spf_thread_tests.proofs.doubles.HeldRecorder.TheSendSync as recorder
+use Rattle.spf_agent.proofs.doubles.HeldRecorder.TheSendSync as recorder
 use Rattle.spf_pace.proofs.pace.Pace.TheSendSync as pace
 use Rattle.spf_feeder.proofs.session.Session.TheSendSync as session
 use Rattle.spf_close.proofs.bell.Bell.TheSendSync as bell
@@ -30,9 +30,9 @@ use Rattle.spf_close.proofs.cell.Closer.TheSendSync as closer
 use Rattle.spf_close.proofs.cell.Watch.TheSendSync as watch
 use Rattle.spf_job.proofs.step_words.StepWords.TheSendSync as words
 use Rattle.spiffe.proofs.publishing.BoardPublisher.TheSendSync as board
-use Rattle.spf_thread_tests.proofs.doubles.AgentConnector.TheSendSync as connector
-use Rattle.spf_thread_tests.proofs.doubles.AgentLink.TheSendSync as link
-use Rattle.spf_thread_tests.proofs.doubles.ShortPause.TheSendSync as pause
+use Rattle.spf_agent.proofs.doubles.AgentConnector.TheSendSync as connector
+use Rattle.spf_agent.proofs.doubles.AgentLink.TheSendSync as link
+use Rattle.spf_agent.proofs.doubles.ShortPause.TheSendSync as pause
 
 module _ (T : RattleType) (w : Ghosts T.Denot) (s : IsSend T) where
   abbrev Inside : denote.Struct.Declared.Declared

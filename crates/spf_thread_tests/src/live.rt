@@ -2,10 +2,10 @@
 
 ghost use Rattle.std.specs.Prelude.{◌≡◌, IfOk};
 
-use crate::agent::{Agent, Scene};
-use crate::doubles::{AgentConnector, FixedClock, HeldRecorder, ShortPause};
-use crate::marks::{Marks, TURNS, is_set_soon};
 use crate::on_thread::{AgentJob, OnThread, start_on_thread};
+use spf_agent::{
+    Agent, AgentConnector, FixedClock, HeldRecorder, Marks, Scene, ShortPause, TURNS, is_set_soon,
+};
 use spf_feed::{NoPicker, Step, X509SourceError};
 use spf_io::Text;
 use spf_job::StepWords;

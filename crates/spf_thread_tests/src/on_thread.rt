@@ -3,7 +3,7 @@
 ghost use Rattle.std.specs.Prelude.{◌≡◌, IfOk};
 ghost use Rattle.spiffe.specs.Records.{task_of};
 
-use crate::doubles::{AgentConnector, HeldRecorder, ShortPause};
+use spf_agent::{AgentConnector, HeldRecorder, ShortPause};
 use spf_feed::NoPicker;
 use spf_io::Failed;
 use spf_job::{Job, Joins, StepWords};

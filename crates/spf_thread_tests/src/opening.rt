@@ -2,8 +2,7 @@
 
 ghost use Rattle.std.specs.Prelude.{◌≡◌};
 
-use crate::agent::{Agent, Scene};
-use crate::doubles::{AgentConnector, FixedClock, ShortPause};
+use spf_agent::{Agent, AgentConnector, FixedClock, Scene, ShortPause};
 use spf_feed::X509SourceError;
 use spf_io::{OutOfMemory, Text};
 use spf_job::{InlineSpawner, StepWords};

@@ -1,11 +1,9 @@
-//! Records of supervisors of JWT bundles on threads.
+//! The record of a supervisor of JWT bundles on a thread.
 
 ghost use Rattle.std.specs.Prelude.{◌≡◌, IfOk};
 
-use crate::agent::{Agent, Scene};
-use crate::doubles::{AgentConnector, FixedClock, ShortPause};
-use crate::jwt_on_thread::{JwtAgentJob, JwtOnThread, start_jwt_on_thread};
-use crate::marks::TURNS;
+use crate::on_thread::{JwtAgentJob, JwtOnThread, start_on_thread};
+use spf_agent::{Agent, AgentConnector, FixedClock, Scene, ShortPause, TURNS};
 use spf_io::Text;
 use spf_job::StepWords;
 use spf_jwt_board::{BoardPlaces, JwtPass};
@@ -38,7 +36,7 @@ fn built<R: Threads + Wait + Copy + Drop + Send + 'static>(
         StepWords::new(0),
         &mut BoardPlaces::new(),
     )?;
-    match start_jwt_on_thread(rt, job) {
+    match start_on_thread(rt, job) {
         Ok(handle) => Ok((source, pass, pending.started(handle))),
         Err(_) => Err(JwtSourceError::NoSupervisor),
     }

@@ -3,7 +3,7 @@
 ghost use Rattle.std.specs.Prelude.{◌≡◌, IfOk};
 ghost use Rattle.spf_jwt_source.specs.Records.{task_of};
 
-use crate::doubles::{AgentConnector, ShortPause};
+use spf_agent::{AgentConnector, ShortPause};
 use spf_feed::NoRecorder;
 use spf_io::Failed;
 use spf_job::{Job, Joins, StepWords};
@@ -34,7 +34,7 @@ impl<R: Threads + Wait + Copy + Drop + Send + 'static> Joins<JwtAgentJob<R>> for
 }
 
 /// Starts the job on a thread of its own.
-pub fn start_jwt_on_thread<R: Threads + Wait + Copy + Drop + Send + 'static>(
+pub fn start_on_thread<R: Threads + Wait + Copy + Drop + Send + 'static>(
     rt: R,
     job: JwtAgentJob<R>,
 ) -> Result<JwtOnThread<R>, Failed>

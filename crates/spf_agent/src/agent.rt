@@ -12,7 +12,7 @@ use std::{fs, process};
 
 /// One connection: what answers its request, as `octets` reads it. Then the agent closes it; or it
 /// tells the test, waits for it, says the rest, and then nothing more.
-pub(crate) type Scene = (&'static str, Option<&'static str>);
+pub type Scene = (&'static str, Option<&'static str>);
 
 /// The same in octets.
 #[derive(Drop)]
@@ -88,7 +88,7 @@ fn serve(host: HostRuntime, listener: &UnixListener, scenes: &[Played], marks: &
 }
 
 /// The thread of an agent, the file of its socket, and the marks that it shares with its test.
-pub(crate) struct Agent {
+pub struct Agent {
     path: String,
     server: JoinHandle<()>,
     marks: Marks,
@@ -96,14 +96,14 @@ pub(crate) struct Agent {
 
 impl Agent {
     /// Starts an agent that plays these scenes.
-    pub(crate) fn start<R: Threads>(
+    pub fn start<R: Threads>(
         host: HostRuntime,
         rt: &R,
         name: &str,
         scenes: &[Scene],
     ) -> Result<Agent, Fail> {
         let process = process::id(host.process());
-        let path = format!(in host.alloc(); "/tmp/spf_thread_tests-{process}-{name}.sock")?;
+        let path = format!(in host.alloc(); "/tmp/spf_agent-{process}-{name}.sock")?;
         let marks = Marks::new(host.alloc())?;
         let theirs = marks.try_clone()?;
         let scenes = scenes_of(host.alloc(), scenes)?;
@@ -120,17 +120,17 @@ impl Agent {
     }
 
     /// The path of the socket.
-    pub(crate) fn path(&self) -> &str {
+    pub fn path(&self) -> &str {
         self.path.as_str()
     }
 
     /// The marks that the agent heeds.
-    pub(crate) fn marks(&self) -> &Marks {
+    pub fn marks(&self) -> &Marks {
         &self.marks
     }
 
     /// Lets the agent go on to its end, and removes the socket.
-    pub(crate) fn end<R: Threads>(self, host: HostRuntime, rt: &R) -> Result<(), Fail> {
+    pub fn end<R: Threads>(self, host: HostRuntime, rt: &R) -> Result<(), Fail> {
         let Agent {
             path,
             server,

@@ -2,18 +2,21 @@
 use denote.RattleType.{RattleType}
 use denote.Param.Send.{IsSend, AllSend, recorded_send, struct_send, sendable}
 use denote.Struct.Declared.{fields, shape}
+use denote.Struct.Tuple.{TupleAt, type_at}
+use mathlib.Core.List.{[], ◌∷◌}
+use mir.Syntax.{Sym}
 use Rattle.std.specs.declared.sync.Wait.{Ghosts}
 use Rattle.std.proofs.Crossing.{crosses}
 use Rattle.spf_feed.specs.contracts.record.NoRecorder as NoRecorder
 use Rattle.spf_jwt_feed.specs.contracts.record.NoRecorderJwtMetricsRecorder.TheImpl as records
 use Rattle.spf_job.specs.contracts.step_words.StepWords as StepWords
 use Rattle.spf_job.specs.contracts.step_words.StepWordsRng.TheImpl as draws
-use Rattle.spf_thread_tests.specs.contracts.doubles.AgentConnector as AgentConnector
-use Rattle.spf_thread_tests.specs.contracts.doubles.AgentConnectorConnector.TheImpl as connects
-use Rattle.spf_thread_tests.specs.contracts.doubles.AgentLink as AgentLink
-use Rattle.spf_thread_tests.specs.contracts.doubles.AgentLinkLink.TheImpl as links
-use Rattle.spf_thread_tests.specs.contracts.doubles.ShortPause as ShortPause
-use Rattle.spf_thread_tests.specs.contracts.doubles.ShortPausePause.TheImpl as pauses
+use Rattle.spf_agent.specs.contracts.doubles.AgentConnector as AgentConnector
+use Rattle.spf_agent.specs.contracts.doubles.AgentConnectorConnector.TheImpl as connects
+use Rattle.spf_agent.specs.contracts.doubles.AgentLink as AgentLink
+use Rattle.spf_agent.specs.contracts.doubles.AgentLinkLink.TheImpl as links
+use Rattle.spf_agent.specs.contracts.doubles.ShortPause as ShortPause
+use Rattle.spf_agent.specs.contracts.doubles.ShortPausePause.TheImpl as pauses
 use Rattle.spf_jwt_source.specs.contracts.job.JwtJob as JwtJob
 use Rattle.spf_jwt_source.specs.contracts.job.JwtJob.TheInside as inside
 use Rattle.spf_feed.proofs.record.NoRecorder.TheSendSync as recorder
@@ -24,9 +27,9 @@ use Rattle.spf_close.proofs.cell.Closer.TheSendSync as closer
 use Rattle.spf_close.proofs.cell.Watch.TheSendSync as watch
 use Rattle.spf_job.proofs.step_words.StepWords.TheSendSync as words
 use Rattle.spf_jwt_source.proofs.publishing.BoardPublisher.TheSendSync as board
-use Rattle.spf_thread_tests.proofs.doubles.AgentConnector.TheSendSync as connector
-use Rattle.spf_thread_tests.proofs.doubles.AgentLink.TheSendSync as link
-use Rattle.spf_thread_tests.proofs.doubles.ShortPause.TheSendSync as pause
+use Rattle.spf_agent.proofs.doubles.AgentConnector.TheSendSync as connector
+use Rattle.spf_agent.proofs.doubles.AgentLink.TheSendSync as link
+use Rattle.spf_agent.proofs.doubles.ShortPause.TheSendSync as pause
 
 module _ (T : RattleType) (w : Ghosts T.Denot) (s : IsSend T) where
   abbrev Inside : denote.Struct.Declared.Declared
@@ -72,10 +75,16 @@ module _ (T : RattleType) (w : Ghosts T.Denot) (s : IsSend T) where
     ),
   )
 
-  pub jwt_job_send : IsSend (JwtJob.the_row AgentConnector.the_row
+  pub job_send : IsSend (JwtJob.the_row AgentConnector.the_row
       NoRecorder.the_row ShortPause.the_row StepWords.the_row T AgentLink.the_row connects.ghosts
       links.ghosts records.ghosts pauses.ghosts draws.ghosts w)
-  jwt_job_send =
+  job_send =
       let all : IsSend (denote.Struct.Declared.row Inside) =
       recorded_send _ _ _ Inside.to_one (struct_send (shape Inside) fields_send) in
       search (sendable, all)
+
+-- what captures one value may be sent as that value may
+pub capture_send : (name : Sym) (R : RattleType) → IsSend R → IsSend (TupleAt name (R ∷ []))
+capture_send name R s =
+    recorded_send _ _ _ (type_at name (R ∷ [])).to_one
+    (struct_send (shape (type_at name (R ∷ []))) (s, tt))
