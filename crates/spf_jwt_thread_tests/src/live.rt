@@ -113,20 +113,39 @@ fn is_denial_recorded<R: Threads + Wait + Copy + Drop + Send + 'static>(
     requires job { handle.job.board ≡ source.board }
 {
     let mut pass = pass;
-    is_denied_soon(host, &source, &mut pass)
-        && records_denial(handle, &mut pass)
-        && is_denied(&source, &mut pass)
+    let is_read = is_denied_soon(host, &source, &mut pass);
+    let is_recorded = records_denial(handle, &mut pass);
+    let is_left = is_denied(&source, &mut pass);
+    is_read && is_recorded && is_left
+}
+
+/// Whether it is so of a source of the agent at this path.
+fn is_found<R: Threads + Wait + Copy + Drop + Send + 'static>(
+    host: HostRuntime,
+    rt: R,
+    path: &str,
+) -> bool {
+    match built(host, rt, path) {
+        Ok((source, pass, handle)) => is_denial_recorded(host, source, pass, handle),
+        Err(_) => false,
+    }
+}
+
+/// Whether it is so of a source of an agent that plays these scenes.
+fn is_found_over<R: Threads + Wait + Copy + Drop + Send + 'static>(
+    host: HostRuntime,
+    rt: R,
+    scenes: &[Scene],
+) -> Result<bool, Fail> {
+    let agent = Agent::start(host, &rt, "jwt_live_record", scenes)?;
+    let found = is_found(host, rt, agent.path());
+    agent.end(host, &rt)?;
+    Ok(found)
 }
 
 /// The row live-record, of JWT bundles.
 #[test]
 fn jwt_live_record(rt: HostRuntime) -> Result<(), Fail> {
-    let agent = Agent::start(rt, &rt, "jwt_live_record", &DENIAL)?;
-    let found = match built(rt, rt, agent.path()) {
-        Ok((source, pass, handle)) => is_denial_recorded(rt, source, pass, handle),
-        Err(_) => false,
-    };
-    agent.end(rt, &rt)?;
-    assert!(rt; found);
+    assert!(rt; is_found_over(rt, rt, &DENIAL)?);
     Ok(())
 }

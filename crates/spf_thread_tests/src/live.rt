@@ -11,6 +11,7 @@ use spf_io::Text;
 use spf_job::StepWords;
 use spf_x509_board::{BoardPlaces, Pass};
 use spiffe::{Supervised, SupervisorEnd, SupervisorHandle, X509Source};
+use std::io;
 use std::sync::Wait;
 use std::test::Fail;
 use std::thread::{self, Threads};
@@ -131,22 +132,20 @@ fn is_denial_recorded<R: Threads + Wait + Copy + Drop + Send + 'static>(
     requires job { handle.job.board ≡ source.board }
 {
     let mut pass = pass;
-    reads(host, &source, &mut pass, (1, true))
-        && records(handle, &mut pass, &[Kind::Accept, Kind::Deny])
-        && state_of(&source, &mut pass) == Some((1, true))
+    let is_read = reads(host, &source, &mut pass, (1, true));
+    let is_recorded = records(handle, &mut pass, &[Kind::Accept, Kind::Deny]);
+    let is_left = state_of(&source, &mut pass) == Some((1, true));
+    is_read && is_recorded && is_left
 }
 
-/// The row live-record.
-#[test]
-fn live_record(rt: HostRuntime) -> Result<(), Fail> {
-    let agent = Agent::start(rt, &rt, "live_record", &DENIAL)?;
-    let found = match built(rt, rt, agent.path(), agent.marks()) {
-        Ok((source, pass, handle)) => is_denial_recorded(rt, source, pass, handle),
+/// Whether no more than two seconds have gone since then.
+fn is_soon(host: HostRuntime, begun: io::Result<Instant>) -> bool {
+    match begun {
+        Ok(begun) => begun
+            .elapsed(&host)
+            .is_ok_and(|taken| taken < Duration::from_secs(2)),
         Err(_) => false,
-    };
-    agent.end(rt, &rt)?;
-    assert!(rt; found);
-    Ok(())
+    }
 }
 
 /// An item; and then a stream of which nothing comes.
@@ -166,27 +165,9 @@ fn is_stopped_soon<R: Threads + Wait + Copy + Drop + Send + 'static>(
 {
     let mut pass = pass;
     let is_read = reads(host, &source, &mut pass, (0, false)) && is_set_soon(host, &marks.told);
-    let Ok(begun) = Instant::now(&host) else {
-        return false;
-    };
+    let begun = Instant::now(&host);
     let is_recorded = records(handle, &mut pass, &[Kind::Accept]);
-    let is_soon = begun
-        .elapsed(&host)
-        .is_ok_and(|taken| taken < Duration::from_secs(2));
-    is_read && is_recorded && is_soon
-}
-
-/// The row stopped-wait.
-#[test]
-fn stopped_wait(rt: HostRuntime) -> Result<(), Fail> {
-    let agent = Agent::start(rt, &rt, "stopped_wait", &SILENCE)?;
-    let found = match built(rt, rt, agent.path(), agent.marks()) {
-        Ok((source, pass, handle)) => is_stopped_soon(rt, source, pass, handle, agent.marks()),
-        Err(_) => false,
-    };
-    agent.end(rt, &rt)?;
-    assert!(rt; found);
-    Ok(())
+    is_read && is_recorded && is_soon(host, begun)
 }
 
 /// An item; a denial; and an item that the agent holds until the test has read the denial.
@@ -214,18 +195,6 @@ fn is_read_meanwhile<R: Threads + Wait + Copy + Drop + Send + 'static>(
     is_read && is_later && is_recorded
 }
 
-#[test]
-fn state_is_answered_while_next_is_held(rt: HostRuntime) -> Result<(), Fail> {
-    let agent = Agent::start(rt, &rt, "held_next", &HELD_ITEM)?;
-    let found = match built(rt, rt, agent.path(), agent.marks()) {
-        Ok((source, pass, handle)) => is_read_meanwhile(rt, source, pass, handle, agent.marks()),
-        Err(_) => false,
-    };
-    agent.end(rt, &rt)?;
-    assert!(rt; found);
-    Ok(())
-}
-
 /// An item, and another one.
 static ANOTHER_ITEM: [Scene; 2] = [("CN I1", None), ("CN I1F", None)];
 
@@ -243,17 +212,74 @@ fn is_kept_at_shutdown<R: Threads + Wait + Copy + Drop + Send + 'static>(
     let mut pass = pass;
     let is_read = is_set_soon(host, &marks.told) && reads(host, &source, &mut pass, (1, false));
     marks.go.set();
-    records(handle, &mut pass, &[Kind::Accept, Kind::Accept]) && is_read
+    let is_recorded = records(handle, &mut pass, &[Kind::Accept, Kind::Accept]);
+    is_read && is_recorded
+}
+
+/// The rows, by what is found of a source.
+#[derive(Clone, Copy)]
+enum Row {
+    DenialRecorded,
+    StoppedSoon,
+    ReadMeanwhile,
+    KeptAtShutdown,
+}
+
+/// Whether that is found of a source of the agent at this path.
+fn is_found<R: Threads + Wait + Copy + Drop + Send + 'static>(
+    host: HostRuntime,
+    rt: R,
+    path: &str,
+    marks: &Marks,
+    row: Row,
+) -> bool {
+    match built(host, rt, path, marks) {
+        Ok((source, pass, handle)) => match row {
+            Row::DenialRecorded => is_denial_recorded(host, source, pass, handle),
+            Row::StoppedSoon => is_stopped_soon(host, source, pass, handle, marks),
+            Row::ReadMeanwhile => is_read_meanwhile(host, source, pass, handle, marks),
+            Row::KeptAtShutdown => is_kept_at_shutdown(host, source, pass, handle, marks),
+        },
+        Err(_) => false,
+    }
+}
+
+/// Whether that is found of a source of an agent that plays these scenes.
+fn is_found_over<R: Threads + Wait + Copy + Drop + Send + 'static>(
+    host: HostRuntime,
+    rt: R,
+    name: &str,
+    scenes: &[Scene],
+    row: Row,
+) -> Result<bool, Fail> {
+    let agent = Agent::start(host, &rt, name, scenes)?;
+    let found = is_found(host, rt, agent.path(), agent.marks(), row);
+    agent.end(host, &rt)?;
+    Ok(found)
+}
+
+/// The row live-record.
+#[test]
+fn live_record(rt: HostRuntime) -> Result<(), Fail> {
+    assert!(rt; is_found_over(rt, rt, "live_record", &DENIAL, Row::DenialRecorded)?);
+    Ok(())
+}
+
+/// The row stopped-wait.
+#[test]
+fn stopped_wait(rt: HostRuntime) -> Result<(), Fail> {
+    assert!(rt; is_found_over(rt, rt, "stopped_wait", &SILENCE, Row::StoppedSoon)?);
+    Ok(())
+}
+
+#[test]
+fn state_is_answered_while_next_is_held(rt: HostRuntime) -> Result<(), Fail> {
+    assert!(rt; is_found_over(rt, rt, "held_next", &HELD_ITEM, Row::ReadMeanwhile)?);
+    Ok(())
 }
 
 #[test]
 fn shutdown_between_publish_and_record(rt: HostRuntime) -> Result<(), Fail> {
-    let agent = Agent::start(rt, &rt, "held_record", &ANOTHER_ITEM)?;
-    let found = match built(rt, rt, agent.path(), agent.marks()) {
-        Ok((source, pass, handle)) => is_kept_at_shutdown(rt, source, pass, handle, agent.marks()),
-        Err(_) => false,
-    };
-    agent.end(rt, &rt)?;
-    assert!(rt; found);
+    assert!(rt; is_found_over(rt, rt, "held_record", &ANOTHER_ITEM, Row::KeptAtShutdown)?);
     Ok(())
 }
