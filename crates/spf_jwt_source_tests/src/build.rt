@@ -19,7 +19,7 @@ type Builder = JwtSourceBuilder<MemConnector, NoRecorder>;
 
 /// A clock that always gives 999.
 #[derive(Drop)]
-struct FixedClock;
+pub(crate) struct FixedClock;
 
 impl Clock for FixedClock {
     ghost use Rattle.std.specs.Prelude.{None};
@@ -33,7 +33,7 @@ impl Clock for FixedClock {
 
 /// A pause that returns at once.
 #[derive(Drop)]
-struct NoPause;
+pub(crate) struct NoPause;
 
 impl Pause for NoPause {
     ghost use Rattle.std.specs.Prelude.{None};

@@ -8,4 +8,6 @@ mod fetch;
 #[cfg(test)]
 mod links;
 #[cfg(test)]
+mod record;
+#[cfg(test)]
 mod source;

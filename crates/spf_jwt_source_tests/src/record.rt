@@ -1,0 +1,82 @@
+//! The record of a supervisor that runs where it is joined.
+
+ghost use Rattle.std.specs.Prelude.{◌≡◌};
+
+use crate::build::{FixedClock, NoPause};
+use crate::links::good;
+use spf_job::{Held, InlineSpawner, StepWords};
+use spf_jwt_board::{BoardPlaces, JwtPass};
+use spf_jwt_feed::{JwtStep, NoRecorder};
+use spf_jwt_source::{JwtJob, JwtSource, JwtSupervised, JwtSupervisorHandle};
+use spf_link::MemConnector;
+use spiffe::SupervisorEnd;
+use std::alloc::Global;
+use std::sync::Wait;
+use std::test::Fail;
+
+/// What a record shows: how many events and steps, whether the first step accepts, and its end.
+#[derive(Clone, Copy, Debug, PartialEq, Eq)]
+struct Shown {
+    events: usize,
+    steps: usize,
+    accepts: bool,
+    is_closed: bool,
+}
+
+fn summary(record: &JwtSupervised) -> Shown {
+    Shown {
+        events: record.events().len(),
+        steps: record.steps().len(),
+        accepts: matches!(record.steps().first(), Some(JwtStep::Accept { .. })),
+        is_closed: record.end() == SupervisorEnd::Closed,
+    }
+}
+
+type InlineJob<R> = JwtJob<MemConnector, NoRecorder, NoPause, StepWords, R>;
+
+type Handle<R> = JwtSupervisorHandle<InlineJob<R>, Held<InlineJob<R>>>;
+
+/// What the record of a supervisor shows, which this closes and runs.
+fn recorded<R: Wait + Copy + Drop>(handle: Handle<R>, pass: JwtPass) -> Option<Shown>
+    requires { pass.book ≡ handle.job.board }
+{
+    let mut pass = pass;
+    match handle.close_and_join().into_record(&mut pass) {
+        Ok(record) => Some(summary(&record)),
+        Err(_) => None,
+    }
+}
+
+/// What the record of a supervisor shows whose source is of this connector.
+fn recorded_of<R: Wait + Copy + Drop>(
+    rt: R,
+    alloc: Global,
+    connector: MemConnector,
+) -> Option<Shown> {
+    match JwtSource::builder(connector).build(
+        rt,
+        alloc,
+        &mut FixedClock,
+        NoPause,
+        StepWords::new(0),
+        &mut InlineSpawner,
+        &mut BoardPlaces::new(),
+    ) {
+        Ok((_source, pass, handle)) => recorded(handle, pass),
+        Err(_) => None,
+    }
+}
+
+/// The row inline-record. The events are the moment, the client, the start and the item.
+#[test]
+fn inline_record(rt: HostRuntime) -> Result<(), Fail> {
+    let connector = good(rt.alloc())?;
+    let wanted = Shown {
+        events: 4,
+        steps: 1,
+        accepts: true,
+        is_closed: true,
+    };
+    assert!(rt; recorded_of(rt, rt.alloc(), connector) == Some(wanted));
+    Ok(())
+}
