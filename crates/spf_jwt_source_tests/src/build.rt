@@ -19,7 +19,7 @@ type Builder = JwtSourceBuilder<MemConnector, NoRecorder>;
 
 /// A clock that always gives 999.
 #[derive(Drop)]
-pub(crate) struct FixedClock;
+struct FixedClock;
 
 impl Clock for FixedClock {
     ghost use Rattle.std.specs.Prelude.{None};
@@ -33,7 +33,7 @@ impl Clock for FixedClock {
 
 /// A pause that returns at once.
 #[derive(Drop)]
-pub(crate) struct NoPause;
+struct NoPause;
 
 impl Pause for NoPause {
     ghost use Rattle.std.specs.Prelude.{None};

@@ -8,6 +8,4 @@ mod fetch;
 #[cfg(test)]
 mod links;
 #[cfg(test)]
-mod record;
-#[cfg(test)]
 mod source;
