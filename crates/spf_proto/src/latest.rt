@@ -40,7 +40,7 @@ impl Latest {
         }
     }
 
-    /// Where the session stands after the message, if it is the last one again, from the same place.
+    /// Where the session stands after the message, if it repeats the last one at the same place.
     fn after(&self, position: Position, message: &[u8]) -> Option<Position>
         ensures { IfSome result (IsAgain self.now position message.now) }
     {

@@ -1,5 +1,5 @@
-//! What `spiffe_watch` does: it follows a stream of SPIFFE Workload API updates and prints, for each
-//! event, which identity and which trust bundles a workload then holds.
+//! What `spiffe_watch` does: it follows a stream of SPIFFE Workload API updates and prints, for
+//! each event, which identity and which trust bundles a workload then holds.
 #![tactic(auto)]
 
 mod arguments;
