@@ -3,11 +3,12 @@
 
     examples/agent.py [--socket PATH] [--pause SECONDS] [--jwt FRAMES] [--token FILE] [FRAMES]
 
-FRAMES is a file of frames (docs/SESSIONS.md) for requests of X.509 SVIDs, --jwt of JWT bundles.
+FRAMES is a file of frames (docs/SESSIONS.md) for requests for X.509 SVIDs, --jwt for JWT bundles.
 Each request gets the next frame that accepts or refuses a connection (kinds 3 and 4), and what
-follows it (kinds 5 to 7), each after a pause. What a workload sees for itself is passed over.
-A stream that no frame ends is held open until the client goes; after the last the agent ends. With
---token, requests of a JWT SVID and of its validation are granted by the token in FILE.
+follows it (kinds 5 to 7), each after a pause. The other kinds, which a workload sees for itself,
+are skipped. A stream that no frame ends is held open until the client goes; after the last stream
+the agent ends. With --token, requests for a JWT SVID and for its validation are granted with the
+token in FILE.
 """
 
 import argparse
@@ -81,7 +82,7 @@ def send(connection, kind, payload):
 
 
 def granted(kind, asked, token):
-    """The payload that grants a JWT SVID or a validation by the token, or None."""
+    """The payload that grants a JWT SVID or a validation with the token, or None."""
     claims = json.loads(base64.urlsafe_b64decode(token.split(b".")[1] + b"=="))
     claims["aud"] = claims["aud"] if isinstance(claims["aud"], list) else [claims["aud"]]
     subject, asked_for = claims["sub"].encode(), field_in(asked)
@@ -113,7 +114,7 @@ def serve(connection, sessions, token):
 
 
 def attend(listener, sessions, token):
-    """Serves all who come, until each session was played to its end and all have gone."""
+    """Serves all clients, until each session was played to its end and all clients have gone."""
     clients = []
     while clients or not sessions or any(session.streams for session in sessions.values()):
         clients = [client for client in clients if client.is_alive()]

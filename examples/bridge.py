@@ -3,8 +3,8 @@
 
     SPIFFE_ENDPOINT_SOCKET=unix:///run/spire/sockets/agent.sock examples/bridge.py /run/me/bridge.sock
 
-Each request is one call of the agent, and ends the call before it; the bridge asks nothing again by itself. Its socket has
-mode 0600. The agent attests the bridge, and not who asks it: docs/REAL_AGENT.md.
+Each request is one call of the agent, and ends the call before it; the bridge never asks again by itself. Its socket has
+mode 0600. The agent attests the bridge, and not the client of the bridge: docs/REAL_AGENT.md.
 """
 import grpc, os, socket, stat, struct, sys, threading
 
@@ -24,7 +24,7 @@ def pairs(found):
     return listed([field(name) + field(octets) for name, octets in found.items()])
 
 class Reader:
-    """What stands in a payload, part after part."""
+    """Reads a payload, part after part."""
 
     def __init__(self, octets):
         self.octets, self.at = octets, 0
@@ -71,7 +71,7 @@ def record(message, count):
     return b"".join(field(last(message, number)) for number in range(1, count + 1))
 
 def entries(message, number):
-    """A map: of entries with one key the last stands, in its own place."""
+    """A map: of entries with the same key the last one counts, in its own place."""
     found = {}
     for entry in members(message, number):
         found.pop(last(entry, 1), None)
@@ -114,7 +114,7 @@ def validation(message):
 def jwt_request(asked):
     spiffe_id, audience = asked.field(), [asked.field() for _ in range(asked.number())]
     return b"".join(spelled(1, name) for name in audience) + (spelled(2, spiffe_id) if spiffe_id else b"")
-# Of each kind of request the method, the message of the request, and the payload of a response.
+# For each kind of request: the method, the message of the request, and the payload of a response.
 CALLS = {
     0x11: ("FetchX509SVID", lambda asked: b"", context),
     0x12: ("FetchX509Bundles", lambda asked: b"", lambda message: pairs(entries(message, 2))),
@@ -143,7 +143,7 @@ class Connection:
             self.next_turn()
 
     def next_turn(self):
-        """Ends the call before, of which nothing more is sent."""
+        """Ends the call before, for which nothing more is sent."""
         with self.lock:
             self.turn += 1
             if self.call:

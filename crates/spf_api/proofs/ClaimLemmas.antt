@@ -1,4 +1,4 @@
--- What is laid out is read, and what is read is laid out so: claims.
+-- What is laid out is read, and what is read was laid out: claims.
 use Rattle.std.proofs.Common.{◌≡◌, ℕ, ℤ, zero, suc, ◌+◌, ◌^◌, ◌<◌, Bool, true, false, cond, eqb}
 use Rattle.std.proofs.Common.{List, [], ◌∷◌, ◌++◌, map, Option, Some, None, SFits, to_z, of_z}
 use Rattle.std.proofs.Common.{rules, refl, sym, ap, ◌∙◌, subst, append_assoc, arith}
@@ -398,7 +398,7 @@ module _ (depth : ℕ)
       went (eqb k 6) _ _ _ e (kind_takes items k bytes v rest b) (λ _ e.
       went (eqb k 7) _ _ _ e (kind_takes fields k bytes v rest b) (λ _ e. absurd cc))))))))
 
--- values, as deep as they may stand
+-- values, up to the greatest depth
 pub claim_values : (depth : ℕ) → Reads (claim_value_at depth) claim_value_text (IsClaimValue depth)
 claim_values zero = record {
   again = λ v rest p. absurd p;

@@ -1,4 +1,4 @@
--- So many entries, as a loop reads them.
+-- A number of entries, as a loop reads them.
 use Rattle.std.proofs.Common.{◌≡◌, ℕ, zero, suc, ◌+◌, ◌<◌, List, [], ◌∷◌, ◌++◌, Option, Some, None}
 use Rattle.std.proofs.Common.{refl, sym, ap, ◌∙◌, append_assoc, arith}
 use Rattle.std.proofs.lemmas.List.{append-nil}
@@ -38,7 +38,7 @@ counted_more one (suc n) m front rest total x after is found going =
     ap (λ k. with_front (front ++ x ∷ []) (counted one k after)) (sym same)
     ∙ sym (regroup front x (counted one n after)) ∙ sym (rw found refl) ∙ going
 
--- an entry is not there
+-- an entry is missing
 pub counted_fails : {A : Type 0} (one : List ℕ → Option (A × List ℕ)) (n : ℕ) (front : List A)
     (rest : List ℕ) (total : Option (List A × List ℕ))
     → 0 < n → one rest ≡ None → Goes one n front rest total → None ≡ total

@@ -24,7 +24,7 @@ or_true : (b : Bool) → (b || true) ≡ true
 or_true true = refl
 or_true false = refl
 
--- a needle that stands at a place is held
+-- a text that has the needle at a position holds it
 holds_at : (needle text rest : List ℕ) (k : ℕ) → k ≤ length text → drop k text ≡ needle ++ rest
     → holds needle text ≡ true
 holds_at needle [] rest zero le is = starts needle [] rest is
@@ -34,7 +34,7 @@ holds_at needle (x ∷ text) rest (suc k) le is =
     rw (holds_at needle text rest k (omega arith) is)
     (or_true (starts_with nat_eq (x ∷ text) needle))
 
--- a needle that is held stands somewhere
+-- a text that holds the needle has it at some position
 held : (needle text : List ℕ) → holds needle text ≡ true → HasSubslice text needle
 held needle [] e = ([], drop (length needle) [], started needle [] e)
 held needle (x ∷ text) e = ⊎_elim
@@ -56,7 +56,7 @@ occurs needle text (front, rest, is) =
     ∙ take_at needle rest (length needle) refl in
     (length front, omega arith, OccursAt-from_part text needle (length front) (omega arith) part)
 
--- the answer of a search, as a test
+-- the result of a search, as a test
 pub is_some-find : (needle text : List ℕ) (r : Option ℕ) → FindsNeedle text needle 0 r
     → is_some r ≡ holds needle text
 is_some-find needle text (Some k) (before, at) =

@@ -7,7 +7,7 @@ use Rattle.std.proofs.lemmas.List.Concat.{flat_map-cons, flat_map-append}
 use Rattle.std.specs.List.{flat_map, All}
 use Rattle.spf_api.specs.Layout.{IsListOf, HasLength32}
 
--- after `start` the members are laid out, and each may be
+-- after `start` the members are laid out, and each of them may be
 pub record Laid {A : Type 0} (one : A → List ℕ) (P : A → Type 0) (start now : List ℕ)
     (members : List A) : Type 0 where
   pub octets : now ≡ start ++ flat_map one members

@@ -1,4 +1,4 @@
--- What is laid out is read, and what is read is laid out so: lists and entries.
+-- What is laid out is read, and what is read was laid out: lists and entries.
 use Rattle.std.proofs.Common.{◌≡◌, ℕ, zero, suc, ◌^◌, ◌<◌, List, [], ◌∷◌, ◌++◌, length, Option}
 use Rattle.std.proofs.Common.{Some, None, refl, sym, ap, ◌∙◌, subst, append_assoc}
 use Rattle.std.specs.List.{flat_map, All}

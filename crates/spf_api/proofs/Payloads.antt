@@ -1,4 +1,4 @@
--- What is laid out is read, and what is read is laid out so: whole responses.
+-- What is laid out is read, and what is read was laid out: whole responses.
 use Rattle.std.proofs.Common.{◌≡◌, ℕ, cond, List, [], ◌++◌, length, Option, Some, None, Result, Ok}
 use Rattle.std.proofs.Common.{Err, eqb, refl, sym, ap, ◌∙◌, subst, unwrap_or, ⊎_elim, IfSome, ◌∷◌}
 use Rattle.std.proofs.Common.{suc}
@@ -280,7 +280,7 @@ validation_finds bytes (Some r) octets e = validation_takes bytes r octets e
 validation_finds bytes None octets e =
     none_laid kind.Validation bytes (sym (ap (option_map response.Validation) e))
 
--- what is read is laid out so; where nothing is read, nothing is laid out
+-- what is read was laid out; where nothing is read, nothing is laid out
 pub finds : (k : ResponseKind) (bytes : List ℕ) (o : Option Response) → IsBytes bytes
     → IsRead k bytes o → Finds k bytes o
 unfolding IsRead

@@ -126,7 +126,7 @@ i1_fits = record {
   crls = record { short = omega arith; each = All-nil HasLength32 };
 }
 
--- row payload: the payload of I1 lays it out, and is read as it is
+-- the payload of I1 lays it out, and is read back as I1
 i1_laid : Payload kind.Context i1_payload (response.Context i1)
 unfolding Payload
 i1_laid = record { fits = i1_fits; octets = sym i1_text }
@@ -134,7 +134,7 @@ i1_laid = record { fits = i1_fits; octets = sym i1_text }
 i1_read : IsRead kind.Context i1_payload (Some (response.Context i1))
 i1_read = laid_is_read kind.Context i1_payload (response.Context i1) i1_laid
 
--- row payload: without its last octet it lays out nothing
+-- without its last octet it lays out nothing
 i1_cut : context_at (take 281 i1_payload) ≡ None
 unfolding octets digit root1 leaf1 key1 i1_payload context_at svid_entry_at bundle_entry_at
     text_field_at byte_field_at number_at
@@ -152,7 +152,7 @@ i1_longer =
       is_utf8-from_IsUtf8 [] IsUtf8-nil,
     ) refl
 
--- rows payload and views: the octets `ffffffff` are a count without entries
+-- the octets `ffffffff` are a count without entries
 far_count : context_at (octets (codes "ffffffff")) ≡ None
 unfolding octets digit context_at svid_entry_at bundle_entry_at text_field_at byte_field_at
     number_at
@@ -207,7 +207,7 @@ no_identity : status_reading
     }) ≡ api.NoIdentityIssued
 no_identity = refl
 
--- another code is no denial, whatever the message
+-- another code is not a denial, whatever the message
 unavailable : status_reading
     (record { code = code.Unavailable; message = codes "no identity issued"; source = None })
     ≡ api.Transport

@@ -61,7 +61,7 @@ abbrev pub IsClaimValue : ℕ → ClaimValue → Type 0
 IsClaimValue zero value = ⊥
 IsClaimValue (suc depth) value = IsLayer (IsClaimValue depth) (out-ClaimValue value)
 
--- a list of claims, or that there is none
+-- a list of claims, or the mark of its absence
 abbrev pub optional_claims_text : Option (List Claim) → List ℕ
 optional_claims_text None = 0 ∷ []
 optional_claims_text (Some claims) = 1 ∷ list_text claim_text claims
@@ -116,7 +116,7 @@ claim_value_at zero bytes = None
 claim_value_at (suc depth) [] = None
 claim_value_at (suc depth) (kind ∷ rest) = contents_at (claim_value_at depth) kind rest
 
--- the claims after which nothing follows, or that there are none
+-- the claims, or the mark of their absence, after which nothing follows
 abbrev pub optional_claims_at : List ℕ → Option (Option (List Claim))
 optional_claims_at [] = None
 optional_claims_at (flag ∷ rest) =

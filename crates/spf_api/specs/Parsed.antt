@@ -124,7 +124,7 @@ parsed_of r = do
 unfoldable pub svids_of : ContextResponse → Result (List Svid) WorkloadApiError
 svids_of r = read_as svids_in (pairs_of r.svids)
 
--- a list of SVIDs holds one
+-- the first of a list of SVIDs, which must have one
 abbrev pub first_of : List Svid → Result Svid WorkloadApiError
 first_of [] = Err (api.MissingRequiredField (codes "X509SVIDResponse.svids"))
 first_of (svid ∷ others) = Ok svid

@@ -30,7 +30,7 @@ pub enum EndpointError {
     /// The URI of a Unix socket has no absolute path, or only `/`.
     #[error("unix: endpoint socket URI must include a path")]
     UnixMissingPath,
-    /// The host of a TCP endpoint is no IP address.
+    /// The host of a TCP endpoint is not an IP address.
     #[error("tcp: endpoint socket URI host must be an IP address")]
     TcpHostNotIp,
     /// A TCP endpoint has no port.

@@ -21,7 +21,7 @@ pub enum WorkloadApiError {
     /// The environment names no endpoint.
     #[error("missing SPIFFE endpoint socket path (SPIFFE_ENDPOINT_SOCKET)")]
     MissingEndpointSocket,
-    /// The environment names an endpoint by a text that is no UTF-8.
+    /// The environment variable that names the endpoint is not UTF-8.
     #[error("SPIFFE endpoint socket path is not a valid UTF-8 string")]
     NotUnicodeEndpointSocket,
     /// The stream ended before its first response.
@@ -94,7 +94,7 @@ impl WorkloadApiError {
         }
     }
 
-    /// Whether this is a status of the transport with the code INVALID_ARGUMENT.
+    /// Returns whether this is a status of the transport with the code INVALID_ARGUMENT.
     pub fn is_invalid_argument(&self) -> bool
         ensures { IsTrue result ↔ (status_code_of self.now ≡ Some code.InvalidArgument) }
     {
@@ -106,7 +106,7 @@ impl WorkloadApiError {
         }
     }
 
-    /// Whether this is a status of the transport with the code UNIMPLEMENTED.
+    /// Returns whether this is a status of the transport with the code UNIMPLEMENTED.
     pub fn is_unimplemented(&self) -> bool
         ensures { IsTrue result ↔ (status_code_of self.now ≡ Some code.Unimplemented) }
     {

@@ -58,7 +58,7 @@ pub enum JwtSvidError {
     /// The header is not base64url without padding of a JSON object.
     #[error("HeaderText")]
     HeaderText,
-    /// The header holds a number that is not whole.
+    /// The header contains a number that is not an integer.
     #[error("HeaderFloat")]
     HeaderFloat,
     /// `alg` is not one of RS256, RS384, RS512, ES256, ES384, ES512, PS256, PS384 and PS512.
@@ -67,25 +67,25 @@ pub enum JwtSvidError {
     /// `typ` is present, and neither `JWT` nor `JOSE`.
     #[error("InvalidTyp")]
     InvalidTyp,
-    /// `kid` is present, and no text.
+    /// `kid` is present, and is not a string.
     #[error("InvalidKid")]
     InvalidKid,
     /// The claims are not base64url without padding of a JSON object.
     #[error("ClaimsText")]
     ClaimsText,
-    /// The claims hold a number that is not whole.
+    /// The claims contain a number that is not an integer.
     #[error("ClaimsFloat")]
     ClaimsFloat,
     /// A required claim is absent.
     #[error("MissingClaim")]
     MissingClaim { claim: Text },
-    /// `sub` is no SPIFFE ID.
+    /// `sub` is not a SPIFFE ID.
     #[error("InvalidSub")]
     InvalidSub(SpiffeIdError),
-    /// `aud` is neither a text nor a list of texts that is not empty.
+    /// `aud` is neither a string nor a non-empty array of strings.
     #[error("InvalidAud")]
     InvalidAud,
-    /// `exp` is no whole number of 64 bits.
+    /// `exp` is not an integer of 64 bits.
     #[error("InvalidExp")]
     InvalidExp,
     /// Memory ran out.
@@ -132,7 +132,7 @@ pub enum JwtBundleError {
     /// The text is not JSON.
     #[error("Json")]
     Json(JsonError),
-    /// A number is not a whole one of 64 bits.
+    /// A number is not an integer of 64 bits.
     #[error("HoldsFloat")]
     HoldsFloat,
     /// The value is not an object with an array `keys`.
@@ -141,7 +141,7 @@ pub enum JwtBundleError {
     /// A key is not an object.
     #[error("NotAnObject")]
     NotAnObject,
-    /// A key has no `kid`, or one that is no text or empty.
+    /// A key has no `kid`, or one that is empty or not a string.
     #[error("MissingKeyId")]
     MissingKeyId,
     /// Memory ran out.

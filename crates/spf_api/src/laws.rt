@@ -1,4 +1,4 @@
-//! Laws of the definitions that contracts cite. No law has a body: its statement is what it says.
+//! Laws of the definitions that contracts cite. No law has a body: its contract is its statement.
 
 ghost use Rattle.std.specs.Prelude.{◌≡◌, ℕ, List, [], Option, Some};
 ghost use Rattle.spf_x509.specs.Bundle.{Bundle, find_entry, with_bundles};
@@ -13,13 +13,13 @@ pub fn written_is_read()
         → Payload (kind_of r) bytes r → IsRead (kind_of r) bytes found → found ≡ Some r }
 {}
 
-/// The octets lay out one response of a kind at most.
+/// The octets lay out at most one response of each kind.
 pub fn one_reading()
     ensures { (kind : ResponseKind) (bytes : List ℕ) (r s : Response) → Payload kind bytes r
         → Payload kind bytes s → r ≡ s }
 {}
 
-/// A response has one payload at most.
+/// A response has at most one payload.
 pub fn one_writing()
     ensures { (kind : ResponseKind) (a b : List ℕ) (r : Response) → Payload kind a r
         → Payload kind b r → a ≡ b }

@@ -170,7 +170,7 @@ fn claims(
     Ok(Some((claims, rest)))
 }
 
-/// Reads the claims after which nothing follows, or that there are none.
+/// Reads the claims, or the mark of their absence, after which nothing follows.
 fn optional_claims(alloc: Global, bytes: &[u8]) -> Result<Option<Option<List<Claim>>>, OutOfMemory>
     ensures { IfOk result (λ o. o ≡ optional_claims_at bytes.now) }
 {

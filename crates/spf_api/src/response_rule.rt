@@ -103,8 +103,8 @@ fn held_bundle<'a>(
     held?.bundle_set().get_ref(trust_domain)
 }
 
-/// Adds the bundle of a trust domain to the set. The
-/// entries before most often have the same bundle.
+/// Adds the bundle of a trust domain to the set. The entries before it most often have the same
+/// bundle.
 fn add_bundle(
     alloc: Global,
     trust_domain: &TrustDomain,
@@ -285,8 +285,8 @@ pub fn svid_from(alloc: Global, r: &ContextResponse) -> Result<X509Svid, Workloa
     }
 }
 
-/// Returns the bundles of the response, of which a
-/// later one of a trust domain replaces an earlier one.
+/// Returns the bundles of the response, where a later one of a trust domain replaces an earlier
+/// one.
 #[tactic(auto, unfolding(crate::specs::Parsed::bundle_set_of))]
 pub fn bundle_set_from(
     alloc: Global,

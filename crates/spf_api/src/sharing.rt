@@ -19,7 +19,7 @@ use spf_x509::{X509Bundle, X509Context, X509Svid};
 use std::alloc::Global;
 use std::sync::Arc;
 
-/// The hint of an entry, of which an empty one is none.
+/// The hint of an entry, where an empty one counts as none.
 fn hint_of(hint: &str) -> Option<&str>
     ensures { option_map (λ t. t.now) result ≡ hint_rule hint.now }
 {
@@ -117,8 +117,8 @@ pub(crate) fn held_svid<'a>(
     read_from(svids.get(index.saturating_sub(1)), entry)
 }
 
-/// Returns the last of the SVIDs, or else the first of the held context. What
-/// stands after its leaf stands after the leaf of the next SVID most often too.
+/// Returns the last of the SVIDs, or else the first of the held context. The certificates after its
+/// leaf most often follow the leaf of the next SVID too.
 pub(crate) fn near_svid<'a>(
     svids: &'a [Arc<X509Svid>],
     held: Option<&'a X509Context>,

@@ -96,7 +96,7 @@ impl fmt::Display for GrpcStatusCode {
     }
 }
 
-/// A status that refuses a call. Its source is a text that serves diagnosis alone.
+/// A status that refuses a call. Its source is a text for diagnosis alone.
 #[derive(Debug, PartialEq, Eq, Drop, Error)]
 #[error("gRPC status {code}: {message}")]
 pub struct GrpcStatusError {
@@ -165,7 +165,7 @@ impl GrpcStatusError {
     }
 }
 
-/// Why no connection was made, as a text that serves diagnosis alone.
+/// Why no connection was made, as a text for diagnosis alone.
 #[derive(Debug, PartialEq, Eq, Drop, Error)]
 #[error("gRPC transport connection failed: {source}")]
 pub struct TransportConnectError {

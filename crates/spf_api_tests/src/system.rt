@@ -1,4 +1,4 @@
-//! The clock, pauses, the environment, and the mark that ends waits.
+//! The clock, pauses, the environment, and the flag that ends waits.
 
 use spf_api::{EndpointError, EndpointParseError, WorkloadApiError};
 use spf_endpoint::{Endpoint, from_env};

@@ -36,7 +36,7 @@ module _ {S X N : Type 0} (replays : List S → X → Type 0) (snap : N → X) (
         (at_set views seat j w u at);
   }
 
-  -- one view more
+  -- one more view
   joins : (x : N) (views : List Place) (w : Place) → holds x views
       → (w.bound ≡ true → book_of w ≡ (front x).book) → holds x (views ++ w ∷ [])
   joins x views w keeps book = record {

@@ -1,5 +1,5 @@
--- The rule of a board: the snapshot stands for its history,
--- and whoever is bound is bound to that history.
+-- The rule of a board: the snapshot stands for its history, and each view that is bound is bound to
+-- that history.
 use Rattle.std.specs.Prelude.{◌≡◌, ℕ, ◌+◌, true, false, List}
 use mathlib.Core.Option.{some}
 use lib.ListN.{get_elem?}
@@ -27,7 +27,7 @@ pub record IsBoundTo (v : Place) (b : Book) : Type 0 where
   pub bound : v.bound ≡ true
   pub book : book_of v ≡ b
 
--- what the writer tells, and what a reader then knows
+-- what the writer passes on, and what a reader then knows
 abbrev pub note_of : Place → Place
 note_of v = record v { enters = 0 }
 

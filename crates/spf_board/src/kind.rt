@@ -3,8 +3,8 @@
 use spf_history::Kind;
 use spf_io::OutOfMemory;
 
-/// A kind of step, with the snapshot that steps make. Nothing here takes memory. A copy
-/// shares what it holds, and is refused where that is shared too often.
+/// A kind of step, with the snapshot that steps make. Nothing here allocates. A copy shares what it
+/// holds, and is refused where that is shared too often.
 pub trait Replay: Kind {
     type Snapshot: Drop;
 

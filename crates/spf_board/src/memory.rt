@@ -84,7 +84,7 @@ fn read<K: Replay, L: Look<K::Snapshot>>(
     }
 }
 
-// One read: what was found, if anything was looked for. Where nothing was taken, one more was
+// One read: what was found, if anything was looked for. Where nothing was taken, the read counts as
 // missed.
 fn enter<K: Replay, L: Look<K::Snapshot>>(
     reader: PostReader<K>,
@@ -185,7 +185,7 @@ impl<K: Replay> Memory<K> {
         }
     }
 
-    /// What another pass remembers that has seen the same.
+    /// Returns the memory of another pass, which has seen the same.
     pub fn again(&self) -> Result<Memory<K>, OutOfMemory>
         ensures { IfOk result (λ m. m ≡ record self.now { missed = 0 }) }
     {
@@ -197,7 +197,7 @@ impl<K: Replay> Memory<K> {
         })
     }
 
-    /// The kept snapshot.
+    /// Returns the kept snapshot.
     pub fn snapshot(&self) -> &K::Snapshot
         ensures stands { K.replays (steps_of self.now.seen) result.now }
         ensures board { IsBoardList K.legal self.now.seen }
@@ -205,16 +205,16 @@ impl<K: Replay> Memory<K> {
         &self.kept
     }
 
-    /// What was seen.
+    /// Returns what was seen.
     pub fn seen(&self) -> &Front<K>
         ensures { (result.now.book ≡ self.now.book) × (result.now.list ≡ self.now.seen) }
     {
         &self.seen
     }
 
-    /// A read that is kept: the kept snapshot then stands for what is published now, or
-    /// stays where the reader was not let in. A refused copy leaves what was seen. What was
-    /// seen already is not copied again.
+    /// Reads, and keeps what was read: the kept snapshot then stands for what is published now, or
+    /// stays where the reader was not let in. An error leaves what was seen. What was seen already
+    /// is not copied again.
     pub fn renew(&mut self, reader: PostReader<K>) -> (PostReader<K>, Result<(), OutOfMemory>)
         requires { IsBoundTo (view reader.place) self.old.book }
         ensures bound { IsBoundTo (view result.0.place) self.new.book }
@@ -243,8 +243,8 @@ impl<K: Replay> Memory<K> {
         }
     }
 
-    /// A read that keeps nothing: what is found in the snapshot that is published now,
-    /// or in the kept one where the reader was not let in.
+    /// Reads, and keeps nothing: returns what is found in the snapshot that is published now, or in
+    /// the kept one where the reader was not let in.
     pub fn peek<L: Look<K::Snapshot>>(
         &mut self,
         reader: PostReader<K>,

@@ -58,7 +58,7 @@ fn seat<K: Replay>(writer: &mut PostWriter<K>) -> Result<PostReader<K>, OutOfMem
     }
 }
 
-// So many readers of the board, bound to its history.
+// That many readers of the board, bound to its history.
 fn seats<K: Replay>(
     alloc: Global,
     writer: &mut PostWriter<K>,
@@ -130,8 +130,8 @@ fn first_pass<K: Replay>(
     Ok((Memory::new(posted.front.again(), kept), readers))
 }
 
-/// A board with one step on it: its writer, and what the first pass
-/// remembers, with the reader of each place. It waits for nobody.
+/// Opens a board with one step on it, and returns its writer, and what the first pass remembers,
+/// with the reader of each place. It never waits.
 pub fn open_board<K: Replay, R: Wait>(
     alloc: Global,
     rt: &R,

@@ -1,4 +1,4 @@
-//! What counts the places that passes are refused.
+//! What gives or refuses places to passes, and counts the refusals.
 
 ghost use Rattle.std.specs.Prelude.{◌≡◌, ◌≤◌};
 ghost use Rattle.spf_board.specs.Passes.{Rose};
@@ -37,7 +37,7 @@ impl BoardPlaces {
         BoardPlaces { refused: 0 }
     }
 
-    /// Counts a refusal.
+    /// Counts a refusal, and returns it.
     pub fn refuse(&mut self) -> PlaceFault
         ensures later { self.old ≤ self.new }
         ensures counted { Rose self.old self.new }
@@ -69,7 +69,7 @@ impl RefusingPlaces {
         RefusingPlaces { refused: 0 }
     }
 
-    /// Counts a refusal.
+    /// Counts a refusal, and returns it.
     pub fn refuse(&mut self) -> PlaceFault
         ensures later { self.old ≤ self.new }
         ensures counted { Rose self.old self.new }

@@ -1,4 +1,4 @@
-//! The rule of a board, and what each step tells.
+//! The rule of a board, and what each step passes on.
 
 use crate::kind::Replay;
 use crate::posted::{Post, Posted};
@@ -49,7 +49,7 @@ impl<K: Replay> Outcome<Posted<K>, Place> for Puts {
     ghost then = { λ v x y w. Posts K.replays y.snapshot y.front w };
 }
 
-/// What the writer tells a reader: which history the board has.
+/// What the writer passes on to a reader: which history the board has.
 pub(crate) struct Notes;
 
 impl Split<Place> for Notes {

@@ -28,8 +28,7 @@ pub record IsUnsent {S : Type 0} (made : Intercepted) (old : S)
   pub why : IsUnsentBy made.refusal result
   pub untouched : new ≡ old
 
--- one `start` with the headers that the interceptor makes, and behind them the one of the Workload
--- API
+-- one `start` with the headers that the interceptor makes, and after them that of the Workload API
 pub record IsSent {S : Type 0} (link : links.Ghosts S) (made : Intercepted) (request : Request)
     (old : S) (result : Result (Unit {0}) WorkloadApiError) (new : S) : Type 0 where
   pub allowed : made.refusal ≡ None
@@ -44,7 +43,7 @@ abbrev pub Begins : {S : Type 0} → links.Ghosts S → Intercepted → Request 
 Begins link made request old result new = IsUnsent made old result new
     ⊎ IsSent link made request old result new
 
--- behind a request that began, one `next`
+-- after a request that began, one `next`
 abbrev pub TakesFirst : {S : Type 0} → links.Ghosts S → S → Result (Unit {0}) WorkloadApiError
     → Result Response WorkloadApiError → S → Type 0
 TakesFirst link mid (Err e) result new = (result ≡ Err e) × (new ≡ mid)

@@ -70,7 +70,7 @@ IsConnectedTo connector answers (Ok endpoint) result =
     IsConnected connector answers endpoint result
 IsConnectedTo connector answers (Err e) result = result ≡ Err e
 
--- the endpoint is read by the variable's value, and then connected to
+-- the endpoint is read from the variable's value, and then connected to
 pub record ReadsAndConnects {S L : Type 0} (connector : connectors.Ghosts S L)
     (answers : L → Option (List Answer)) (value : Option EnvValue)
     (result : Result (WorkloadApiClient L NoInterceptor) WorkloadApiError) : Type 0 where

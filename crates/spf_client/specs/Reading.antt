@@ -38,7 +38,7 @@ pub record IsReadBy {R X Y : Type 0} (of_kind : R → Response) (rule : R → Re
   pub kind : response ≡ of_kind body
   pub read : Gives is_memory_api view result (rule body)
 
--- the same of a first response; without one, the error is that there is none
+-- the same of a first response; without one, its error is returned as it is
 abbrev pub ReadsFirst : {R X Y : Type 0} → (R → Response) → (R → Result Y WorkloadApiError)
     → (X → Y) → Result Response WorkloadApiError → Result X WorkloadApiError → Type 0
 ReadsFirst of_kind rule view (Ok response) result = IsReadBy of_kind rule view response result

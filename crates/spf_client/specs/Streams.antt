@@ -8,7 +8,7 @@ use Rattle.spf_link.specs.Asked.{Nexts}
 use Rattle.spf_link.specs.declared.link.Link as links
 use Rattle.spf_client.specs.Reading.{fault_reading, IsReadBy}
 
--- whether the stream has ended behind an answer of the link: at its end, and after a refusal other
+-- whether the stream has ended after an answer of the link: at its end, and after a refusal other
 -- than out of memory
 abbrev pub ends : Result (Option Response) LinkFault → Bool
 ends (Ok None) = true

@@ -14,7 +14,7 @@ use std::alloc::Global;
 use std::fmt;
 
 /// A client of the Workload API over a link. Each request carries the headers that its interceptor
-/// makes, and behind them the one of the Workload API.
+/// makes, and after them that of the Workload API.
 #[derive(Drop)]
 pub struct WorkloadApiClient<L, I> {
     endpoint: Option<Endpoint>,
@@ -29,7 +29,8 @@ impl<L, I> fmt::Debug for WorkloadApiClient<L, I> {
 }
 
 impl<L: Link, I: Interceptor> WorkloadApiClient<L, I> {
-    /// A client over a link that is there. The endpoint is for those who ask for it.
+    /// Returns a client over an existing link. The endpoint is only kept, for
+    /// [`WorkloadApiClient::endpoint`].
     pub fn new_with_link(
         endpoint: Option<Endpoint>,
         link: L,
@@ -60,7 +61,7 @@ impl<L: Link, I: Interceptor> WorkloadApiClient<L, I> {
         }
     }
 
-    /// The endpoint of the client, where it has one.
+    /// Returns the endpoint of the client, where it has one.
     pub fn endpoint(&self) -> Option<&Endpoint>
         ensures { option_copied result ≡ self.now.endpoint }
     {

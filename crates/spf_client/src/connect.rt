@@ -15,9 +15,9 @@ use std::alloc::Global;
 use std::net::{Net, TcpStream};
 
 impl<L: Link> WorkloadApiClient<L, NoInterceptor> {
-    /// A client over the link that the connector makes, without an endpoint. A refusal of the
-    /// connector is read as its status, or as an error of the transport with the text of what is
-    /// unreachable.
+    /// Returns a client over the link that the connector makes, without an endpoint. A refusal of
+    /// the connector is read as its status, or as an error of the transport with the text of what
+    /// is unreachable.
     pub fn connect_over<C: Connector<Link = L>>(
         connector: &mut C,
     ) -> Result<WorkloadApiClient<L, NoInterceptor>, WorkloadApiError>
@@ -45,7 +45,7 @@ impl<L: Link> WorkloadApiClient<L, NoInterceptor> {
 }
 
 impl WorkloadApiClient<SocketLink, NoInterceptor> {
-    /// A client over a socket of the endpoint.
+    /// Returns a client over a socket of the endpoint.
     pub fn connect<R: Net<Stream = TcpStream> + Drop>(
         net: R,
         alloc: Global,
@@ -58,7 +58,7 @@ impl WorkloadApiClient<SocketLink, NoInterceptor> {
         WorkloadApiClient::connect_keeping(&mut connector, endpoint)
     }
 
-    /// A client over a socket of the endpoint that `SPIFFE_ENDPOINT_SOCKET` names.
+    /// Returns a client over a socket of the endpoint that `SPIFFE_ENDPOINT_SOCKET` names.
     pub fn connect_env<R: Net<Stream = TcpStream> + Drop, E: Environment>(
         net: R,
         alloc: Global,

@@ -29,7 +29,7 @@ pub(crate) fn client_fault_error(fault: ClientFault) -> WorkloadApiError
     }
 }
 
-/// The first response by the first answer of a link.
+/// The first response, from the first answer of a link.
 pub(crate) fn first_response(
     answer: Result<Option<Response>, LinkFault>,
 ) -> Result<Response, WorkloadApiError>

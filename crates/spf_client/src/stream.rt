@@ -1,6 +1,6 @@
 //! Streams of X.509 identities and bundles, each over the link of a client (SPIFFE Workload API
 //! section 5). A stream ends where the link says so, or refuses. An item that breaks a rule is an
-//! error, and so is running out of memory: the stream goes on.
+//! error, and so is running out of memory: after either, the stream goes on.
 
 ghost use Rattle.std.specs.Prelude.{◌≡◌, [], IfErr, IfOk, IfSome, Some};
 ghost use Rattle.std.specs.Borrow.{sem};
@@ -44,8 +44,8 @@ fn next_response<L: Link>(
 }
 
 impl<L: Link, I> WorkloadApiClient<L, I> {
-    /// The next response to the request that was begun last: none at the end of the stream, and
-    /// where it has ended. Whether it has ended is kept by the caller.
+    /// Returns the next response to the last request that was begun: none at the end of the stream,
+    /// and after it. The caller keeps whether the stream has ended.
     pub fn next_response(&mut self, ended: &mut bool) -> Option<Result<Response, WorkloadApiError>>
         ensures brings { Brings L.Link ended.old self.old.link result self.new.link ended.new }
         ensures kind { IfSome result (λ r. IfOk r
@@ -66,7 +66,7 @@ pub struct X509ContextStream<'a, L: Link, I = NoInterceptor> {
 }
 
 impl<'a, L: Link, I> X509ContextStream<'a, L, I> {
-    /// The next context: none at the end of the stream, and after it.
+    /// Returns the next context: none at the end of the stream, and after it.
     pub fn next_item(&mut self, alloc: Global) -> Option<Result<X509Context, WorkloadApiError>>
         ensures streams { Streams L.Link Response.Context parsed_of (λ c. c) self.old.ended
             self.old.client.now.link result self.new.client.now.link self.new.ended }
@@ -91,7 +91,7 @@ pub struct X509SvidStream<'a, L: Link, I = NoInterceptor> {
 }
 
 impl<'a, L: Link, I> X509SvidStream<'a, L, I> {
-    /// The next SVID: none at the end of the stream, and after it.
+    /// Returns the next SVID: none at the end of the stream, and after it.
     pub fn next_item(&mut self, alloc: Global) -> Option<Result<X509Svid, WorkloadApiError>>
         ensures streams { Streams L.Link Response.Context first_svid_of (λ s. s) self.old.ended
             self.old.client.now.link result self.new.client.now.link self.new.ended }
@@ -116,7 +116,7 @@ pub struct X509BundleStream<'a, L: Link, I = NoInterceptor> {
 }
 
 impl<'a, L: Link, I> X509BundleStream<'a, L, I> {
-    /// The next bundle set: none at the end of the stream, and after it.
+    /// Returns the next bundle set: none at the end of the stream, and after it.
     pub fn next_item(&mut self, alloc: Global) -> Option<Result<X509BundleSet, WorkloadApiError>>
         ensures streams { Streams L.Link Response.Bundles bundle_set_of (λ b. b) self.old.ended
             self.old.client.now.link result self.new.client.now.link self.new.ended }
@@ -136,7 +136,7 @@ impl<L: Link, I: Interceptor> WorkloadApiClient<L, I> {
     ghost use Rattle.spf_client.specs.Asking.{Begins};
     ghost use Rattle.spf_client.specs.Lending.{LendsClient, OpensStream};
 
-    /// Begins a stream of contexts, which is over the client until it is let go.
+    /// Begins a stream of contexts, which borrows the client until it is dropped.
     pub fn stream_x509_contexts(
         &mut self,
         alloc: Global,
@@ -160,8 +160,8 @@ impl<L: Link, I: Interceptor> WorkloadApiClient<L, I> {
         })
     }
 
-    /// Begins a stream of X.509-SVIDs, the first of each update, which is over the client until it
-    /// is let go.
+    /// Begins a stream of X.509-SVIDs, the first of each update, which borrows the client until it
+    /// is dropped.
     pub fn stream_x509_svids(
         &mut self,
         alloc: Global,
@@ -185,7 +185,7 @@ impl<L: Link, I: Interceptor> WorkloadApiClient<L, I> {
         })
     }
 
-    /// Begins a stream of bundle sets, which is over the client until it is let go.
+    /// Begins a stream of bundle sets, which borrows the client until it is dropped.
     pub fn stream_x509_bundles(
         &mut self,
         alloc: Global,

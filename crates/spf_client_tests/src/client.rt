@@ -1,4 +1,4 @@
-//! The client over links of memory.
+//! The client over in-memory links.
 
 use crate::link_doubles::{connector, link};
 use spf_api::WorkloadApiError;

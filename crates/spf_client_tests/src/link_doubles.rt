@@ -1,4 +1,4 @@
-//! Links and connectors of memory, whose answers are spelled by words.
+//! In-memory links and connectors, whose answers are given as words.
 
 use spf_api::{
     BundlesResponse, ClientFault, GrpcStatusCode, GrpcStatusError, LinkFault, Response,
@@ -28,7 +28,7 @@ fn bundles(alloc: Global, rows: &[(&str, &str)]) -> Result<Answer, Fail> {
     Ok(Answer::Item(Response::Bundles(BundlesResponse { bundles })))
 }
 
-/// The answer that the word spells.
+/// The answer that the word stands for.
 fn answer(alloc: Global, word: &str) -> Result<Answer, Fail> {
     match word {
         "started" => Ok(Answer::Started),
@@ -53,7 +53,7 @@ fn answer(alloc: Global, word: &str) -> Result<Answer, Fail> {
     }
 }
 
-/// A link with the answers that the words spell, one for each word.
+/// Returns a link with the answers that the words stand for, one for each word.
 pub fn link(alloc: Global, words: &[&str]) -> Result<MemLink, Fail> {
     let mut answers = Vec::new(alloc);
     for word in words {
@@ -62,8 +62,8 @@ pub fn link(alloc: Global, words: &[&str]) -> Result<MemLink, Fail> {
     Ok(MemLink::new(alloc, answers))
 }
 
-/// A connector that gives a link with these answers,
-/// then a denial and an endpoint that is not there.
+/// Returns a connector that gives a link with these answers, then a denial and an endpoint that
+/// cannot be reached.
 pub fn connector(alloc: Global, words: &[&str]) -> Result<MemConnector, Fail> {
     let mut links = Vec::new(alloc);
     links.push(Ok(link(alloc, words)?))?;

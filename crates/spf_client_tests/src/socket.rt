@@ -17,7 +17,7 @@ use std::test::Fail;
 use std::time::{Duration, Instant};
 use std::{fs, thread};
 
-/// How many seconds a wait that is ended may take, with room for a machine that is busy.
+/// How many seconds a wait that is ended may take, with some slack for a busy machine.
 const SOON: u64 = 1;
 
 /// Reads a request, and answers it with these octets.
@@ -38,8 +38,7 @@ fn wait_for_end<T: Read>(stream: &mut T) {
     }
 }
 
-/// Answers one request after another on one connection;
-/// then it is closed, or nothing is said any more.
+/// Answers one request after another on one connection; then it is closed, or nothing more is sent.
 fn serve<T: Read + Write>(stream: &mut T, answers: &[Vec<u8>], closes: bool) {
     for octets in answers {
         if answer(stream, octets.as_slice()).is_err() {
@@ -63,7 +62,7 @@ fn serve_unix(listener: &UnixListener, answers: &[Vec<u8>]) {
     }
 }
 
-/// Takes a request, sets the mark, and says nothing.
+/// Takes a request, sets the flag, and sends nothing.
 fn stop_instead(listener: &TcpListener, stop: &StopFlag) {
     if let Ok((mut stream, _)) = listener.accept() {
         let mut request = [0u8; 64];
@@ -93,7 +92,7 @@ fn is_internal<T>(answer: &Result<T, LinkFault>) -> bool {
     }
 }
 
-/// Whether nobody was reached, for a reason that names this.
+/// Whether the endpoint was unreachable, for a reason that names this.
 fn is_unreachable(connected: &Result<SocketLink, ClientFault>, named: &str) -> bool {
     match connected {
         Err(ClientFault::Unreachable(text)) => text.as_str().contains(named),
@@ -106,7 +105,7 @@ fn socket_link(rt: HostRuntime) -> Result<(), Fail> {
     let alloc = rt.alloc();
     let listener = TcpListener::bind(&rt, "127.0.0.1:0")?;
     let endpoint = endpoint_of(alloc, &listener)?;
-    // The second request is answered behind items of the first stream.
+    // The second request is answered after items of the first stream.
     let answers = vec![in alloc; octets(alloc, "CN I1 I1 I1")?, octets(alloc, "CN I1")?]?;
     let server = thread::spawn(&rt, move || serve_tcp(&listener, answers.as_slice()))?;
     let mut connector = EndpointConnector::new(&rt, alloc, endpoint.as_str())?;
@@ -172,7 +171,7 @@ fn wait_ends_by_its_mark(rt: HostRuntime) -> Result<(), Fail> {
 #[test]
 fn wait_ends_by_its_limit(rt: HostRuntime) -> Result<(), Fail> {
     let alloc = rt.alloc();
-    // The system takes the connection, and nobody answers.
+    // The system accepts the connection, and no one answers.
     let listener = TcpListener::bind(&rt, "127.0.0.1:0")?;
     let endpoint = endpoint_of(alloc, &listener)?;
     let stop = StopFlag::new(alloc)?;

@@ -37,7 +37,7 @@ static CALLS: [(&str, &str, &str); 27] = [
         "ssn",
         "started started item ",
     ),
-    // Kinds that may not stand.
+    // Kinds that are not allowed.
     ("I1", "n", "internal "),
     ("I1", "s", "internal "),
     ("CN CN", "sn", "started internal "),

@@ -1,4 +1,4 @@
-//! What waiters of a change wait on.
+//! The bell on which readers wait for a change.
 
 use spf_io::OutOfMemory;
 use std::alloc::Global;
@@ -6,19 +6,19 @@ use std::sync::atomic::{AtomicU64, Ordering};
 use std::sync::{Arc, Condvar, Mutex, Wait};
 use std::time::{Clock, Duration};
 
-/// How long a waiter sleeps at most before it looks at the count again.
+/// The longest time, in milliseconds, that a waiter sleeps before it looks at the count again.
 const NAP_MILLIS: u64 = 100;
 
 #[derive(Drop)]
 struct Rung {
     count: AtomicU64,
-    /// Held by waiters alone: whoever rings takes no lock.
+    /// Held by waiters alone: ringing takes no lock.
     sleeping: Mutex<()>,
     changed: Condvar,
 }
 
-/// Rung at each change, by whoever makes it. No clause says that a waiter wakes: a waiter that
-/// misses a ring looks at the count again soon. Clones share it.
+/// A bell that is rung at each change. No clause says that a waiter wakes: one that misses a ring
+/// soon looks at the count again. Clones share it.
 #[derive(Drop)]
 pub struct Bell {
     rung: Arc<Rung>,
@@ -36,18 +36,18 @@ impl Bell {
         })
     }
 
-    /// Counts one ring more and wakes all who wait. It never waits, so a drop may call it.
+    /// Counts one more ring and wakes all who wait. It never waits, so a drop may call it.
     pub fn ring(&self) {
         self.rung.count.fetch_add(1, Ordering::SeqCst);
         self.rung.changed.notify_all();
     }
 
-    /// The number of rings so far, which a waiter remembers before it looks for a change.
+    /// Returns the number of rings so far, which a waiter remembers before it looks for a change.
     pub fn now(&self) -> u64 {
         self.rung.count.load(Ordering::SeqCst)
     }
 
-    /// Returns once the number of rings is another than the one that was seen.
+    /// Returns once the number of rings differs from `seen`.
     pub fn wait_past<R: Wait + Clock>(&self, rt: &R, seen: u64) {
         for _ in rt.forever() {
             if self.now() != seen {
@@ -57,7 +57,7 @@ impl Bell {
         }
     }
 
-    /// Sleeps until a ring, for a short time at most.
+    /// Sleeps until a ring, but only for a short time.
     fn sleep<R: Wait + Clock>(&self, rt: &R, seen: u64) {
         let guard = self.rung.sleeping.lock(rt);
         if self.now() == seen {
@@ -66,7 +66,7 @@ impl Bell {
         }
     }
 
-    /// The same bell.
+    /// Returns another handle of the same bell.
     pub fn try_clone(&self) -> Result<Bell, OutOfMemory> {
         Ok(Bell {
             rung: Arc::try_clone(&self.rung)?,

@@ -1,4 +1,4 @@
-//! The cell, what closes it, and what only looks. No other module makes a mark.
+//! The cell, its closers, and its watches, which only look. No other module makes a mark.
 
 ghost use Rattle.std.specs.Prelude.{◌≡◌, ℕ, IfOk, IfSome};
 ghost use Rattle.std.specs.Arc.{arc_value};
@@ -17,7 +17,7 @@ struct ClosedMark {
     maker: Maker,
 }
 
-/// Only looks. Contracts see the cell's name.
+/// Looks at a cell, and cannot close it. Contracts see the cell's name.
 #[derive(Drop)]
 pub struct Watch {
     cell: Arc<OnceBox<ClosedMark>>,
@@ -70,7 +70,8 @@ impl Model for Closed {
     ghost invariant = { λ s. s.note.known ≡ Some (record { maker = s.maker }) };
 }
 
-/// An open cell: what closes it for callers, what closes it for the supervisor, and what looks.
+/// Makes an open cell, and returns its closer for callers, its closer for the supervisor, and a
+/// watch.
 pub fn closed_cell(alloc: Global) -> Result<(Closer, Closer, Watch), OutOfMemory>
     ensures makers { IfOk result
         (λ r. (r.0.maker ≡ Maker.Caller) × (r.1.maker ≡ Maker.Supervisor)) }
@@ -85,7 +86,7 @@ pub fn closed_cell(alloc: Global) -> Result<(Closer, Closer, Watch), OutOfMemory
     Ok((caller, supervisor, watch))
 }
 
-/// What closes the cell in the name of that maker.
+/// A closer of the cell in the name of that maker.
 fn closer_of(
     alloc: Global,
     cell: Arc<OnceBox<ClosedMark>>,
@@ -102,7 +103,7 @@ fn closer_of(
 }
 
 impl Closer {
-    /// Closes the cell, unless it is closed. It takes no memory.
+    /// Closes the cell, unless it is closed. It allocates nothing.
     pub fn close(&mut self)
         ensures { self.new ≡ self.old }
     {
@@ -111,7 +112,7 @@ impl Closer {
         }
     }
 
-    /// Another one, of the same cell and maker.
+    /// Returns another closer of the same cell and maker.
     pub fn another(&mut self, alloc: Global) -> Result<Closer, OutOfMemory>
         ensures unchanged { self.new ≡ self.old }
         ensures same { IfOk result (λ r. r ≡ self.old) }
@@ -119,7 +120,7 @@ impl Closer {
         closer_of(alloc, Arc::try_clone(&self.cell)?, self.maker)
     }
 
-    /// What looks at the cell.
+    /// Returns a watch of the cell.
     pub fn watch(&self) -> Result<Watch, OutOfMemory>
         ensures { IfOk result (λ r. r ≡ self.now.cell) }
     {
@@ -130,7 +131,7 @@ impl Closer {
 }
 
 impl Watch {
-    /// Who closed the cell, if anyone has.
+    /// Returns who closed the cell, if anyone has.
     pub fn look(&self) -> Option<Closed>
         ensures { IfSome result (λ r. r.cell ≡ self.now) }
     {
@@ -142,7 +143,7 @@ impl Watch {
         })
     }
 
-    /// Another one, of the same cell.
+    /// Returns another watch of the same cell.
     pub fn try_clone(&self) -> Result<Watch, OutOfMemory>
         ensures { IfOk result (λ r. r ≡ self.now) }
     {

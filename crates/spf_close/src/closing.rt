@@ -1,4 +1,4 @@
-//! What a handle closes its source by.
+//! How a handle closes its source.
 
 ghost use Rattle.std.specs.Prelude.{◌≡◌, IfOk};
 ghost use Rattle.spf_close.specs.declared.maker.Maker.TheVariants as makers;
@@ -31,7 +31,7 @@ impl Model for Closing {
 }
 
 impl Closing {
-    /// Of a caller's closer: what it stops waits with, and what it rings.
+    /// Makes a closing of a caller's closer, the flag that stops waits, and the bell to ring.
     pub fn new(closer: Closer, stop: StopFlag, bell: Bell) -> Closing
         requires { closer.maker ≡ makers.Caller }
         ensures { result ≡ closer.cell }
@@ -47,7 +47,7 @@ impl Closing {
         self.bell.ring();
     }
 
-    /// What it rings.
+    /// Returns the bell that it rings.
     pub fn bell(&self) -> Result<Bell, OutOfMemory> {
         self.bell.try_clone()
     }

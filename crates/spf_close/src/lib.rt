@@ -1,14 +1,12 @@
-//! A cell that is closed once, by a caller or by the supervisor. It takes the memory of a mark when
-//! a `Closer` is made, so closing takes none. A reader looks without a lock. Beside it stands the
-//! bell that is rung at each change of a source.
+//! A cell that is closed once, by a caller or by the supervisor. The memory of a mark is allocated
+//! when a `Closer` is made, so closing allocates none. A reader looks without a lock. Beside it
+//! stands the bell that is rung at each change of a source.
 #![tactic(auto)]
 
 mod bell;
 mod cell;
 mod closing;
 mod maker;
-#[cfg(test)]
-mod tests;
 
 pub use bell::Bell;
 pub use cell::{Closed, Closer, Watch, closed_cell};

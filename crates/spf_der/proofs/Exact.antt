@@ -112,7 +112,7 @@ listed_fails (suc n) (b ∷ bytes) e is =
 
 -- ---- certificates
 
--- what is answered, once the extensions are read
+-- what is returned, once the extensions are read
 abbrev read_of : List ℕ → ℤ × List ℕ × List ℕ → List ExtensionPart → Parts × ℕ
 read_of bytes k extensions =
     (record { expiry = k.0; extensions = extensions }, length bytes - length k.2)

@@ -71,7 +71,7 @@ uris_left-none (b ∷ bytes) some is =
     ap (λ (found : Option (Option (List ℕ) × List ℕ)).
     option_map_or (λ name. with_name name.0 (uris_before (length bytes) name.1)) found []) is
 
--- what is left of a test, where so many steps are enough
+-- what is left of a test, where that many steps are enough
 abbrev pub Tests : List ℕ → Bool → Type 0
 Tests rest answer = (n : ℕ) × (length rest ≤ n) × (is_some (uris_within n rest) ≡ answer)
 

@@ -1,4 +1,5 @@
--- A value is read in one way: what is read is spelled so, and what is spelled so is read.
+-- A value is read in one way: what is read is the spelling of a value, and the spelling of a value
+-- is read.
 use Rattle.std.proofs.Common.{◌≡◌, ℕ, suc, ◌+◌, ◌*◌, ◌/◌, ◌%◌, ◌^◌, ◌<◌, ◌≤◌, inl, inr, ⊎_elim}
 use Rattle.std.proofs.Common.{true, false, cond, List, [], ◌∷◌, ◌++◌, length, take, drop, Option}
 use Rattle.std.proofs.Common.{Some, None, nat_lt, nat_eq, refl, sym, ap, subst, ◌∙◌, append_assoc}

@@ -1,4 +1,4 @@
--- Which errors speak of memory alone, and how a kind is called.
+-- Which errors say that memory ran out, and the name of a kind.
 use Rattle.std.specs.Prelude.{List, ℕ, codes, Bool, true, false, Option, Some, None, Result, Ok}
 use Rattle.std.specs.Prelude.{Err}
 use Rattle.spf_der.specs.declared.error.CertReadError.{CertReadError}
@@ -11,7 +11,7 @@ abbrev pub is_memory : CertReadError → Bool
 is_memory OutOfMemory = true
 is_memory _ = false
 
--- what stands here, or no certificate
+-- the value that was read, or the error that there is no certificate
 abbrev pub here : {A : Type 0} → Option A → Result A CertReadError
 here None = Err (Parse InvalidCertificate)
 here (Some x) = Ok x

@@ -94,7 +94,7 @@ pub record NamedText (number : ℕ) (b : List ℕ) : Type 0 where
   pub value : Value b (context_primitive number) contents
       ⊎ Value b (context_constructed number) contents
 
--- which may be left out
+-- the same, which may be left out
 abbrev pub UniqueIdText : ℕ → List ℕ → Type 0
 UniqueIdText number b = (b ≡ []) ⊎ NamedText number b
 
@@ -127,7 +127,7 @@ pub record ListedText (b list : List ℕ) : Type 0 where
   pub value : Value b (context_constructed 3) inner
   pub list_is : Value inner SEQUENCE list
 
--- which may be left out, and then are none
+-- the same, which may be left out: then there are none
 abbrev pub ExtensionsText : List ℕ → List ℕ → Type 0
 ExtensionsText b list = ((b ≡ []) × (list ≡ [])) ⊎ ListedText b list
 
@@ -179,7 +179,7 @@ pub record CertText (b : List ℕ) (parts : Parts) : Type 0 where
   pub signed : SignedText b parts.expiry list
   pub extensions : ExtensionTexts list parts.extensions
 
--- the certificates of which the bytes are the concatenation
+-- the certificates whose concatenation the bytes are
 abbrev pub CertsOf : List ℕ → List (List ℕ) → Type 0
 CertsOf b [] = b ≡ []
 CertsOf b (text ∷ texts) =

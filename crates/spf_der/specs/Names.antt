@@ -39,7 +39,7 @@ abbrev pub with_name : Option (List ℕ) → List (List ℕ) → List (List ℕ)
 with_name None uris = uris
 with_name (Some uri) uris = uri ∷ uris
 
--- the URIs of the names, at most `n`, of which the bytes are the concatenation
+-- the URIs of the names, at most `n`, whose concatenation the bytes are
 abbrev pub uris_within : ℕ → List ℕ → Option (List (List ℕ))
 uris_within n [] = Some []
 uris_within zero (b ∷ bytes) = None
@@ -48,7 +48,7 @@ uris_within (suc n) (b ∷ bytes) = do
   uris ← uris_within n name.1
   Some (with_name name.0 uris)
 
--- the URIs of the names of which the bytes are the concatenation
+-- the URIs of the names whose concatenation the bytes are
 abbrev pub uris_of : List ℕ → Option (List (List ℕ))
 uris_of names = uris_within (length names) names
 

@@ -17,7 +17,7 @@ use Rattle.spf_der.specs.declared.error.X509ParseKind.TheVariants.{DuplicateExte
 abbrev pub part_at : List ℕ → Result (ExtensionPart × List ℕ) CertReadError
 part_at bytes = here (extension_at bytes)
 
--- the extensions of which the text is the concatenation
+-- the extensions whose concatenation the text is
 abbrev pub extensions_rule : List ℕ → Result (List ExtensionPart) CertReadError
 extensions_rule text = many part_at (Parse InvalidCertificate) (length text) text
 
@@ -56,6 +56,6 @@ unique_rule oid extensions = only_one (contents_with oid extensions)
 abbrev pub index_rule : List ℕ → List ExtensionPart → Result (Option ℕ) X509ParseKind
 index_rule oid extensions = only_one (indices_with oid 0 extensions)
 
--- memory plays no part
+-- no error says that memory ran out
 abbrev pub never : X509ParseKind → Bool
 never _ = false

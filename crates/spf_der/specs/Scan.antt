@@ -53,7 +53,7 @@ pub record HasFound (found : Extensions) (extensions : List ExtensionPart) : Typ
   pub basic_constraints : found_of found.basic_constraints
       ≡ unique_rule basic_constraints_identifier extensions
 
--- the extensions of which the text is the concatenation, and none where it is none of extensions
+-- the extensions whose concatenation the text is, and none where it is not one
 abbrev pub read_extensions : Result (List ExtensionPart) CertReadError → List ExtensionPart
 read_extensions (Ok extensions) = extensions
 read_extensions (Err e) = []

@@ -18,12 +18,12 @@ integer_at bytes = do
   v ← tagged_at INTEGER bytes
   if length v.0 == 0 then None else Some v
 
--- one octet, at max `max`
+-- one octet, at most `max`
 abbrev pub small_of : ℕ → List ℕ → Option ℕ
 small_of max (n ∷ []) = if nat_le n max then Some n else None
 small_of max _ = None
 
--- an INTEGER of one octet, at max `max`, and what follows it
+-- an INTEGER of one octet, at most `max`, and what follows it
 unfoldable pub small_integer_at : ℕ → List ℕ → Option (ℕ × List ℕ)
 small_integer_at max bytes = do
   v ← tagged_at INTEGER bytes
@@ -60,8 +60,8 @@ after_bit_string_at bytes = do
   v ← tagged_at BIT_STRING bytes
   if is_bit_string v.0 then Some v.1 else None
 
--- what follows an AlgorithmIdentifier (RFC 5280 section
--- 4.1.1.2): an identifier and at max one value of parameters
+-- what follows an AlgorithmIdentifier (RFC 5280 section 4.1.1.2): an identifier and at most one
+-- value of parameters
 unfoldable pub after_algorithm_at : List ℕ → Option (List ℕ)
 after_algorithm_at bytes = do
   whole ← tagged_at SEQUENCE bytes

@@ -142,7 +142,8 @@ fn tbs_certificate(bytes: &[u8]) -> Option<(i64, &[u8])>
     Some((expiry, text))
 }
 
-/// The expiry and the text of the extensions of the certificate at the start, and what follows it.
+/// Returns the expiry and the text of the extensions of the certificate at the start, and what
+/// follows it.
 #[inline(always)]
 #[tactic(auto, unfolding(crate::specs::Certificate::certificate_at))]
 pub fn certificate(der: &[u8]) -> Option<(i64, &[u8], &[u8])>
@@ -175,7 +176,7 @@ pub struct ExtensionPart {
     pub contents: Bytes,
 }
 
-/// The extension at the start, and what follows it (section 4.2).
+/// Returns the extension at the start, and what follows it (section 4.2).
 #[inline(always)]
 #[tactic(auto, unfolding(crate::specs::Certificate::extension_at))]
 pub fn extension<'a>(bytes: &'a [u8]) -> Option<(ExtensionView<'a>, &'a [u8])>
@@ -189,10 +190,10 @@ pub fn extension<'a>(bytes: &'a [u8]) -> Option<(ExtensionView<'a>, &'a [u8])>
     Some((ExtensionView { oid, contents }, rest))
 }
 
-/// The room that is taken at once for the extensions of a certificate.
+/// For how many extensions of a certificate room is allocated at once.
 const ROOM: usize = 8;
 
-/// The extensions of which the text is the concatenation.
+/// The extensions whose concatenation the text is.
 fn extensions<'a>(alloc: Global, text: &'a [u8]) -> Result<Vec<ExtensionView<'a>>, CertReadError>
     ensures { Gives is_memory (λ v. map plain v.items) result (extensions_rule text.now) }
 {
@@ -246,21 +247,21 @@ impl<'a> Model for CertView<'a> {
 }
 
 impl<'a> CertView<'a> {
-    /// The end of its validity, in Unix seconds.
+    /// Returns the end of its validity, in Unix seconds.
     pub fn expiry(&self) -> i64
         ensures { result ≡ self.now.expiry }
     {
         self.expiry
     }
 
-    /// Its extensions in order.
+    /// Returns its extensions in order.
     pub fn extensions(&self) -> &[ExtensionView<'a>]
         ensures { map plain result.now ≡ self.now.extensions }
     {
         self.extensions.as_slice()
     }
 
-    /// The contents of the extension with that identifier, if there is one.
+    /// Returns the contents of the extension with that identifier, if there is one.
     pub fn extension_unique(&self, oid: &[u8]) -> Result<Option<&'a [u8]>, X509ParseError>
         ensures { Gives never seen result (unique_rule oid.now self.now.extensions) }
     {
@@ -268,7 +269,7 @@ impl<'a> CertView<'a> {
     }
 }
 
-/// The certificate at the start of `der`, and its length.
+/// Returns the certificate at the start of `der`, and its length.
 #[tactic(auto, unfolding(crate::specs::Read::certificate_rule))]
 pub fn read_certificate_view<'a>(
     alloc: Global,
@@ -301,14 +302,14 @@ impl Model for CertParts {
 }
 
 impl CertParts {
-    /// The end of its validity, in Unix seconds.
+    /// Returns the end of its validity, in Unix seconds.
     pub fn expiry(&self) -> i64
         ensures { result ≡ self.now.expiry }
     {
         self.expiry
     }
 
-    /// Its extensions in order.
+    /// Returns its extensions in order.
     pub fn extensions(&self) -> &[ExtensionPart]
         ensures { result.now ≡ self.now.extensions }
     {
@@ -337,7 +338,7 @@ fn owned_all(alloc: Global, extensions: &[ExtensionView]) -> Result<Vec<Extensio
     Ok(copies)
 }
 
-/// The certificate at the start of `der`, and its length.
+/// Returns the certificate at the start of `der`, and its length.
 pub fn read_certificate(alloc: Global, der: &[u8]) -> Result<(CertParts, usize), CertReadError>
     ensures gives { Gives is_memory (λ x. (x.0, x.1)) result (certificate_rule der.now) }
     ensures size { IfOk result (λ x. (0 < x.1) × (x.1 ≤ length der.now)) }
@@ -348,7 +349,7 @@ pub fn read_certificate(alloc: Global, der: &[u8]) -> Result<(CertParts, usize),
     Ok((CertParts { expiry, extensions }, length))
 }
 
-/// The index of the extension with that identifier, if there is one.
+/// Returns the index of the extension with that identifier, if there is one.
 pub fn extension_unique(parts: &CertParts, oid: &[u8]) -> Result<Option<usize>, X509ParseError>
     ensures { Gives never (λ o. o) result (index_rule oid.now parts.now.extensions) }
 {

@@ -10,7 +10,7 @@ use thiserror::Error;
 /// What is wrong with a certificate.
 #[derive(Clone, Copy, Debug, PartialEq, Eq)]
 pub enum X509ParseKind {
-    /// The bytes are no certificate.
+    /// The bytes are not a certificate.
     InvalidCertificate,
     /// Two extensions have one identifier.
     DuplicateExtensions,
@@ -23,7 +23,7 @@ pub struct X509ParseError {
     kind: X509ParseKind,
 }
 
-/// The bytes are no private key in PKCS#8.
+/// The bytes are not a private key in PKCS#8.
 #[derive(Clone, Copy, Debug, PartialEq, Eq, Error)]
 #[error("invalid PKCS#8")]
 pub struct Pkcs8DecodeError;
@@ -31,7 +31,7 @@ pub struct Pkcs8DecodeError;
 /// Why no certificate was read.
 #[derive(Clone, Copy, Debug, PartialEq, Eq, Error)]
 pub enum CertReadError {
-    /// The bytes are no certificate.
+    /// The bytes are not a certificate.
     #[error("{0}")]
     Parse(X509ParseError),
     /// Memory ran out.
@@ -78,7 +78,7 @@ impl X509ParseError {
 }
 
 impl CertReadError {
-    /// The bytes are no certificate.
+    /// Returns the error that the bytes are not a certificate.
     #[inline]
     pub fn invalid() -> CertReadError
         ensures { result ≡ CertReadError.Parse X509ParseKind.InvalidCertificate }

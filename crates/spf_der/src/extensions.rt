@@ -28,7 +28,7 @@ pub struct KeyUsageBits {
     pub crl_sign: bool,
 }
 
-/// The bits of a key usage (section 4.2.1.3), or `None` where it is unreadable.
+/// Returns the bits of a key usage (section 4.2.1.3), or `None` where it is unreadable.
 #[tactic(auto, unfolding(crate::specs::Extensions::key_usage_of))]
 pub fn read_key_usage(contents: &[u8]) -> Option<KeyUsageBits>
     ensures { result ≡ key_usage_of contents.now }
@@ -48,7 +48,7 @@ pub fn read_key_usage(contents: &[u8]) -> Option<KeyUsageBits>
     })
 }
 
-/// The CA flag of basic constraints (section 4.2.1.9), or `None` where they are unreadable.
+/// Returns the CA flag of basic constraints (section 4.2.1.9), or `None` where they are unreadable.
 #[tactic(auto, unfolding(crate::specs::Extensions::basic_constraints_of))]
 pub fn read_basic_constraints(contents: &[u8]) -> Option<bool>
     ensures { result ≡ basic_constraints_of contents.now }
@@ -71,15 +71,15 @@ fn ascii(octets: &[u8]) -> Option<&str>
     ensures { seen result ≡ ascii_of octets.now }
 {
     if octets.is_ascii() {
-        // Octets below 128 are a text in UTF-8.
+        // Octets below 128 are UTF-8.
         Some(unsafe { str::from_utf8_unchecked(octets) })
     } else {
         None
     }
 }
 
-/// A name by its tag and contents octets: its URI if it
-/// is one, and `None` where it may not stand at all.
+/// A name by its tag and contents octets: its URI if it is one, and `None` where it is not allowed
+/// at all.
 #[inline]
 fn name_parts(tag: u8, contents: &[u8]) -> Option<Option<&str>>
     ensures { option_map seen result ≡ name_of tag contents.now }
@@ -156,7 +156,7 @@ impl<'a> Model for SanUris<'a> {
 }
 
 impl<'a> SanUris<'a> {
-    /// The next URI, whose octets are all below 128.
+    /// Returns the next URI, whose octets are all below 128.
     pub fn next_uri(&mut self) -> Option<&'a str>
         ensures { MatchOption result ((self.old ≡ []) × (self.new ≡ []))
             (λ uri. self.old ≡ uri.now ∷ self.new) }
@@ -167,8 +167,8 @@ impl<'a> SanUris<'a> {
     }
 }
 
-/// The URIs of a subject alternative name (section 4.2.1.6),
-/// or `None` where one of its names is unreadable.
+/// Returns the URIs of a subject alternative name (section 4.2.1.6), or `None` where one of its
+/// names is unreadable.
 #[tactic(auto, unfolding(crate::specs::Names::san_uris_of))]
 pub fn read_san_uri_views<'a>(contents: &'a [u8]) -> Option<SanUris<'a>>
     ensures { result ≡ san_uris_of contents.now }
@@ -193,8 +193,8 @@ fn copies(alloc: Global, mut uris: SanUris) -> Result<Vec<Text>, OutOfMemory>
     Ok(texts)
 }
 
-/// The URIs of a subject alternative name (section 4.2.1.6),
-/// or `None` where one of its names is unreadable.
+/// Returns the URIs of a subject alternative name (section 4.2.1.6), or `None` where one of its
+/// names is unreadable.
 pub fn read_san_uris(alloc: Global, contents: &[u8]) -> Result<Option<Vec<Text>>, OutOfMemory>
     ensures { IfOk result (λ o. option_map (λ v. v.items) o ≡ san_uris_of contents.now) }
 {

@@ -32,7 +32,7 @@ fn private_key_info(der: &[u8]) -> Option<bool>
     Some(fits_version(version, public_key, end))
 }
 
-/// Refuses exactly what is no key of the grammar.
+/// Refuses exactly what is not a key of the grammar.
 pub fn read_key(der: &[u8]) -> Result<(), Pkcs8DecodeError>
     ensures { is_ok result ≡ is_key der.now }
 {

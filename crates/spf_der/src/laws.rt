@@ -74,7 +74,7 @@ pub fn extension_is_text()
         → (san_uris_of bytes ≡ Some uris) ↔ NamesText bytes uris }
 {}
 
-/// What is written of a spec is read as that spec, the serial number apart.
+/// What is written of a spec is read as that spec, but for the serial number.
 pub fn written_certificate()
     ensures { (spec : CertSpec) (text : List ℕ) → IsCertificateOf spec text → IsBytes text
         → ReadsBack spec text }
@@ -85,8 +85,7 @@ pub fn written_key()
     ensures { (serial : ℕ) → is_key (key_text serial) ≡ true }
 {}
 
-/// What is read of bytes is the certificate at their
-/// start, and none stands there where they are refused.
+/// Bytes are read as the certificate at their start, and none stands there where they are refused.
 pub fn certificate_in_front<'a>(
     alloc: Global,
     der: &'a [u8],

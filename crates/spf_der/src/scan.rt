@@ -1,5 +1,5 @@
-//! What the rules of an SVID look up in a certificate, found
-//! in one walk over its extensions and without memory.
+//! What the rules of an SVID look up in a certificate, found in one walk over its extensions,
+//! without allocating.
 ghost use Rattle.std.specs.Prelude.{◌≡◌, ◌<◌, ◌≤◌, length, take, IfOk};
 ghost use Rattle.spf_io.specs.Rule.{Gives};
 ghost use Rattle.spf_der.specs.Error.{is_memory};
@@ -87,7 +87,7 @@ fn with_extension<'a>(found: Extensions<'a>, extension: ExtensionView<'a>) -> Ex
     }
 }
 
-/// What is found in the extensions of which the text is the concatenation.
+/// What is found in the extensions whose concatenation the text is.
 fn scan_extensions<'a>(text: &'a [u8]) -> Result<Extensions<'a>, CertReadError>
     ensures { IsScanned result (extensions_rule text.now) }
 {
@@ -128,21 +128,21 @@ impl<'a> Model for CertScan<'a> {
 }
 
 impl<'a> CertScan<'a> {
-    /// The end of its validity, in Unix seconds.
+    /// Returns the end of its validity, in Unix seconds.
     pub fn expiry(&self) -> i64
         ensures { result ≡ self.now.expiry }
     {
         self.expiry
     }
 
-    /// The contents of the key usage (section 4.2.1.3), if there is one.
+    /// Returns the contents of the key usage (section 4.2.1.3), if there is one.
     pub fn key_usage(&self) -> Result<Option<&'a [u8]>, X509ParseError>
         ensures { Gives never seen result (unique_rule key_usage_identifier self.now.extensions) }
     {
         unique(self.found.key_usage)
     }
 
-    /// The contents of the subject alternative name (section 4.2.1.6), if there is one.
+    /// Returns the contents of the subject alternative name (section 4.2.1.6), if there is one.
     pub fn subject_alt_name(&self) -> Result<Option<&'a [u8]>, X509ParseError>
         ensures { Gives never seen result
             (unique_rule subject_alt_name_identifier self.now.extensions) }
@@ -150,7 +150,7 @@ impl<'a> CertScan<'a> {
         unique(self.found.subject_alt_name)
     }
 
-    /// The contents of the basic constraints (section 4.2.1.9), if there are such.
+    /// Returns the contents of the basic constraints (section 4.2.1.9), if there are any.
     pub fn basic_constraints(&self) -> Result<Option<&'a [u8]>, X509ParseError>
         ensures { Gives never seen result
             (unique_rule basic_constraints_identifier self.now.extensions) }
@@ -159,7 +159,7 @@ impl<'a> CertScan<'a> {
     }
 }
 
-/// The certificate at the start of `der`, and its length. It takes no memory.
+/// Returns the certificate at the start of `der`, and its length. It allocates nothing.
 #[tactic(auto, unfolding(crate::specs::Read::certificate_rule))]
 pub fn scan_certificate<'a>(der: &'a [u8]) -> Result<(CertScan<'a>, usize), CertReadError>
     ensures gives { Gives is_memory (λ x. (x.0, x.1)) result (certificate_rule der.now) }

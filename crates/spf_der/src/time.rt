@@ -1,4 +1,4 @@
-//! Times (RFC 5280 section 4.1.2.5), which stand in UTC.
+//! Times (RFC 5280 section 4.1.2.5), which are in UTC.
 ghost use Rattle.std.specs.Prelude.{◌≡◌, ◌<◌, IfSome};
 ghost use Rattle.std.specs.Option.{option_map};
 ghost use Rattle.spf_der.specs.Time as spec;
@@ -17,7 +17,7 @@ pub struct DateTime {
 }
 
 impl DateTime {
-    /// The Unix second, by one call of the calendar.
+    /// Returns the Unix second, by one call of the calendar.
     #[inline(always)]
     pub fn unix_second(&self) -> i64
         ensures { result ≡ unix_second self.now }
@@ -53,7 +53,7 @@ fn date(year: u16, month: u8, day: u8) -> Option<Date>
     }
 }
 
-/// A date and a time of day, if there are such.
+/// A date and a time of day, if they are valid.
 #[inline(always)]
 #[tactic(auto, unfolding(crate::specs::Time::moment_of))]
 fn moment(year: u16, month: u8, day: u8, hour: u8, minute: u8, second: u8) -> Option<DateTime>
@@ -136,7 +136,7 @@ fn tagged_time(tag: u8, contents: &[u8]) -> Option<DateTime>
     }
 }
 
-/// The Time at the start of `bytes`, and what follows it.
+/// Returns the Time at the start of `bytes`, and what follows it.
 #[inline(always)]
 #[tactic(auto, unfolding(crate::specs::Time::time_at))]
 pub fn time(bytes: &[u8]) -> Option<(DateTime, &[u8])>

@@ -49,7 +49,7 @@ fn small(max: u8, contents: &[u8]) -> Option<u8>
     }
 }
 
-/// An INTEGER of one octet, at most `max`, and what follows it.
+/// Returns an INTEGER of one octet, at most `max`, and what follows it.
 #[inline(always)]
 #[tactic(auto, unfolding(crate::specs::Types::small_integer_at))]
 pub fn small_integer(max: u8, bytes: &[u8]) -> Option<(u8, &[u8])>
@@ -72,7 +72,7 @@ fn boolean(contents: &[u8]) -> Option<bool>
     }
 }
 
-/// An optional BOOLEAN whose default is false, and what follows it.
+/// Returns an optional BOOLEAN whose default is false, and what follows it.
 #[inline(always)]
 #[tactic(auto, unfolding(crate::specs::Types::default_false_at))]
 pub fn default_false(bytes: &[u8]) -> Option<(bool, &[u8])>
@@ -88,7 +88,7 @@ pub fn default_false(bytes: &[u8]) -> Option<(bool, &[u8])>
     }
 }
 
-/// Whether these are the contents octets of a BIT STRING (X.690 section 8.6).
+/// Returns whether these are the contents octets of a BIT STRING (X.690 section 8.6).
 #[inline(always)]
 pub fn is_bits(contents: &[u8]) -> bool
     ensures { result ≡ is_bit_string contents.now }
@@ -99,7 +99,7 @@ pub fn is_bits(contents: &[u8]) -> bool
     }
 }
 
-/// What follows a BIT STRING.
+/// Returns what follows a BIT STRING.
 #[inline(always)]
 #[tactic(auto, unfolding(crate::specs::Types::after_bit_string_at))]
 pub fn after_bit_string(bytes: &[u8]) -> Option<&[u8]>
@@ -109,7 +109,7 @@ pub fn after_bit_string(bytes: &[u8]) -> Option<&[u8]>
     if is_bits(contents) { Some(rest) } else { None }
 }
 
-/// What follows an AlgorithmIdentifier (RFC 5280 section 4.1.1.2).
+/// Returns what follows an AlgorithmIdentifier (RFC 5280 section 4.1.1.2).
 #[inline(always)]
 #[tactic(auto, unfolding(crate::specs::Types::after_algorithm_at))]
 pub fn after_algorithm(bytes: &[u8]) -> Option<&[u8]>

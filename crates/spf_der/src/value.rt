@@ -97,7 +97,7 @@ fn length_prefix(bytes: &[u8]) -> Option<(usize, &[u8])>
     Some((length, &rest[(*first - 128) as usize..]))
 }
 
-/// The contents of a value after its tag, and what follows them.
+/// Returns the contents of a value after its tag, and what follows them.
 #[inline(always)]
 #[tactic(auto, unfolding(crate::specs::Value::contents_at))]
 pub fn contents(bytes: &[u8]) -> Option<(&[u8], &[u8])>
@@ -112,7 +112,7 @@ pub fn contents(bytes: &[u8]) -> Option<(&[u8], &[u8])>
     Some((contents, rest))
 }
 
-/// The value at the start: its tag, its contents, and what follows it.
+/// Returns the value at the start: its tag, its contents, and what follows it.
 #[inline(always)]
 #[tactic(auto, unfolding(crate::specs::Value::value_at))]
 pub fn value(bytes: &[u8]) -> Option<(u8, &[u8], &[u8])>
@@ -127,7 +127,7 @@ pub fn value(bytes: &[u8]) -> Option<(u8, &[u8], &[u8])>
     Some((*tag, contents, rest))
 }
 
-/// The contents of the value of that tag at the start, and what follows it.
+/// Returns the contents of the value of that tag at the start, and what follows it.
 #[inline(always)]
 #[tactic(auto, unfolding(crate::specs::Value::tagged_at))]
 pub fn tagged(tag: u8, bytes: &[u8]) -> Option<(&[u8], &[u8])>
@@ -141,7 +141,7 @@ pub fn tagged(tag: u8, bytes: &[u8]) -> Option<(&[u8], &[u8])>
     contents(rest)
 }
 
-/// The contents of the value of that tag, where the bytes are exactly one.
+/// Returns the contents of the value of that tag, where the bytes are exactly one.
 #[inline(always)]
 #[tactic(auto, unfolding(crate::specs::Value::whole_at))]
 pub fn whole(tag: u8, bytes: &[u8]) -> Option<&[u8]>
@@ -155,7 +155,7 @@ pub fn whole(tag: u8, bytes: &[u8]) -> Option<&[u8]>
     }
 }
 
-/// The contents of the value of that tag, if one stands at the start, and what follows it.
+/// Returns the contents of the value of that tag, if one stands at the start, and what follows it.
 #[inline(always)]
 #[tactic(auto, unfolding(crate::specs::Value::optional_at))]
 pub fn optional(tag: u8, bytes: &[u8]) -> Option<(Option<&[u8]>, &[u8])>

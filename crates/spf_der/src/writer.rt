@@ -1,4 +1,4 @@
-//! Certificates and keys of fixed parts, as made sessions and tests need them.
+//! Certificates and keys of fixed parts, as generated sessions and tests need them.
 ghost use Rattle.std.specs.Prelude.{◌≡◌, ◌+◌, ◌/◌, ◌%◌, ◌++◌, flat_map, unsigned_abs, IfOk, OnOk};
 ghost use Rattle.spf_der.specs.Value.{length_octets, value_text};
 ghost use Rattle.spf_der.specs.Written.{IsCertificateOf, algorithm_text, constraints_part};
@@ -35,7 +35,7 @@ const ALGORITHM: [u8; 7] = [SEQUENCE, 5, OBJECT_IDENTIFIER, 3, 0x2b, 0x65, 0x70]
 /// The first second of 2050, from which on a time is a GeneralizedTime (RFC 5280 section 4.1.2.5).
 const YEAR_2050: u64 = 2_524_608_000;
 
-/// Appends the shortest length. A length of 2^32 and more has none.
+/// Appends a length in its shortest form. One of 2^32 or more counts as out of memory.
 #[tactic(auto, unfolding(crate::specs::Value::length_octets))]
 fn put_length(out: &mut Vec<u8>, length: usize) -> Result<(), OutOfMemory>
     ensures { OnOk result (out.new.items ≡ out.old.items ++ length_octets length) }
@@ -174,7 +174,7 @@ fn put_key_usage(
     }
 }
 
-/// Appends the extension of basic constraints, if there are such.
+/// Appends the extension of basic constraints, if there are any.
 fn put_basic_constraints(
     alloc: Global,
     out: &mut Vec<u8>,
@@ -226,7 +226,7 @@ fn put_version(out: &mut Vec<u8>, extensions: &[u8]) -> Result<(), OutOfMemory>
     }
 }
 
-/// Appends the extensions, where there are such.
+/// Appends the extensions, where there are any.
 fn put_extensions(alloc: Global, out: &mut Vec<u8>, extensions: &[u8]) -> Result<(), OutOfMemory>
     ensures { OnOk result (out.new.items ≡ out.old.items ++ extensions_part extensions.now) }
 {
@@ -345,8 +345,8 @@ fn generalized_octets(alloc: Global, date: &Date, second: u64) -> Result<Vec<u8>
     Ok(contents)
 }
 
-/// The Time of a Unix second from 1970 to 9999: a UTCTime
-/// for years up to 2049, a GeneralizedTime after.
+/// Returns the Time of a Unix second from 1970 to 9999: a UTCTime for years up to 2049, a
+/// GeneralizedTime after.
 pub fn write_time(alloc: Global, moment: i64) -> Result<Vec<u8>, OutOfMemory>
     ensures text { IsWritable moment → IfOk result (λ v. v.items ≡ expiry_text moment) }
     ensures means { IsWritable moment → IfOk result (λ v. IsTimeText moment v.items) }
@@ -379,8 +379,8 @@ fn tbs_certificate(alloc: Global, spec: &CertSpec, time: &[u8]) -> Result<Vec<u8
     Ok(tbs)
 }
 
-/// The certificate of the spec, whose expiry is in the
-/// years 1970 to 9999. Names, key and signature are empty.
+/// Returns the certificate of the spec, whose expiry is in the years 1970 to 9999. Names, key and
+/// signature are empty.
 pub fn write_certificate(alloc: Global, spec: &CertSpec) -> Result<Vec<u8>, OutOfMemory>
     ensures text { IsWritable spec.now.expiry
         → IfOk result (λ v. v.items ≡ certificate_text spec.now (expiry_text spec.now.expiry)) }
@@ -402,7 +402,7 @@ fn signed(alloc: Global, spec: &CertSpec, time: &[u8]) -> Result<Vec<u8>, OutOfM
     wrapped(alloc, SEQUENCE, inner.as_slice())
 }
 
-/// A key whose one octet is the serial number.
+/// Returns a key whose one octet is the serial number.
 #[tactic(auto, unfolding(crate::specs::Value::length_octets))]
 pub fn write_key(alloc: Global, serial: u8) -> Result<Vec<u8>, OutOfMemory>
     ensures { IfOk result (λ v. v.items ≡ key_text serial) }

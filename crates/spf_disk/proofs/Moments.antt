@@ -15,7 +15,7 @@ module _ {D : Type 0} (moment : D → ℕ) (left_since : D → ℕ → Image →
   started old P here =
       record { later = omega arith; each = here; before = λ t c le left. inl left }
 
-  -- one call more, after which a crash leaves what has P
+  -- one more call, after which a crash leaves what has P
   pub goes_on : (old mid new : D) (P may_leave : Image → Type 0)
       → LeavesOnly moment left_since old mid P
       → Elapses (moment mid) (moment new) (left_since mid) (left_since new) may_leave

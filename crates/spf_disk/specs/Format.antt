@@ -75,7 +75,7 @@ text_at bytes = do
   t ← field_at bytes
   if is_utf8 t.0 then Some (t.0, t.1) else None
 
--- a count, and so many members
+-- a count, and that many members
 abbrev pub list_at : {A : Type 0} → (List ℕ → Option (A × List ℕ)) → List ℕ
     → Option (List A × List ℕ)
 list_at one bytes = number_at bytes >>= λ n. counted one n.0 n.1
@@ -86,7 +86,7 @@ authorities_at bytes = do
   c ← list_at field_at n.1
   Some (record { name = n.0; certificates = c.0 }, c.1)
 
--- after it nothing follows
+-- the value, where nothing follows it
 abbrev pub ended : {A : Type 0} → A → List ℕ → Option A
 ended x [] = Some x
 ended x (b ∷ rest) = None

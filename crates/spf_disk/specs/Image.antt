@@ -20,13 +20,13 @@ SameOthers Gates old new = (new.first ≡ old.first) × (new.second ≡ old.seco
 SameOthers First old new = (new.gates ≡ old.gates) × (new.second ≡ old.second)
 SameOthers Second old new = (new.gates ≡ old.gates) × (new.first ≡ old.first)
 
--- One file changes so, and the others are as they were.
+-- One file changes by this step, and the others are as they were.
 pub record OnFile (file : HelperFile) (step : List ℕ → List ℕ → Type 0)
     (old new : Image) : Type 0 where
   pub change : step (bytes_of old file) (bytes_of new file)
   pub others : SameOthers file old new
 
--- the piece stands in place of what stood at `at`
+-- the piece replaces what was at `at`
 abbrev pub Written : ℕ → List ℕ → List ℕ → List ℕ → Type 0
 Written at piece old new = new ≡ take at old ++ (piece ++ drop (at + length piece) old)
 

@@ -33,6 +33,6 @@ pub record IsFilledTo (fill size : ℕ) (f : FileState) (bytes : List ℕ) : Typ
   pub fills : (i : ℕ) → i < size → (slice_get f.settled i ≢ Some true) ⊎ (length f.bytes ≤ i)
       → slice_get bytes i ≡ Some fill
 
--- the outcome that is as long as can be, with `fill` where a crash may leave anything
+-- the longest outcome, with `fill` where a crash may leave anything
 abbrev pub IsFilled : ℕ → FileState → List ℕ → Type 0
 IsFilled fill f bytes = IsFilledTo fill (longest f) f bytes

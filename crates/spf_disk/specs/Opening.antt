@@ -1,4 +1,4 @@
--- What opening the files tells.
+-- What opening the files finds.
 use Rattle.std.specs.Prelude.{◌≡◌, ℕ, Bool, Option, Result, Ok, Err}
 use Rattle.std.specs.Option.{option_map_or}
 use Rattle.spf_disk.specs.declared.generation.Entry.{Entry}

@@ -33,7 +33,7 @@ IsNewer Closed (Some e) = Unit {0}
 IsNewer (Holds f) (Some e) = number_of f < number_of e
 IsNewer _ _ = ⊥
 
--- The slot can be closed and opened again.
+-- The file of the gates reaches up to the gate of the slot, so that it can be written.
 abbrev pub HasRoom : Slot → Image → Type 0
 HasRoom s image = gate_number s ≤ length image.gates
 

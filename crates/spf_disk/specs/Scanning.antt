@@ -1,4 +1,4 @@
--- What reading the three files tells.
+-- What reading the three files finds.
 use Rattle.std.specs.Prelude.{◌≡◌, ◌≢◌, ℕ, ◌≤◌, Bool, true, false, Option, Result, Ok}
 use Rattle.std.specs.Prelude.{Err}
 use Rattle.std.specs.Prelude.{IsErrOf}
@@ -16,13 +16,13 @@ use Rattle.spf_disk.specs.Replacing.{IsPassed, HasRoom}
 use Rattle.spf_disk.specs.Slots.{other_slot}
 use Rattle.spf_disk.specs.Standing.{Standing, Closed, Broken, Holds, standing, latest}
 
--- the errors that the files do not fix
+-- the errors that do not follow from what the files hold
 abbrev pub is_free : OpenError → Bool
 is_free DiskFault = true
 is_free Damaged = false
 is_free OutOfMemory = true
 
--- the count never falls, and the disk is blamed only where it rose
+-- the count never falls, and a fault of the disk comes only where it rose
 pub record FaultHasCause {T : Type 0} (before now : ℕ) (result : Result T OpenError) : Type 0 where
   pub later : before ≤ now
   pub fault : IsErrOf result DiskFault → Rose before now
@@ -53,7 +53,7 @@ abbrev pub at_slot : Standing → Standing → Slot → Standing
 at_slot first second slot.First = first
 at_slot first second slot.Second = second
 
--- The latest entry stands in the other slot than the next one.
+-- The latest entry stands in the slot other than the next one.
 pub record IsChosen (first second : Standing) (s : Scanned) : Type 0 where
   pub other : at_slot first second (other_slot s.next) ≡ held_as s.entry
   pub passed : IsPassed (at_slot first second s.next) (at_slot first second (other_slot s.next))

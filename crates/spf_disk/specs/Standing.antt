@@ -35,8 +35,8 @@ abbrev pub number_of : Entry → ℕ
 number_of (Withdrawn number) = number
 number_of (Accepted g) = g.number
 
--- The entry of the open file with the greater number. Damaged where an open file holds no entry,
--- or both open files have one number.
+-- The entry of the open file with the greater number. Damaged where an open file holds no entry, or
+-- both open files have the same number.
 abbrev pub latest_of : Standing → Standing → Result (Option Entry) OpenError
 latest_of Broken other = Err Damaged
 latest_of Closed Closed = Ok None

@@ -1,4 +1,4 @@
--- A disk that stops: it passes so many calls, and fails each later one.
+-- A disk that stops: it lets a number of calls through, and fails each later one.
 use Rattle.std.specs.Prelude.{◌≡◌, ℕ, zero, suc, Bool, true, false, Option, Some, None, Result}
 use Rattle.std.specs.Prelude.{IsErr}
 

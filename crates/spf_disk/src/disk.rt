@@ -58,7 +58,7 @@ pub trait Disk {
         ensures cause { HasCause (failures self.old) (failures self.new) result }
         ensures stops { Stops (calls_left self.old) (calls_left self.new) result };
 
-    /// Writes over what is there, and past the end.
+    /// Writes the bytes from `at` on, over what is there and past the end.
     fn write_at(&mut self, file: HelperFile, at: u64, bytes: &[u8]) -> Result<(), DiskFailed>
         requires { at ≤ length (bytes_of (seen self.old) file) }
         ensures written { OnOk result
@@ -70,7 +70,7 @@ pub trait Disk {
         ensures cause { HasCause (failures self.old) (failures self.new) result }
         ensures stops { Stops (calls_left self.old) (calls_left self.new) result };
 
-    /// Keeps the first `count` octets.
+    /// Cuts the file down to its first `count` octets.
     fn cut(&mut self, file: HelperFile, count: u64) -> Result<(), DiskFailed>
         requires { count ≤ length (bytes_of (seen self.old) file) }
         ensures kept { OnOk result
@@ -81,7 +81,7 @@ pub trait Disk {
         ensures cause { HasCause (failures self.old) (failures self.new) result }
         ensures stops { Stops (calls_left self.old) (calls_left self.new) result };
 
-    /// After it a crash leaves of the file what a read gives.
+    /// Syncs the file: after it, a crash leaves of the file what a read gives.
     fn sync(&mut self, file: HelperFile) -> Result<(), DiskFailed>
         ensures durable { OnOk result (IsSynced file (seen self.old) (may_leave self.new)) }
         ensures seen { seen self.new ≡ seen self.old }

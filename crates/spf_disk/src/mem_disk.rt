@@ -82,8 +82,8 @@ impl MemFiles {
     }
 }
 
-/// A disk in memory. A call for which there is no memory fails. What it was before each change, of
-/// which its contract speaks, takes no memory.
+/// A disk in memory. A call that runs out of memory fails. What it was before each change, of which
+/// contracts speak, takes no memory.
 #[derive(Drop)]
 pub struct MemDisk {
     alloc: Global,
@@ -93,7 +93,7 @@ pub struct MemDisk {
     failed: u64,
 }
 
-/// Takes one call of those that are left.
+/// Takes one of the calls that are left.
 fn take_call(calls_left: &mut Option<u64>) -> bool
     ensures passed { result ≡ passes calls_left.old }
     ensures counted { calls_left.new ≡ one_less calls_left.old }
@@ -108,7 +108,7 @@ fn take_call(calls_left: &mut Option<u64>) -> bool
     }
 }
 
-/// Puts a file in the place of another. What the files were is kept.
+/// Replaces a file by another. What the files were is kept.
 fn change(
     files: &mut MemFiles,
     past: &mut Vec<Snapshot<MemFiles>>,
@@ -127,7 +127,7 @@ fn change(
 }
 
 impl MemDisk {
-    /// A disk with three empty files.
+    /// Returns a disk with three empty files.
     pub fn new(alloc: Global) -> MemDisk
         ensures empty { ⟦<MemDisk as Disk>⟧.seen result
             ≡ record { gates = []; first = []; second = [] } }
@@ -145,7 +145,7 @@ impl MemDisk {
         }
     }
 
-    /// A disk whose files hold these bytes, of which nothing is pending.
+    /// Returns a disk whose files hold these bytes, of which nothing is pending.
     pub fn holding(
         alloc: Global,
         gates: Vec<u8>,
@@ -171,7 +171,7 @@ impl MemDisk {
         })
     }
 
-    /// A disk with three empty files, which passes so many calls and then fails each.
+    /// Returns a disk with three empty files, which lets `after` calls through and then fails each.
     pub fn stopping(alloc: Global, after: u64) -> MemDisk
         ensures empty { ⟦<MemDisk as Disk>⟧.seen result
             ≡ record { gates = []; first = []; second = [] } }
@@ -277,8 +277,8 @@ impl MemFiles {
 }
 
 impl MemDisk {
-    /// The disk after a crash that left as many octets as it could, and `fill`
-    /// wherever it could leave any.
+    /// Returns the disk after a crash that left as many octets as it could, and `fill` wherever it
+    /// could leave any.
     pub fn crash(&self, fill: u8) -> Result<MemDisk, OutOfMemory>
         ensures left { IfOk result
             (λ d. ⟦<MemDisk as Disk>⟧.may_leave self.now (⟦<MemDisk as Disk>⟧.seen d)) }
@@ -298,7 +298,7 @@ impl MemDisk {
         })
     }
 
-    /// Takes one call of those that are left. One that is past them fails.
+    /// Takes one of the calls that are left, and fails where none is.
     fn begin(&mut self) -> Result<(), DiskFailed>
         ensures same { (self.new.files ≡ self.old.files) × (self.new.past ≡ self.old.past) }
         ensures passed { passes self.old.calls_left ≡ true → IsOk result }
@@ -312,7 +312,7 @@ impl MemDisk {
         Err(DiskFailed)
     }
 
-    /// A call for which there is no memory fails.
+    /// A call that runs out of memory fails.
     fn end(&mut self, done: Result<(), OutOfMemory>) -> Result<(), DiskFailed>
         ensures same { (self.new.files ≡ self.old.files) × (self.new.past ≡ self.old.past) }
         ensures left { self.new.calls_left ≡ self.old.calls_left }

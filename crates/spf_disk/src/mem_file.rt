@@ -25,7 +25,7 @@ impl Model for MemFile {
     ghost view = { λ f. record { bytes = f.bytes.items; settled = f.settled.items } };
 }
 
-/// The same positions, and as many as `size`, but none of the range.
+/// The same settled positions, of `size` in all, but for those of the range.
 fn unsettled(
     alloc: Global,
     settled: &[bool],

@@ -1,4 +1,4 @@
-//! Why what a disk holds is not read.
+//! Why the contents of a disk are not read.
 
 use crate::disk::DiskFailed;
 use spf_io::OutOfMemory;

@@ -149,7 +149,7 @@ fn read_kind(alloc: Global, number: u64, bytes: &[u8]) -> Result<Option<Entry>, 
     }
 }
 
-/// Returns the entry that the bytes are, and None where they are none.
+/// Returns the entry that the bytes are, and None where they are not one.
 #[tactic(auto, unfolding(crate::specs::Format::entry_at))]
 pub fn read_entry(alloc: Global, bytes: &[u8]) -> Result<Option<Entry>, OutOfMemory>
     ensures { IfOk result (λ o. o ≡ entry_at bytes.now) }

@@ -95,8 +95,8 @@ fn unlock<D: Disk>(disk: &mut D, slot: Slot) -> Result<(), DiskFailed>
     set_gate(disk, slot, 1)
 }
 
-/// Replaces the entry of the slot by a newer one. A crash at any moment leaves
-/// the latest entry from before, or the new one; after it ended well, the new one.
+/// Replaces the entry of the slot by a newer one. A crash at any moment leaves the latest entry
+/// from before, or the new one; after a success, the new one.
 pub fn replace_entry<D: Disk>(
     disk: &mut D,
     slot: Slot,

@@ -113,7 +113,7 @@ pub(crate) fn number_in(entry: &Entry) -> u64
     }
 }
 
-/// The later of two entries. Two of one number are a damage.
+/// The later of two entries. Two with the same number mean that the files are damaged.
 fn later(first: Entry, second: Entry) -> Result<Scanned, OpenError>
     ensures latest { latest_of (Holds first) (Holds second) ≡ entry_scanned result }
     ensures next { IfOk result (λ s. IsChosen (Holds first) (Holds second) s) }

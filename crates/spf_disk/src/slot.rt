@@ -31,7 +31,7 @@ impl Slot {
         }
     }
 
-    /// Where its gate stands.
+    /// Returns the offset of its gate in the file of the gates.
     pub fn gate(self) -> u64
         ensures { result ≡ gate_number self }
     {

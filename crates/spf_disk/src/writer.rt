@@ -103,7 +103,7 @@ fn put_entry(out: &mut Vec<u8>, entry: &Entry) -> Result<(), OutOfMemory>
     }
 }
 
-/// The bytes of an entry, which are read as that entry.
+/// Returns the bytes of an entry, which are read as that entry.
 pub fn write_entry(alloc: Global, entry: &Entry) -> Result<Vec<u8>, OutOfMemory>
     ensures text { IfOk result (λ v. v.items ≡ entry_text entry.now) }
     ensures again { IfOk result (λ v. entry_at v.items ≡ Some entry.now) }

@@ -37,7 +37,7 @@ rewritten text =
 abbrev pub no_url : EndpointParseError
 no_url = record {}
 
--- a text that is no URL
+-- a text that is not a URL
 abbrev pub parsed : Result Parts ParseError → Result Parts EndpointError
 parsed = broken_as (λ _. errors.Parse no_url)
 
@@ -48,7 +48,7 @@ check_common url =
     else (if is_some url.query then Err errors.HasQuery
     else (if is_some url.fragment then Err errors.HasFragment else Ok tt))
 
--- a Unix socket has no host, and a path that begins with `/` and goes on
+-- a Unix socket has no host, and a path that begins with `/` and is longer
 abbrev pub unix_rule : Parts → Result Endpoint EndpointError
 unix_rule url =
     if has_host url then Err errors.UnixAuthorityNotAllowed

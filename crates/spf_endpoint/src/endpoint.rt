@@ -32,7 +32,7 @@ pub enum Endpoint {
     Tcp { host: EndpointHost, port: u16 },
 }
 
-/// The text with the slashes of its scheme, where they are left out.
+/// The text, with the slashes of its scheme added where they are left out.
 fn rewritten(alloc: Global, text: &str) -> Result<String, OutOfMemory>
     ensures { IfOk result (λ s. string_bytes s ≡ spec.rewritten text.now) }
 {
@@ -137,9 +137,9 @@ fn by_scheme(alloc: Global, url: &Url) -> Result<Endpoint, EndpointError>
 }
 
 impl Endpoint {
-    /// The endpoint that a text names, as `unix:///run/agent.sock` or
-    /// `tcp://127.0.0.1:8081`, or the first broken rule, in the order of
-    /// `EndpointError`. The path of a socket keeps the escapes that a URL gives it.
+    /// Returns the endpoint that a text names, such as `unix:///run/agent.sock` or
+    /// `tcp://127.0.0.1:8081`, or the first broken rule, in the order of `EndpointError`. The path
+    /// of a socket keeps the escapes that a URL gives it.
     #[tactic(auto, unfolding(crate::specs::Endpoint::endpoint_rule))]
     pub fn parse(alloc: Global, input: &str) -> Result<Endpoint, EndpointError>
         ensures { Gives is_memory (λ e. e) result (endpoint_rule input.now) }
@@ -157,7 +157,7 @@ impl Endpoint {
         Endpoint::parse(alloc, input)
     }
 
-    /// A copy of the endpoint.
+    /// Returns a copy of the endpoint.
     pub fn try_clone(&self, alloc: Global) -> Result<Endpoint, OutOfMemory>
         ensures { IfOk result (λ e. e ≡ self.now) }
     {

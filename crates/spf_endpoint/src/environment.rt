@@ -7,7 +7,7 @@ use spf_api::WorkloadApiError;
 use spf_system::{EnvValue, Environment};
 use std::alloc::Global;
 
-/// The endpoint that `SPIFFE_ENDPOINT_SOCKET` names.
+/// Returns the endpoint that `SPIFFE_ENDPOINT_SOCKET` names.
 pub fn from_env<E: Environment>(
     alloc: Global,
     environment: &E,

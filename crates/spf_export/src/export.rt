@@ -126,7 +126,7 @@ fn put_authorities(out: &mut String, list: &AuthorityList) -> Result<(), ExportE
     Ok(())
 }
 
-/// Removes the key first.
+/// Removes the three files, the key first.
 fn remove_files(rt: &HostRuntime, out: &str) -> Result<(), ExportError> {
     remove_from(rt, out, KEY)?;
     remove_from(rt, out, CHAIN)?;

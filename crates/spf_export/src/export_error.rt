@@ -75,7 +75,7 @@ impl From<X509SvidError> for ExportError {
     fn from(error: X509SvidError) -> ExportError {
         match error {
             X509SvidError::OutOfMemory => ExportError::OutOfMemory,
-            // What the folder holds was no identity when it was written.
+            // What the folder holds was not an identity when it was written.
             _ => ExportError::Damaged,
         }
     }

@@ -15,7 +15,7 @@ fn temporary_path(rt: &HostRuntime, folder: &str, name: &str) -> Result<String, 
     Ok(format!(in rt.alloc(); "{folder}/.{name}.new")?)
 }
 
-/// Writes what is to replace a file beside it, and syncs it.
+/// Writes what is to replace a file next to it, and syncs it.
 pub(crate) fn prepare(
     rt: &HostRuntime,
     folder: &str,

@@ -6,7 +6,7 @@ use std::alloc::{AllocError, Global};
 /// How many bytes a line of 64 characters stands for.
 const BYTES_OF_A_LINE: usize = 48;
 
-/// Appends a block of the label.
+/// Appends a block with this label.
 pub(crate) fn put_block(out: &mut String, label: &str, der: &[u8]) -> Result<(), AllocError> {
     out.push_str("-----BEGIN ")?;
     out.push_str(label)?;
@@ -20,7 +20,7 @@ pub(crate) fn put_block(out: &mut String, label: &str, der: &[u8]) -> Result<(),
     out.push_str("-----\n")
 }
 
-/// The one block.
+/// A single block.
 pub(crate) fn block(alloc: Global, label: &str, der: &[u8]) -> Result<String, AllocError> {
     let mut out = String::new(alloc);
     put_block(&mut out, label, der)?;

@@ -66,7 +66,7 @@ event_at-map_item {I} {J} f item kind payload =
 
 -- ---- frames of a session
 
--- no frame of a kind that may stand is no frame of an event that may
+-- where no frame of an allowed kind begins, none of an allowed event does
 pub none_at : (rules : Rules) (past : List Event) (phase : Phase) (bytes : List ℕ)
     → ask_of context_in rules past ≡ phase → NoFrame phase bytes
     → NoFrameAt (stream rules) past bytes
@@ -74,7 +74,7 @@ none_at rules past phase bytes asks none e front rest frame same =
     none frame.kind frame.payload rest (subst (λ p. allows p frame.kind ≡ true) asks frame.allowed)
     frame.short (same ∙ ap (λ l. l ++ rest) frame.text)
 
--- why no frame was read is why no event was
+-- why no frame was read is also why no event was
 pub event_unread : (rules : Rules) (past : List Event) (phase : Phase) (allowed : Bool)
     (old new : Option (List ℕ)) (e : FrameError) → ask_of context_in rules past ≡ phase
     → IsUnread phase allowed old new e → IsEventUnread rules past allowed old new e
@@ -83,7 +83,7 @@ event_unread rules past phase allowed old new e asks h =
     (NoFrameAt (stream rules) past) allowed old new e (sym (ap allows asks))
     (λ ys none. none_at rules past phase ys asks none) h
 
--- a frame whose payload lays out nothing is no frame of an event
+-- a frame whose payload lays out nothing is not the frame of an event
 unlaid : (rules : Rules) (past : List Event) (kind : ℕ) (payload : List ℕ) → FitsFrame payload
     → event_at item_at kind payload ≡ None → (ys : List ℕ)
     → NoFrameAt (stream rules) past (raw_text kind payload ++ ys)
@@ -142,7 +142,7 @@ read_event rules past phase allowed old new kind payload slice received asks rea
       is = l.is;
     }
 
--- the frame of a kind that may stand is read whole
+-- the frame of an allowed kind is read whole
 front_whole : (rules : Rules) (past : List Event) (phase : Phase) (kind : ℕ) (payload ys : List ℕ)
     → ask_of context_in rules past ≡ phase → IsTrue (allows phase kind) → FitsFrame payload
     → frame_front ((stream rules).allows past) (raw_text kind payload ++ ys) ≡ raw_text kind payload

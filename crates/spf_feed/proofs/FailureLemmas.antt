@@ -1,11 +1,11 @@
--- An error that is no fault.
+-- An error that is not a fault.
 use Rattle.std.proofs.Common.{◌≡◌, ℕ, ◌≤◌, true, false, Result, Ok, Err, refl, subst}
 use Rattle.std.specs.Prelude.{IfErr}
 use Rattle.spf_feed.specs.declared.follow_error.FollowError.{FollowError}
 use Rattle.spf_feed.specs.declared.follow_error.FollowError.TheVariants as answers
 use Rattle.spf_feed.specs.Following.{is_failure, FailureCounts, FailuresHaveCauses}
 
--- an answer that is no fault is not this fault
+-- a result that is not a fault is not this fault
 not_this : (fault e : FollowError) (r : Result ℕ FollowError) → is_failure fault ≡ true
     → is_failure e ≡ false → r ≡ Err e → r ≡ Err fault → ⊥
 not_this fault e r is_one is_none p q =

@@ -14,7 +14,7 @@ encoded_more t [] b = refl
 encoded_more t (x ∷ xs) b =
     ap (λ l. slice_index t (x / 16) ∷ slice_index t (x % 16) ∷ l) (encoded_more t xs b)
 
--- after one octet more
+-- after one more octet
 pub two_more : (octets out : List ℕ) (i d e : ℕ) → i < length octets
     → length out ≡ 2 * length octets → take (2 * i) out ≡ encode_lower (take i octets)
     → d ≡ slice_index lower_digits (get_or octets i 0 / 16)

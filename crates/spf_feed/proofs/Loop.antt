@@ -118,7 +118,7 @@ exit_unread rules max_frames old cur new count kept moment phase line errors.Out
     followed_no_frame (stream rules) (outputs rules) max_frames old cur new at.past count h.1.0
     at.so_far same (ltb-true count max_frames h.0) h.1.1 h.1.2
 
--- ---- one event more
+-- ---- one more event
 
 pub next_of : (rules : Rules) (max_frames : ℕ) (old cur : Ports PlainStep MetricsRecord) (count : ℕ)
     (kept : Option (Kept Material Denial)) (moment : Option ℤ) (phase : Phase) (line : LineView)

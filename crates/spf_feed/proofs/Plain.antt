@@ -11,7 +11,7 @@ use Rattle.std.proofs.lemmas.List.Sums.{AllPass-from_list_all}
 use Rattle.hex.specs.Hex.{encode_lower, encode_with, lower_digits}
 use Rattle.spf_feed.specs.OneLine.{HasNoFeed, IsLine}
 
--- whether it is no line feed
+-- whether an octet is not a line feed
 abbrev pub is_plain : ℕ → Bool
 is_plain c = not (c == 10)
 
@@ -19,7 +19,7 @@ is_plain c = not (c == 10)
 abbrev pub Plain : List ℕ → Type 0
 Plain text = list_all is_plain text ≡ true
 
--- what passes a test that a line feed does not pass is none
+-- what passes a test that a line feed fails is not a line feed
 no_feed : (test : ℕ → Bool) → test 10 ≡ false → (c : ℕ) → test c ≡ true → is_plain c ≡ true
 no_feed test refused c passed = by (c == 10) refl
   where

@@ -181,7 +181,7 @@ context_plain r context h = parsed_plain r context (value_plain (parsed_of r) co
 
 -- ---- accepted material
 
--- material whose context is so
+-- material whose context has such names
 abbrev pub PlainMaterial : Material → Type 0
 PlainMaterial material = PlainContext material.context
 

@@ -183,7 +183,7 @@ waiting_line : shown_text Waiting 7 None ≡ codes " waiting\n"
 unfolding shown_text view_line
 waiting_line = refl
 
--- ---- what stands next
+-- ---- what comes next
 
 asks_client : asked_after [] ≡ phases.Client
 asks_client = refl

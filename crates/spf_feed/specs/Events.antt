@@ -1,4 +1,4 @@
--- Events, and the payloads that lay them out (see "Frames" in the README).
+-- Events, and the payloads that lay them out ("Frames" in docs/SESSIONS.md).
 use Rattle.std.specs.Prelude.{ℕ, ℤ, pos, ◌^◌, Bool, List, [], ◌∷◌, length, Option, None, Some, ◌==◌}
 use Rattle.std.specs.Prelude.{nat_lt, true, false, if◌then◌else◌}
 use Rattle.std.specs.Int.{w64, from_be_bytes}
@@ -44,7 +44,7 @@ event_at item_at kind payload =
     else (if kind == CLOSE then when_empty payload events.Close
     else None))))))))
 
--- the same event, of whose item a function is taken
+-- the same event, with a function applied to its item
 abbrev pub map_item : {I J : Type 0} → (I → J) → SessionEvent I → SessionEvent J
 map_item f events.ClientMade = events.ClientMade
 map_item f (events.ClientFailed e) = events.ClientFailed e

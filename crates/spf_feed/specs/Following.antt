@@ -1,4 +1,4 @@
--- How a session ends.
+-- Following a session: reading an event, taking its turn, its line, and how it ends.
 use Rattle.std.specs.Prelude.{◌≡◌, ℕ, ◌+◌, ℤ, ◌≤◌, ◌<◌, Bool, true, false, IsTrue, List, [], ◌∷◌}
 use Rattle.std.specs.Prelude.{length, Option, None, Some, Result, Ok, Err, IfErr, if◌then◌else◌}
 use Rattle.std.specs.Option.{option_to_list}
@@ -7,7 +7,7 @@ use Rattle.spf_io.specs.Outside.{Rose}
 use Rattle.spf_view.specs.Views.{Waiting}
 use Rattle.spf_view.specs.Standing.{Kept, is_change}
 use Rattle.spf_view.specs.Keeping.{kept_with_any}
-use Rattle.spf_view.specs.Sessions.{IsFrame, NoFrameAt, Grows, GrowsUpTo}
+use Rattle.spf_view.specs.Sessions.{IsFrame, NoFrameAt, Grows, GrowsUpTo, Ports, Followed}
 use Rattle.spf_feed.specs.declared.follow_error.FollowError.{FollowError}
 use Rattle.spf_feed.specs.declared.follow_error.FollowError.TheVariants as answers
 use Rattle.spf_frame.specs.declared.error.FrameError.{FrameError}
@@ -27,7 +27,7 @@ use Rattle.spf_feed.specs.Items.{Event, Received, Rules, context_in}
 use Rattle.spf_feed.specs.Numbered.{LineView, ShowsKept}
 use Rattle.spf_feed.specs.Shown.{shown_text}
 use Rattle.spf_feed.specs.Frames.{Unread}
-use Rattle.spf_feed.specs.Run.{stream}
+use Rattle.spf_feed.specs.Run.{stream, outputs, end_for}
 use Rattle.spf_feed.specs.Steps.{Material, PlainStep, Accept, Deny, same_material}
 use Rattle.spf_feed.specs.Turns.{listed}
 
@@ -182,9 +182,18 @@ abbrev pub IsLineOf : LineView → Option (Kept Material Denial) → Option ℤ 
 IsLineOf line None now = line.text ≡ shown_text Waiting 0 None
 IsLineOf line (Some kept) now = ShowsKept kept now line
 
--- a line is written anew where what is kept changed, or where the choice appears or expires
+-- the line stays where nothing is kept; otherwise the new line shows what is kept, where that
+-- changed or the old line showed it
 abbrev pub IsShownAfter : LineView → LineView → Option (Kept Material Denial) → Bool → Option ℤ
     → Type 0
 IsShownAfter old new None changed now = new ≡ old
 IsShownAfter old new (Some kept) changed now = (before : Option ℤ)
     → (changed ≡ false → ShowsKept kept before old) → ShowsKept kept now new
+
+-- ---- a whole session
+
+-- what is read, put, published, recorded and returned belongs to one list of events
+abbrev pub FollowedBy : Rules → ℕ → Ports PlainStep MetricsRecord → Ports PlainStep MetricsRecord
+    → Result ℕ FollowError → Type 0
+FollowedBy rules max_frames old new r =
+    Followed (stream rules) (outputs rules) max_frames old new (end_for r)

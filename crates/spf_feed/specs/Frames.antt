@@ -12,7 +12,7 @@ use Rattle.spf_frame.specs.declared.frame_kind.TheConstants.{STREAM_END, MOMENT,
 use Rattle.spf_feed.specs.declared.phase.Phase.{Phase}
 use Rattle.spf_feed.specs.declared.phase.Phase.TheVariants as phases
 
--- the kinds that may stand
+-- the allowed kinds
 abbrev pub allows : Phase → ℕ → Bool
 allows phases.Client kind =
     kind == CLIENT_MADE || kind == CLIENT_FAILED || kind == MOMENT || kind == CLOSE
@@ -21,7 +21,7 @@ allows phases.Connect kind =
 allows phases.Next kind =
     kind == ITEM || kind == ITEM_STATUS || kind == STREAM_END || kind == MOMENT || kind == CLOSE
 
--- no frame of a kind that may stand begins these bytes
+-- no frame of an allowed kind begins these bytes
 abbrev pub NoFrame : Phase → List ℕ → Type 0
 NoFrame phase = frames.NoFrame (allows phase)
 

@@ -46,11 +46,11 @@ IsReceived (Ok context) r = r ≡ Ok (Some context)
 IsReceived (Err api.OutOfMemory) r = IsErr r
 IsReceived (Err e) r = r ≡ Ok None
 
--- the same of a payload that lays out a response
+-- the context of the response that a payload lays out
 abbrev pub item_at : List ℕ → Option (Option Context)
 item_at payload = option_map context_in (context_at payload)
 
--- The rules of a session, but for its most frames.
+-- The rules of a session, but for its limit of frames.
 pub record Rules : Type 0 where
   pub limits : ResourceLimits
   pub deadline : Option ℤ
@@ -76,7 +76,7 @@ abbrev pub may_sync : Ready → Material → Option ℤ → Bool
 may_sync readiness.Usable material now = is_some (usable (chosen_of material) now)
 may_sync readiness.Any material now = true
 
--- the denial that an error of the Workload API is
+-- the denial that an error of the Workload API stands for
 abbrev pub denial_in : WorkloadApiError → Option Denial
 denial_in api.NoIdentityIssued = Some denial.NoIdentityIssued
 denial_in (api.PermissionDenied message) = Some (denial.PermissionDenied message)

@@ -1,4 +1,4 @@
--- What keeps the limits.
+-- Which contexts keep the limits.
 use Rattle.std.specs.Prelude.{ℕ, ◌-◌, ◌^◌, nat_lt, min, sum_by, List, [], ◌∷◌, length}
 use Rattle.std.specs.Prelude.{if◌then◌else◌, Option, None, Some, Result, Ok, Err}
 use Rattle.spf_io.specs.Rule.{◌>>=◌}
@@ -30,7 +30,7 @@ within_limit kind (Some limit) actual =
 abbrev pub octets_in : List (List ℕ) → ℕ
 octets_in fields = min (sum_by length fields) (2 ^ 64 - 1)
 
--- the certificates of each trust domain in order
+-- the limit of each bundle, in the order of the trust domains
 abbrev pub within_bundles : Option ℕ → List (List ℕ × Bundle) → Result (Unit {0}) LimitBroken
 within_bundles limit [] = Ok tt
 within_bundles limit (e ∷ es) =

@@ -7,7 +7,7 @@ use Rattle.spf_feed.specs.Material.{Material, chosen_of}
 use Rattle.spf_feed.specs.Pick.{usable}
 use Rattle.spf_feed.specs.Shown.{shown_text}
 
--- what stands after the number, and whether a choice is shown
+-- what follows the number, and whether a choice is shown
 pub record LineView : Type 0 where
   pub text : List ℕ
   pub shows_choice : Bool

@@ -38,7 +38,7 @@ usable (Some svid) (Some now) = if int_lt now svid.expiry then Some svid else No
 abbrev pub has_hint : List ℕ → Svid → Bool
 has_hint hint svid = option_map_or (λ own. bytes_eq own hint) svid.hint false
 
--- the first of that hint
+-- the index of the first SVID with that hint
 abbrev pub first_with_hint : List ℕ → List Svid → Option ℕ
 first_with_hint hint svids = position (has_hint hint) svids
 

@@ -1,4 +1,4 @@
--- X.509 sessions: what stands next, what ends a session, and what an event gives.
+-- X.509 sessions: what comes next, what ends a session, and what an event gives.
 use Rattle.std.specs.Prelude.{ℕ, ◌+◌, ℤ, int_le, Bool, ◌==◌, ◌&&◌, if◌then◌else◌, List, [], ◌∷◌}
 use Rattle.std.specs.Prelude.{◌++◌, length, decimal, Option, None, Some, is_some, Result, Ok, Err}
 use Rattle.std.specs.Option.{option_map, option_to_list}
@@ -42,8 +42,8 @@ use Rattle.spf_feed.specs.Limits.{within}
 use Rattle.spf_feed.specs.Steps.{Material, PlainStep, same_material}
 use Rattle.spf_feed.specs.Shown.{shown_text}
 
--- What stands next after an event: an item that parses, after
--- an accepted one, keeps the stream; a moment changes nothing.
+-- What comes next after an event: an item that parses, after an accepted one, keeps the stream; a
+-- moment changes nothing.
 abbrev pub asked_by : {I : Type 0} → (I → Option Context) → Phase → Bool → SessionEvent I → Phase
 asked_by read before synced events.ClientMade = phases.Connect
 asked_by read before synced events.Connected = phases.Next
@@ -52,7 +52,7 @@ asked_by read before synced (events.Item i) =
 asked_by read before synced (events.Moment m) = before
 asked_by read before synced _ = phases.Client
 
--- what stands next, by the last event that is not a moment
+-- what comes next, by the last event that is not a moment
 abbrev pub ask_of : {I : Type 0} → (I → Option Context) → Rules → List (SessionEvent I) → Phase
 ask_of read rules [] = phases.Client
 ask_of read rules (e ∷ past) =
@@ -108,7 +108,8 @@ stream rules = stream_by context_in context_at rules
 
 -- ---- records
 
--- an attempt ended before or after something was accepted, where there is one with an error
+-- the records of an attempt that ended, before or after something was accepted: its error, where
+-- there is one, and then the end itself
 abbrev pub ended : Bool → Option MetricsErrorKind → List MetricsRecord
 ended synced error =
     option_to_list (option_map records.Error error)
@@ -135,7 +136,7 @@ abbrev pub item_records : Bool → ResourceLimits → Option Context → List Me
 item_records synced limits None = ended synced (Some kinds.StreamError)
 item_records synced limits (Some context) = kept_out synced (within limits context)
 
--- that no identity is issued is no error of the connection
+-- that no identity is issued is not an error of the connection
 abbrev pub connect_error : WorkloadApiError → Option MetricsErrorKind
 connect_error api.NoIdentityIssued = None
 connect_error _ = Some kinds.StreamConnect
@@ -151,7 +152,7 @@ records_by read synced limits (events.ItemStatus s) = ended synced (Some kinds.S
 records_by read synced limits events.StreamEnd = ended synced (Some kinds.StreamEnded)
 records_by read synced limits _ = []
 
--- an accepted item is an update where something else was visible before it; the first one is none
+-- an accepted item is an update where something else was visible before it; the first one is not
 abbrev pub update_records : View Material Denial → Material → List MetricsRecord
 update_records Waiting material = []
 update_records view material =

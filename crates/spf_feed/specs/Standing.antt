@@ -10,7 +10,7 @@ abbrev pub view_in : Standing → View Material Denial
 view_in (standing.Permitted held) = shown_by held
 view_in (standing.Withdrawn reason) = Withdrawn (arc_value reason)
 
--- a permitted one keeps an Accept
+-- a permitted standing keeps an Accept
 abbrev pub IsKept : Standing → Type 0
 IsKept (standing.Permitted held) = IsTrue (is_accept held)
 IsKept (standing.Withdrawn reason) = Unit {0}

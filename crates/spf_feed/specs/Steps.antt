@@ -50,7 +50,7 @@ abbrev pub MayFollow : Option (List PlainStep) → PlainStep → Type 0
 MayFollow known (Accept material limits) = IsTrue (fits limits material)
 MayFollow known (Deny reason) = HasStep known
 
--- the same with whether the source is closed
+-- a revision and a view, with whether the source is closed
 pub record StateView : Type 0 where
   pub revision : ℕ
   pub closed : Bool

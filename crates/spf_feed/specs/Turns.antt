@@ -40,7 +40,7 @@ IsTurn refusal outcome list (turns.Denied reason records) =
 IsTurn refusal outcome list (turns.Passed records) =
     (refusal ≡ None) × (outcome ≡ Passed) × (listed records ≡ list)
 
--- how an answer of the Workload API ends a session in which nothing is accepted
+-- how an error of the Workload API ends a session in which nothing is accepted
 abbrev pub refusal_by_code : Option GrpcStatusCode → WorkloadApiError → Option Terminal
 refusal_by_code (Some code.InvalidArgument) answer = Some (terminal.Source answer)
 refusal_by_code (Some code.Unimplemented) answer = Some (terminal.UnsupportedRpc answer)

@@ -18,7 +18,8 @@ pub enum FollowError {
     /// A byte came after the last frame that is allowed.
     #[error("the session has too many frames")]
     SessionTooLong,
-    /// The frame of this number, from 1, may not stand there or has no layout.
+    /// The frame of this number, counted from 1, is of a kind that is not allowed there, is too
+    /// long, has a payload without a layout, or is cut off by the end of the input.
     #[error("frame {frame} is bad")]
     BadFrame { frame: u64 },
     /// The Workload API rejected the request before an item was accepted.

@@ -16,7 +16,7 @@ ghost use Rattle.spf_feed.specs.Received.{received_moment, received_close};
 ghost use Rattle.spf_feed.specs.Run.{ask_of, stream, outputs, end_for};
 ghost use Rattle.spf_feed.specs.Following.{is_failure, FailuresHaveCauses, OnlyAllowed, EventRead};
 ghost use Rattle.spf_feed.specs.Following.{HandsOn, IsShownAfter, IsTaken, change_of, is_changed};
-ghost use Rattle.spf_feed.specs.Following.{update_of, TurnTaken};
+ghost use Rattle.spf_feed.specs.Following.{update_of, TurnTaken, FollowedBy};
 ghost use Rattle.spf_feed.specs.Following as spec;
 
 use crate::follow_error::FollowError;
@@ -29,6 +29,7 @@ use crate::picker::SvidPicker;
 use crate::prepared::Prepared;
 use crate::ready::Ready;
 use crate::record::{MetricsRecord, MetricsRecorder};
+use crate::sharing::{NoSharing, Sharing};
 use crate::snapshot::Snapshot;
 use crate::step::{Publisher, Step};
 use crate::turn::{Records, SessionRules, Turn, turn_of};
@@ -46,9 +47,20 @@ fn held_context(snapshot: &Option<Snapshot>) -> Option<&X509Context> {
     }
 }
 
-/// The next event. Its payload is read into the buffer, and
-/// what it has of the bytes of the held context is shared.
-fn next_event<S: Source>(
+/// The context beside the source, and else the held one.
+fn shared_context<'a, S, W: Sharing<S>>(
+    source: &'a S,
+    held: Option<&'a X509Context>,
+) -> Option<&'a X509Context> {
+    match W::context(source) {
+        Some(context) => Some(context),
+        None => held,
+    }
+}
+
+/// The next event. Its payload is read into the buffer, and what it has of the
+/// bytes of the context beside the source, or else of the held one, is shared.
+fn next_event<S: Source, W: Sharing<S>>(
     alloc: Global,
     source: &mut S,
     payload: &mut Vec<u8>,
@@ -65,7 +77,8 @@ fn next_event<S: Source>(
         Some(kind) => kind,
         None => return Ok(None),
     };
-    match event_in(alloc, kind, payload.as_slice(), held) {
+    let shared = shared_context::<S, W>(source, held);
+    match event_in(alloc, kind, payload.as_slice(), shared) {
         Ok(Some(event)) => Ok(Some(event)),
         Ok(None) => Err(FrameError::BadFrame),
         Err(_) => Err(FrameError::OutOfMemory),
@@ -91,7 +104,7 @@ fn is_close(event: &Received) -> bool
     matches!(event, Received::Close)
 }
 
-/// The last moment after an event.
+/// Returns the last moment after an event.
 pub fn moment_after(now: Option<i64>, event: &Received) -> Option<i64>
     ensures { result ≡ option_or (received_moment event.now) now }
 {
@@ -131,7 +144,7 @@ pub enum Change {
     Unchanged,
 }
 
-/// One more step, which opens the snapshot where there is none before it.
+/// Applies one more step, which opens the snapshot where there is none yet.
 fn take_step(snapshot: &mut Option<Snapshot>, step: Prepared) -> Change
     requires { snapshot.old ≡ None → IsTrue (is_accept step) }
     ensures change { result ≡ change_of snapshot.old step }
@@ -164,8 +177,8 @@ fn is_held(snapshot: &Option<Snapshot>, step: &Step) -> bool
     }
 }
 
-/// Publishes a step that is prepared before, and then takes it into the snapshot. A step that
-/// accepts what is held needs no preparation.
+/// Prepares a step, publishes it, and then applies it to the snapshot. A step that accepts what is
+/// held needs no preparation.
 pub fn publish<P: Publisher>(
     alloc: Global,
     publisher: &mut P,
@@ -194,7 +207,7 @@ pub fn publish<P: Publisher>(
     Ok(take_step(snapshot, prepared))
 }
 
-/// An update is recorded where something else than before is visible.
+/// Records an update where something else is visible than before.
 fn record_change<M: MetricsRecorder>(recorder: &mut M, change: Change) -> Result<(), OutOfMemory>
     ensures { HandsOn (M.records recorder.old) (M.records recorder.new) result (update_of change) }
 {
@@ -204,7 +217,7 @@ fn record_change<M: MetricsRecorder>(recorder: &mut M, change: Change) -> Result
     }
 }
 
-/// Whether something else than before is visible.
+/// Whether something else is visible than before.
 fn is_change(change: Change) -> bool
     ensures { result ≡ is_changed change }
 {
@@ -271,7 +284,7 @@ fn deny<P: Publisher, M: MetricsRecorder>(
     Ok(is_change(change))
 }
 
-/// Does what an event does, and says whether the snapshot changed.
+/// Does what an event does, and returns whether the snapshot changed.
 #[inline(always)]
 fn take<P: Publisher, M: MetricsRecorder>(
     alloc: Global,
@@ -347,6 +360,84 @@ fn show(
     }
 }
 
+/// Follows an update stream as [`follow_x509`] does. What an item has of the bytes of
+/// the context beside the source, or else of the held one, is shared and not read again.
+pub fn follow_x509_sharing<
+    S: Source,
+    K: Sink,
+    P: Publisher,
+    M: MetricsRecorder,
+    C: SvidPicker,
+    W: Sharing<S>,
+>(
+    alloc: Global,
+    source: &mut S,
+    sink: &mut K,
+    publisher: &mut P,
+    recorder: &mut M,
+    limits: ResourceLimits,
+    deadline: Option<i64>,
+    max_frames: u64,
+    picker: Option<&C>,
+    ready: Ready,
+) -> Result<u64, FollowError>
+    requires { ForSome picker (λ p. C.can_pick p.now) }
+    ensures followed { FollowedBy
+        (rules_with limits deadline ready (option_map (λ p. C.picks p.now) picker.entry)) max_frames
+        (record {
+          left = S.left source.old;
+          held = K.held sink.old;
+          steps = P.steps publisher.old;
+          records = M.records recorder.old;
+        })
+        (record {
+          left = S.left source.new;
+          held = K.held sink.new;
+          steps = P.steps publisher.new;
+          records = M.records recorder.new;
+        }) result }
+    ensures cause { FailuresHaveCauses
+        (record { reads = S.failures source.old; writes = K.failures sink.old })
+        (record { reads = S.failures source.new; writes = K.failures sink.new }) result }
+{
+    let rules = SessionRules {
+        limits,
+        deadline,
+        ready,
+    };
+    let mut payload = Vec::new(alloc);
+    let mut line = NumberedLine::new(alloc)?;
+    let mut snapshot = None;
+    let mut phase = Phase::Client;
+    let mut now = None;
+    let mut count = 0;
+    'events: loop {
+        let allowed = count < max_frames;
+        let held = held_context(&snapshot);
+        let event = match next_event::<S, W>(alloc, source, &mut payload, phase, allowed, held) {
+            Ok(Some(event)) => event,
+            Ok(None) => return at_end(&snapshot, count),
+            Err(e) => return Err(error_at(count, e)),
+        };
+        count += 1;
+        let is_close = is_close(&event);
+        let synced = snapshot.is_some();
+        phase = phase_after(phase, synced, &event);
+        let moment = moment_after(now, &event);
+        let turn = turn_of(rules, picker, synced, now, event);
+        now = moment;
+        let is_changed = take(alloc, publisher, recorder, &mut snapshot, limits, turn)?;
+        show(&mut line, &snapshot, is_changed, now)?;
+        match line.put(sink, count) {
+            Ok(()) => {}
+            Err(_) => return Err(FollowError::WriteFault),
+        }
+        if is_close {
+            return Ok(count);
+        }
+    }
+}
+
 /// Follows an update stream of at most `max_frames` frames to its end or its close. Each event is
 /// read, published, recorded and shown by a line, in that order. It returns the number of events.
 pub fn follow_x509<S: Source, K: Sink, P: Publisher, M: MetricsRecorder, C: SvidPicker>(
@@ -387,40 +478,7 @@ pub fn follow_x509<S: Source, K: Sink, P: Publisher, M: MetricsRecorder, C: Svid
         (record { reads = S.failures source.old; writes = K.failures sink.old })
         (record { reads = S.failures source.new; writes = K.failures sink.new }) result }
 {
-    let rules = SessionRules {
-        limits,
-        deadline,
-        ready,
-    };
-    let mut payload = Vec::new(alloc);
-    let mut line = NumberedLine::new(alloc)?;
-    let mut snapshot = None;
-    let mut phase = Phase::Client;
-    let mut now = None;
-    let mut count = 0;
-    'events: loop {
-        let allowed = count < max_frames;
-        let held = held_context(&snapshot);
-        let event = match next_event(alloc, source, &mut payload, phase, allowed, held) {
-            Ok(Some(event)) => event,
-            Ok(None) => return at_end(&snapshot, count),
-            Err(e) => return Err(error_at(count, e)),
-        };
-        count += 1;
-        let is_close = is_close(&event);
-        let synced = snapshot.is_some();
-        phase = phase_after(phase, synced, &event);
-        let moment = moment_after(now, &event);
-        let turn = turn_of(rules, picker, synced, now, event);
-        now = moment;
-        let is_changed = take(alloc, publisher, recorder, &mut snapshot, limits, turn)?;
-        show(&mut line, &snapshot, is_changed, now)?;
-        match line.put(sink, count) {
-            Ok(()) => {}
-            Err(_) => return Err(FollowError::WriteFault),
-        }
-        if is_close {
-            return Ok(count);
-        }
-    }
+    follow_x509_sharing::<S, K, P, M, C, NoSharing>(
+        alloc, source, sink, publisher, recorder, limits, deadline, max_frames, picker, ready,
+    )
 }

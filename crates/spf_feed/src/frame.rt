@@ -19,7 +19,7 @@ impl Kinds for Phase {
     }
 }
 
-/// The kind of the next frame, whose payload then stands in the buffer. None at the end of input.
+/// The kind of the next frame, whose payload is then in the buffer. None at the end of input.
 pub(crate) fn next_frame<S: Source>(
     source: &mut S,
     payload: &mut Vec<u8>,
@@ -33,7 +33,7 @@ pub(crate) fn next_frame<S: Source>(
     spf_frame::next_frame(source, payload, &phase, allowed)
 }
 
-/// The next frame, of a kind that the phase allows. None at the end of input.
+/// Returns the next frame, of a kind that the phase allows. None at the end of input.
 pub fn read_frame<S: Source>(
     alloc: Global,
     source: &mut S,

@@ -17,7 +17,7 @@ fn digit(number: u8) -> u8
     }
 }
 
-/// Two digits for each octet. The compiler makes one step of several octets of it.
+/// Two digits for each octet. The compiler turns it into steps of several octets.
 fn write_hex(octets: &[u8], out: &mut [u8])
     requires { length out.old ≡ 2 * length octets.now }
     ensures { out.new ≡ encode_lower octets.now }

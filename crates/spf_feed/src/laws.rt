@@ -1,5 +1,5 @@
-//! Laws of what is the same, of lines and of texts, which contracts
-//! cite. No law has a body: its statement is what it says.
+//! Laws of what is the same, of lines and of texts, which contracts cite. No law has a body: its
+//! contract is its statement.
 
 ghost use Rattle.std.specs.Prelude.{◌↔◌, ◌≡◌, ℕ, ℤ, Bool, true, false, nat_eq, List, Option, None};
 ghost use Rattle.std.specs.Prelude.{Some};

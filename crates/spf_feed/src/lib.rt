@@ -16,6 +16,7 @@ mod picker;
 mod prepared;
 mod ready;
 mod record;
+mod sharing;
 mod snapshot;
 mod sorted;
 mod standing;
@@ -25,7 +26,7 @@ mod turn;
 
 pub use event::{Event, SessionEvent};
 pub use follow_error::FollowError;
-pub use following::{Change, follow_x509, moment_after, publish, record_all};
+pub use following::{Change, follow_x509, follow_x509_sharing, moment_after, publish, record_all};
 pub use frame::read_frame;
 pub use limits::{LimitBroken, LimitKind, ResourceLimits, validate_limits};
 pub use line::state_line;
@@ -35,6 +36,7 @@ pub use picker::{FnPicker, HintPicker, NoPicker, PickFunction, SvidPicker, selec
 pub use prepared::Prepared;
 pub use ready::Ready;
 pub use record::{MemRecorder, MetricsErrorKind, MetricsRecord, MetricsRecorder, NoRecorder};
+pub use sharing::{NoSharing, Sharing};
 pub use snapshot::Snapshot;
 pub use spf_frame::{FrameError, RawFrame, frame_kind};
 pub use state::{X509SourceError, X509SourceState};

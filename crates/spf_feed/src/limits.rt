@@ -9,14 +9,14 @@ use spf_io::Bytes;
 use spf_x509::{Certificate, X509BundleSet, X509Context};
 use std::fmt;
 
-/// The most that a context may hold. None is no limit.
+/// The limits of what a context may hold. `None` means no limit.
 #[derive(Clone, Copy, Debug, PartialEq, Eq)]
 pub struct ResourceLimits {
     pub max_svids: Option<usize>,
     pub max_bundles: Option<usize>,
-    /// The most octets of the authorities of one trust domain.
+    /// How many octets the authorities of one trust domain may have.
     pub max_bundle_der_bytes: Option<usize>,
-    /// The most octets of all revocation lists.
+    /// How many octets all revocation lists may have.
     pub max_crl_bytes: Option<usize>,
 }
 
@@ -111,7 +111,7 @@ pub struct LimitBroken {
     pub actual: usize,
 }
 
-/// The limit is broken only above its number.
+/// Checks a limit, which is passed only above its number.
 fn within(kind: LimitKind, limit: Option<usize>, actual: usize) -> Result<(), LimitBroken>
     ensures { result ≡ within_limit kind limit actual }
 {
@@ -147,7 +147,7 @@ fn certificate_octets(certificates: &[Certificate]) -> usize
     total
 }
 
-/// The octets of each bundle, in the order of the trust domains.
+/// Checks the octets of each bundle, in the order of the trust domains.
 fn within_bundles(set: &X509BundleSet, limit: Option<usize>) -> Result<(), LimitBroken>
     ensures { result ≡ spec.within_bundles limit set.now }
 {
@@ -158,8 +158,8 @@ fn within_bundles(set: &X509BundleSet, limit: Option<usize>) -> Result<(), Limit
     Ok(())
 }
 
-/// The first limit that is passed: SVIDs, bundles, octets per bundle in the order of the trust
-/// domains, then the octets of the revocation lists.
+/// Checks the limits, and returns the first that is passed: SVIDs, bundles, octets per bundle in
+/// the order of the trust domains, then the octets of the revocation lists.
 #[tactic(auto, unfolding(crate::specs::Limits::within))]
 pub fn validate_limits(ctx: &X509Context, limits: ResourceLimits) -> Result<(), LimitBroken>
     ensures { result ≡ spec.within limits ctx.now }

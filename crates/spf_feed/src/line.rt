@@ -37,10 +37,10 @@ use std::alloc::Global;
 use std::marker::Model;
 use std::sync::Arc;
 
-/// The octets that are kept free before a line for its number, the most that a `u64` takes.
+/// How many octets are kept free before a line for its number: as many as a `u64` can take.
 const NUMBER_ROOM: usize = 20;
 
-/// What is shown as its octets.
+/// A value that is shown by its octets.
 trait Octets {
     ghost shown: { Self → List ℕ };
 
@@ -64,7 +64,7 @@ impl Octets for Bytes {
     }
 }
 
-/// Each with a comma before it.
+/// Appends each item with a comma before it.
 fn push_others<T: Octets>(line: &mut Vec<u8>, items: &[T]) -> Result<(), OutOfMemory>
     ensures text { OnOk result
         (line.new.items ≡ line.old.items ++ flat_map (λ x. after_comma (T.shown x)) items.now) }
@@ -77,7 +77,7 @@ fn push_others<T: Octets>(line: &mut Vec<u8>, items: &[T]) -> Result<(), OutOfMe
     Ok(())
 }
 
-/// Each in order, with commas between them.
+/// Appends the items in order, with commas between them.
 fn push_list<T: Octets>(line: &mut Vec<u8>, items: &[T]) -> Result<(), OutOfMemory>
     ensures text { OnOk result (line.new.items ≡ line.old.items ++ hex_list T.shown items.now) }
     ensures grows { vec_len line.old ≤ vec_len line.new }
@@ -101,7 +101,7 @@ fn push_at<T: Octets>(line: &mut Vec<u8>, items: &[T], index: usize) -> Result<(
     }
 }
 
-/// Those at the indices, each with a comma before it.
+/// Appends the items at the indices, each with a comma before it.
 fn push_other_indices<T: Octets>(
     line: &mut Vec<u8>,
     items: &[T],
@@ -120,7 +120,7 @@ fn push_other_indices<T: Octets>(
     Ok(())
 }
 
-/// Those at the indices in order, with commas between them.
+/// Appends the items at the indices in order, with commas between them.
 fn push_indices<T: Octets>(
     line: &mut Vec<u8>,
     items: &[T],
@@ -138,7 +138,7 @@ fn push_indices<T: Octets>(
     Ok(())
 }
 
-/// A trust domain, and its authorities at the indices.
+/// Appends a trust domain, and its authorities at the indices.
 fn push_bundle(
     line: &mut Vec<u8>,
     domain: &TrustDomain,
@@ -158,7 +158,7 @@ fn push_bundle(
     Ok(())
 }
 
-/// Per trust domain in order its name and its authorities, sorted.
+/// Appends, for each trust domain in order, its name and its authorities, sorted.
 fn push_bundles(
     line: &mut Vec<u8>,
     set: &X509BundleSet,
@@ -179,7 +179,7 @@ fn push_bundles(
     Ok(())
 }
 
-/// The revocation lists, sorted, where there is one.
+/// Appends the revocation lists, sorted, where there is one.
 fn push_crls(line: &mut Vec<u8>, crls: &[Bytes], order: &[usize]) -> Result<(), OutOfMemory>
     requires { IsSortedIndices (slice_cmp nat_cmp) crls.now order.now }
     ensures text { OnOk result (line.new.items ≡ line.old.items ++ revocations_text crls.now) }
@@ -193,7 +193,7 @@ fn push_crls(line: &mut Vec<u8>, crls: &[Bytes], order: &[usize]) -> Result<(), 
     Ok(())
 }
 
-/// The ID, the expiry and the chain of an SVID, or three dashes.
+/// Appends the ID, the expiry and the chain of an SVID, or three dashes.
 fn push_choice(line: &mut Vec<u8>, svid: Option<&Arc<X509Svid>>) -> Result<(), OutOfMemory>
     ensures text { OnOk result
         (line.new.items
@@ -213,7 +213,7 @@ fn push_choice(line: &mut Vec<u8>, svid: Option<&Arc<X509Svid>>) -> Result<(), O
     Ok(())
 }
 
-/// A context with its indices, and the choice that is shown.
+/// Appends a context by its indices, and the choice that is shown.
 fn push_context(
     line: &mut Vec<u8>,
     context: &X509Context,
@@ -261,7 +261,7 @@ fn push_withdrawn(line: &mut Vec<u8>, reason: &Denial) -> Result<(), OutOfMemory
     Ok(())
 }
 
-/// What is visible after the revision.
+/// Appends what is visible, which follows the revision.
 fn push_visible(
     line: &mut Vec<u8>,
     standing: &Standing,
@@ -278,7 +278,7 @@ fn push_visible(
     }
 }
 
-/// The revision, what is visible, and a line feed.
+/// Appends the revision, what is visible, and a line feed.
 #[tactic(auto, unfolding(crate::specs::Shown::view_line))]
 fn push_view(
     line: &mut Vec<u8>,
@@ -297,8 +297,8 @@ fn push_view(
     Ok(())
 }
 
-/// The line of a state at a moment, without a number
-/// before it. Without a moment the choice is not shown.
+/// Returns the line of a state at a moment, without a number before it. Without a moment the choice
+/// is not shown.
 pub fn state_line(
     alloc: Global,
     state: &X509SourceState,

@@ -21,7 +21,7 @@ pub enum Phase {
     Next,
 }
 
-/// Whether a frame of this kind may stand. A moment and a close may always.
+/// Whether a frame of this kind is allowed. A moment and a close always are.
 pub(crate) fn may_stand(phase: Phase, kind: u8) -> bool
     ensures { result ≡ allows phase kind }
 {
@@ -42,7 +42,7 @@ pub(crate) fn may_stand(phase: Phase, kind: u8) -> bool
     }
 }
 
-/// What the source is asked for after an event.
+/// Returns what the source is asked for after an event.
 pub fn phase_after(phase: Phase, synced: bool, event: &Received) -> Phase
     ensures { result ≡ received_ask phase synced event.now }
 {

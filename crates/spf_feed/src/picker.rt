@@ -69,7 +69,8 @@ impl<F: Fn(&[Arc<X509Svid>]) -> Option<usize>, N: PickFunction> SvidPicker for F
     }
 }
 
-/// Picks the first SVID of a hint. It never picks by an empty text, since an empty hint is no hint.
+/// Picks the first SVID that has its hint. An empty text picks nothing, since an empty hint is no
+/// hint.
 #[derive(Debug, Drop)]
 pub struct HintPicker {
     hint: Text,
@@ -109,7 +110,7 @@ impl SvidPicker for HintPicker {
     }
 }
 
-/// No picker, for where none is set.
+/// Picks the first SVID, as where no picker is set.
 #[derive(Clone, Copy, Debug)]
 pub struct NoPicker;
 
@@ -144,7 +145,8 @@ fn picked<P: SvidPicker>(svids: &[Arc<X509Svid>], picker: Option<&P>) -> Option<
     }
 }
 
-/// The index that the picker gives, where it is in range. The first SVID where no picker is set.
+/// Returns the index that the picker gives, where it is in range; that of the first SVID where no
+/// picker is set.
 pub fn select_svid<P: SvidPicker>(ctx: &X509Context, picker: Option<&P>) -> Option<usize>
     requires { ForSome picker (λ p. P.can_pick p.now) }
     ensures { result ≡ pick_of (option_map (λ p. P.picks p.now) picker.entry) ctx.now.svids }

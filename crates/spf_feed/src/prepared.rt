@@ -42,7 +42,7 @@ impl Model for Prepared {
 }
 
 impl Prepared {
-    /// A refusal drops the step.
+    /// Prepares the step, which is dropped where memory runs out.
     pub fn new(alloc: Global, step: Step) -> Result<Prepared, OutOfMemory>
         ensures { IfOk result (λ p. p ≡ plain step) }
     {
@@ -65,7 +65,7 @@ impl Prepared {
         self.step
     }
 
-    /// The indices of the SVIDs, sorted. None for a Deny.
+    /// Returns the indices of the SVIDs, sorted. None for a Deny.
     pub fn svid_positions(&self) -> &[usize]
         ensures { IndicesOf svid_cmp (option_map (λ m. m.context.svids) (material_in self.now))
             result.now }
@@ -76,7 +76,7 @@ impl Prepared {
         }
     }
 
-    /// The indices of the authorities of a trust domain, sorted.
+    /// Returns the indices of the authorities of a trust domain, sorted.
     pub fn authority_positions(&self, td: &TrustDomain) -> Option<&[usize]>
         ensures { AuthorityIndices
             (option_and_then (λ m. find_entry td.now m.context.bundles) (material_in self.now))
@@ -90,7 +90,7 @@ impl Prepared {
         }
     }
 
-    /// The indices of the revocation lists, sorted. None for a Deny.
+    /// Returns the indices of the revocation lists, sorted. None for a Deny.
     pub fn crl_positions(&self) -> &[usize]
         ensures { IndicesOf (slice_cmp nat_cmp)
             (option_map (λ m. m.context.crls) (material_in self.now)) result.now }

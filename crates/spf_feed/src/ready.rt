@@ -3,6 +3,6 @@
 pub enum Ready {
     /// A chosen SVID that has not expired at the last moment.
     Usable,
-    /// Nothing more than any other accepted item.
+    /// Nothing more than what every accepted item must hold.
     Any,
 }

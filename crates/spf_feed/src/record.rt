@@ -24,7 +24,7 @@ pub enum MetricsErrorKind {
     LimitMaxBundleDerBytes,
     LimitMaxCrlBytes,
     UpdateRejected,
-    /// Nothing records it.
+    /// Never recorded.
     SupervisorJoinFailed,
 }
 
@@ -68,7 +68,7 @@ pub enum MetricsRecord {
     Error(MetricsErrorKind),
 }
 
-/// What records are handed to. It keeps memory of its own, which may run out.
+/// Takes the records. It has memory of its own, which may run out.
 pub trait MetricsRecorder {
     // The records so far, where the recorder says so.
     ghost records: { Self → Option (List MetricsRecord) };
@@ -126,7 +126,7 @@ impl MetricsRecorder for MemRecorder {
     }
 }
 
-/// A recorder that keeps nothing, and so takes no memory.
+/// A recorder that keeps nothing, and so allocates nothing.
 #[derive(Clone, Copy, Debug)]
 pub struct NoRecorder;
 

@@ -38,7 +38,7 @@ impl Model for Snapshot {
 }
 
 impl Snapshot {
-    /// The snapshot of a first accepted context.
+    /// Returns the snapshot of a first accepted context.
     pub fn opening(step: Prepared) -> Snapshot
         requires { IsTrue (is_accept step) }
         ensures value { result ≡ record { revision = 0; view = shown_by step } }
@@ -79,7 +79,7 @@ impl Snapshot {
         self.standing = Standing::of(step);
     }
 
-    /// One more step. Unchanged material keeps the older context.
+    /// Applies one more step. Unchanged material keeps the older context.
     pub fn apply(&mut self, step: Prepared)
         ensures value { self.new ≡ kept_next same_material self.old step }
         ensures stands { (steps : List PlainStep) → Stands same_material steps self.old
@@ -90,7 +90,7 @@ impl Snapshot {
         }
     }
 
-    /// A copy, which shares what is held.
+    /// Returns a copy, which shares what is held.
     pub fn try_clone(&self) -> Result<Snapshot, OutOfMemory>
         ensures { IfOk result (λ s. s ≡ self.now) }
     {
@@ -100,7 +100,7 @@ impl Snapshot {
         })
     }
 
-    /// The state of a source that holds this, and is closed or not.
+    /// Returns the state of a source that holds this, and is closed or not.
     pub fn state(&self, alloc: Global, closed: bool) -> Result<X509SourceState, OutOfMemory>
         ensures { IfOk result
             (λ s. s ≡ record {
@@ -136,7 +136,7 @@ impl Snapshot {
         &self.standing
     }
 
-    /// Whether the choice is there and usable at the moment.
+    /// Returns whether the choice is there and usable at the moment.
     pub fn shows_choice(&self, now: Option<i64>) -> bool
         ensures { result
             ≡ is_some (spec.usable (option_and_then chosen_of (held_in self.now.view)) now) }

@@ -170,8 +170,8 @@ impl X509SourceState {
         })
     }
 
-    /// The same state of a source that is closed or not. It takes no memory, and shares what
-    /// is held with this one alone.
+    /// Returns the same state for a source that is closed or not. It allocates nothing, and shares
+    /// what is held with this one alone.
     pub fn share(&self, closed: bool) -> Result<X509SourceState, OutOfMemory>
         ensures { IfOk result (λ s. s ≡ record self.now { closed = closed }) }
     {
@@ -201,7 +201,7 @@ impl X509SourceState {
         self.closed
     }
 
-    /// The reason of the withdrawal, while withdrawn.
+    /// Returns the reason of the withdrawal, while withdrawn.
     pub fn withdrawal(&self) -> Option<&Arc<Denial>>
         ensures { option_map (λ a. arc_value a.now) result ≡ reason_of self.now.view }
     {
@@ -211,7 +211,7 @@ impl X509SourceState {
         }
     }
 
-    /// The held context. None while withdrawn.
+    /// Returns the held context. None while withdrawn.
     pub fn context_ref(&self) -> Option<&Arc<X509Context>>
         ensures { option_map (λ a. arc_value a.now) result
             ≡ option_map (λ m. m.context) (held_in self.now.view) }
@@ -222,7 +222,7 @@ impl X509SourceState {
         }
     }
 
-    /// The held context.
+    /// Returns the held context.
     pub fn context(&self) -> Result<Arc<X509Context>, X509SourceError>
         ensures { ContextAnswer self.now.view result }
     {
@@ -237,7 +237,7 @@ impl X509SourceState {
         }
     }
 
-    /// The chosen SVID, where its expiry is above the moment.
+    /// Returns the chosen SVID, where its expiry is above the moment.
     pub fn svid(&self, now: Option<i64>) -> Result<Arc<X509Svid>, X509SourceError>
         ensures { SvidAnswer self.now.view now result }
     {
@@ -252,7 +252,7 @@ impl X509SourceState {
         }
     }
 
-    /// Whether `svid` returns one, where memory does not run out.
+    /// Returns whether `svid` returns one, where memory does not run out.
     pub fn is_usable(&self, now: Option<i64>) -> bool
         ensures { result
             ≡ is_some (spec.usable (option_and_then chosen_of (held_in self.now.view)) now) }

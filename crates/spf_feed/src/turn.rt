@@ -28,7 +28,7 @@ use crate::step::Denial;
 use spf_api::{ClientFault, GrpcStatusError, WorkloadApiError};
 use spf_x509::X509Context;
 
-/// The rules of a session, but for its picker and its max frames.
+/// The rules of a session, but for its picker and its limit of frames.
 #[derive(Clone, Copy, Debug)]
 pub struct SessionRules {
     pub limits: ResourceLimits,
@@ -181,7 +181,7 @@ fn status_turn(synced: bool, answer: WorkloadApiError, error: Option<MetricsErro
     }
 }
 
-/// That no identity is issued is no error of the connection.
+/// That no identity is issued is not an error of the connection.
 fn connect_error(answer: &WorkloadApiError) -> Option<MetricsErrorKind>
     ensures { result ≡ run_spec.connect_error answer.now }
 {
@@ -224,7 +224,7 @@ fn initial_failure_turn(answer: WorkloadApiError) -> Turn
     Turn::Passed(Records::ended(false, Some(MetricsErrorKind::ClientCreation)))
 }
 
-/// A client failure never is a denial.
+/// A client failure is never a denial.
 fn failure_turn(synced: bool, fault: ClientFault) -> Turn
     ensures may { (limits : ResourceLimits) → MayTake limits synced result }
     ensures turn { IsTurn (if synced then None else client_rejected fault) OutcomePassed
@@ -267,7 +267,7 @@ fn close_turn(synced: bool) -> Turn
     }
 }
 
-/// Whether the first accepted item may be this one.
+/// Whether this item may be the first accepted one.
 fn may_sync(context: &X509Context, choice: Option<usize>, ready: Ready, now: Option<i64>) -> bool
     ensures { result
         ≡ items_spec.may_sync ready (record { context = context.now; choice = choice }) now }
@@ -303,8 +303,8 @@ fn item_turn<C: SvidPicker>(
     Turn::Accepted { context, choice }
 }
 
-/// What an event does, where an item was accepted
-/// before it or not, and at the last moment before it.
+/// Returns what an event does, where an item was accepted before it or not, and at the last moment
+/// before it.
 pub fn turn_of<C: SvidPicker>(
     rules: SessionRules,
     picker: Option<&C>,

@@ -143,7 +143,7 @@ turned_of {S} {L} {P} {M} {K} connector link records picks before old new e r as
 
 -- ---- what a feeder keeps
 
--- an event more is in the run where the run goes on
+-- one more event is in the run where the run goes on
 ran : {P M K : Type 0} (records : M → Option (List MetricsRecord)) (rules : Rules)
     (old new : Core P M K) (e : Event) (r : Result (Option AttemptEnd) Stop)
     → Advances records rules old e r new → new.stuck ≡ false → new.run ≡ old.run ++ e ∷ []
@@ -191,7 +191,7 @@ if_some (Some x) P Q f h = f x h
 yields_once : {S L : Type 0} (connector : connectors.Ghosts S L) (link : links.Ghosts L)
     (rules : Rules) (run : List Event) (old new : Asked S L) (e : Event) (first : List Member)
     → AsksOnce {E = OutOfMemory} connector link (ask_of context_in rules (reverse run)) old (Ok e)
-      new
+    new
     → IsReady link.kind (ask_of context_in rules (reverse run)) old.link
     → Yields connector.members link.answers rules run old first
     → Yields connector.members link.answers rules (run ++ e ∷ []) new first

@@ -85,7 +85,7 @@ no_moment phases.Connect (events.Moment x) h = absurd cc
 no_moment phases.Next (events.Moment x) h = absurd cc
 no_moment ask events.Close h = refl
 
--- ---- one event more
+-- ---- one more event
 
 pub orderly_more : {I A : Type 0} (ask : List (SessionEvent I) → Phase)
     (refusal : List (SessionEvent I) → SessionEvent I → Option A) (run : List (SessionEvent I))
@@ -194,7 +194,7 @@ no_longer : {X : Type 0} (b : Bool) → b ≡ false → b ≡ true → X
 no_longer true f t = absurd cc
 no_longer false f t = absurd cc
 
--- an answer is no moment
+-- an answer is not a moment
 pub ends_unmoved : {I : Type 0} (ask : List (SessionEvent I) → Phase)
     (run run' : List (SessionEvent I)) → AddsAnswerTo ask run run'
     → ends_with_moment (reverse run') ≡ true → is_client (ask (reverse run')) ≡ true
@@ -229,7 +229,7 @@ or_right : (a b : Bool) → b ≡ true → (a || b) ≡ true
 or_right true b h = refl
 or_right false b h = h
 
--- a moment is no item
+-- a moment is not an item
 abbrev pub NoMomentIsRead : {I M L D : Type 0} → Subject (SessionEvent I) M L D → Type 0
 NoMomentIsRead s = (m : ℤ) → s.parsed (events.Moment m) ≡ None
 

@@ -1,4 +1,4 @@
--- What an event more does to the delays of a run.
+-- What one more event does to the delays of a run.
 use Rattle.std.proofs.Common.{◌≡◌, ℕ, Bool, true, false, not, ◌||◌, ◌&&◌, List, [], ◌∷◌, ◌++◌}
 use Rattle.std.proofs.Common.{reverse, Option, None, Some, refl, sym, ap, ◌∙◌, subst}
 use Rattle.std.specs.Prelude.{is_some}
@@ -46,7 +46,7 @@ steps_synced s ask (e ∷ past) = λ words.
     (steps_synced s ask past) words
     ∙ sym (synced_next s past e)
 
--- ---- an event more
+-- ---- one more event
 
 -- an event that ends no attempt and opens nothing
 pub passes_on : {I M L D : Type 0} (s : Subject (SessionEvent I) M L D)

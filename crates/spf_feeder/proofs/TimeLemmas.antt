@@ -81,7 +81,7 @@ same_moments None b r s t is h = tt
 same_moments (Some a) None r s t is h = absurd h
 same_moments (Some a) (Some b) r s t is (given, split, run) = (given, split, is ∙ run)
 
--- an event more that is no moment
+-- one more event, which is not a moment
 pub gives_still : {I : Type 0} (a b : Option (List (Option ℤ))) (r s t : List (SessionEvent I))
     (e : SessionEvent I) → is_moment e ≡ false → t ≡ s ++ e ∷ [] → Gives a b r s → Gives a b r t
 gives_still a b r s t e none is h =

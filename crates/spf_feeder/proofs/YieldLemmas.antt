@@ -197,7 +197,7 @@ yielded_more wanted ask members past events.StreamEnd h = h
 yielded_more wanted ask members past (events.Moment x) h = tt
 yielded_more wanted ask members past events.Close h = tt
 
--- one ask more
+-- one more ask
 pub yields_more : {I S L : Type 0} (E : Type 0) (wanted : Wanted I)
     (ask : List (SessionEvent I) → Phase) (connector : connectors.Ghosts S L)
     (link : links.Ghosts L) (run : List (SessionEvent I)) (old new : Asked S L)
@@ -227,7 +227,7 @@ yields_more E wanted ask connector link run old new e first h ready yielded hold
 
 -- ---- where the link is asked next, it is there
 
--- what is asked next follows from the last event that is no moment
+-- what is asked next follows from the last event that is not a moment
 pub record FollowsEvents {I : Type 0} (ask : List (SessionEvent I) → Phase) : Type 0 where
   pub keeps : List (SessionEvent I) → I → Bool
   pub made : (past : List (SessionEvent I)) → ask (events.ClientMade ∷ past) ≡ phases.Connect

@@ -45,7 +45,7 @@ abbrev pub item_end : Phase → Bool → Option AttemptEnd
 item_end phases.Next gave = None
 item_end _ gave = Some (ends.Stream gave false)
 
--- how an event that is not accepted ends the attempt, where `ask` stands next
+-- how an event that is not accepted ends the attempt, where `ask` comes next
 abbrev pub end_with : {I : Type 0} → Phase → Bool → SessionEvent I → Option AttemptEnd
 end_with ask gave (events.ClientFailed f) = Some (ends.Client (client_no_identity f))
 end_with ask gave (events.ConnectStatus s) =

@@ -66,7 +66,7 @@ pub record Going (rules : Rules) (run : List Event) (steps : Option (List PlainS
   pub gave_is : gave_accepted rules (reverse run) ≡ gave
   pub synced : IsTrue (is_some kept) → HasStep steps
 
--- One event more went through: its step was published and its records were recorded.
+-- One more event went through: its step was published and its records were recorded.
 pub record Advanced {P M K : Type 0} (records : M → Option (List MetricsRecord)) (rules : Rules)
     (old : Core P M K) (e : Event) (end : Option AttemptEnd) (new : Core P M K) : Type 0 where
   pub run_is : new.run ≡ old.run ++ e ∷ []
@@ -76,14 +76,14 @@ pub record Advanced {P M K : Type 0} (records : M → Option (List MetricsRecord
   pub records_are : Grows (records old.recorder) (records new.recorder)
       ((outputs rules).records (reverse old.run) e)
 
--- The event is terminal: it is no event of the run.
+-- The event is terminal, and is not part of the run.
 pub record Ended {P M K : Type 0} (rules : Rules) (old : Core P M K) (e : Event) (end : Terminal)
     (new : Core P M K) : Type 0 where
   pub run_is : new.run ≡ old.run
   pub stuck_is : new.stuck ≡ true
   pub refused : (stream rules).refusal (reverse old.run) e ≡ Some end
 
--- Memory ran out: the event is in the run exactly where its step, if it has one, was published.
+-- Memory ran out: the event was added to the run, or was not.
 pub record Stopped {P M K : Type 0} (old : Core P M K) (e : Event) (new : Core P M K) :
     Type 0 where
   pub run_is : (new.run ≡ old.run) ⊎ (new.run ≡ old.run ++ e ∷ [])

@@ -16,7 +16,7 @@ pub record HasDeadline (timeout : Option Duration) (deadline : Option ℤ) : Typ
   pub range : pos 0 ≤ℤ first
   pub deadline_is : deadline ≡ option_map (deadline_after first) timeout
 
--- a terminal event came after some run, by a deadline of the timeout
+-- a terminal event came after some run, by a deadline of the timeout; or memory ran out
 pub record StopsOpening {K : Type 0} (picks : K → List Svid → Option ℕ) (limits : ResourceLimits)
     (timeout : Option Duration) (ready : Ready) (picker : Option K) (stop : Stop) : Type 0 where
   pub deadline : Option ℤ

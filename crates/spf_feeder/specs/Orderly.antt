@@ -27,7 +27,7 @@ does_answer phases.Next (events.ItemStatus s) = true
 does_answer phases.Next events.StreamEnd = true
 does_answer _ _ = false
 
--- an event that may stand after a history
+-- an event that is allowed after a history
 pub record MayStand {I A : Type 0} (ask : List (SessionEvent I) → Phase)
     (refusal : List (SessionEvent I) → SessionEvent I → Option A) (past : List (SessionEvent I))
     (e : SessionEvent I) : Type 0 where
@@ -40,7 +40,7 @@ abbrev pub AreOrderly : {I A : Type 0} → (List (SessionEvent I) → Phase)
 AreOrderly ask refusal [] = Unit {0}
 AreOrderly ask refusal (e ∷ past) = MayStand ask refusal past e × AreOrderly ask refusal past
 
--- one of these is a moment
+-- whether one of these is a moment
 abbrev pub has_moment : {I : Type 0} → List (SessionEvent I) → Bool
 has_moment [] = false
 has_moment (e ∷ run) = is_moment e || has_moment run
@@ -51,7 +51,7 @@ pub record GoesOn {I : Type 0} (old new : List (SessionEvent I)) : Type 0 where
   pub run_is : new ≡ old ++ later
   pub timeless : has_moment later ≡ false
 
--- one event more, which the ask before it yielded
+-- one more event, which the ask before it yielded
 pub record AddsAnswerTo {I : Type 0} (ask : List (SessionEvent I) → Phase)
     (old new : List (SessionEvent I)) : Type 0 where
   pub event : SessionEvent I
@@ -95,8 +95,8 @@ AddsAnswer rules old new = AddsAnswerTo (ask_of context_in rules) old new
 unfoldable pub IsTimed : Rules → List Event → Type 0
 IsTimed rules past = AreTimed (subject rules) past
 
--- nothing is accepted yet, and the moments so far stand where they should: a last one is there only
--- where a client is asked for next
+-- nothing is accepted yet, and the moments so far stand where they should: the last event is one
+-- only where a client is asked for next
 pub record IsOpening (rules : Rules) (run : List Event) : Type 0 where
   pub timed : IsTimed rules (reverse run)
   pub unsynced : has_synced (subject rules) (reverse run) ≡ false

@@ -1,4 +1,4 @@
--- DelaysOf a run: the pauses after its attempts, by the random words that were drawn.
+-- The delays of a run: the pauses after its attempts, by the random words that were drawn.
 use Rattle.std.specs.Prelude.{◌≡◌, ℕ, Bool, not, ◌&&◌, List, [], ◌∷◌, reverse, Result, Ok, Err}
 use Rattle.std.specs.Prelude.{◌⊎◌, ◌++◌}
 use Rattle.spf_pace.specs.declared.pace.Pace.{Pace}

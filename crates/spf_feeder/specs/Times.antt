@@ -12,7 +12,7 @@ at_moment [] = []
 at_moment (None ∷ moments) = at_moment moments
 at_moment (Some moment ∷ moments) = Some moment ∷ moments
 
--- the first moment that is there is taken, where the moments are known
+-- the first moment that the clock gives is taken, where its moments are known
 abbrev pub TakesMoment : Option (List (Option ℤ)) → Option (List (Option ℤ)) → ℤ → Type 0
 TakesMoment None new moment = Unit {0}
 TakesMoment (Some old) None moment = ⊥
@@ -22,17 +22,17 @@ TakesMoment (Some old) (Some new) moment = at_moment old ≡ Some moment ∷ new
 abbrev pub seconds_of : Duration → ℕ
 seconds_of d = (as_nanos d + 999_999_999) / 1_000_000_000
 
--- the first moment, from 0 on, and the timeout behind it, which stops at the end of its type
+-- the deadline: the first moment, from 0 on, plus the timeout, saturating at the end of its type
 abbrev pub deadline_after : ℤ → Duration → ℤ
 deadline_after first timeout = pos (min (nat_abs first + seconds_of timeout) (2 ^ 63 - 1))
 
--- nothing but none was given so far
+-- the clock has given no moment so far
 abbrev pub AsksOn : Option (List (Option ℤ)) → Option (List (Option ℤ)) → Type 0
 AsksOn None new = Unit {0}
 AsksOn (Some old) None = ⊥
 AsksOn (Some old) (Some new) = at_moment old ≡ at_moment new
 
--- the moments that are there
+-- the moments that the clock gave
 abbrev pub known_moments : List (Option ℤ) → List ℤ
 known_moments [] = []
 known_moments (None ∷ moments) = known_moments moments
@@ -44,8 +44,8 @@ moments_in [] = []
 moments_in (events.Moment m ∷ run) = m ∷ moments_in run
 moments_in (_ ∷ run) = moments_in run
 
--- What a clock gave are the moments that a run has more, in order, where the moments of the clock
--- are known.
+-- The moments that a run has in addition are those that the clock gave, in order, where the moments
+-- of the clock are known.
 abbrev pub Gives : {I : Type 0} → Option (List (Option ℤ)) → Option (List (Option ℤ))
     → List (SessionEvent I) → List (SessionEvent I) → Type 0
 Gives None new before run = Unit {0}

@@ -24,7 +24,7 @@ fn connect_message(alloc: Global, e: &TransportConnectError) -> Result<Text, Out
     Ok(Text::new(format!(in alloc; "gRPC transport connection failed: {source}")?))
 }
 
-/// The status that a refusal of a link yields.
+/// Returns the status that a refusal of a link yields.
 pub fn status_of(alloc: Global, fault: LinkFault) -> Result<GrpcStatusError, OutOfMemory>
     ensures { IfOk result (λ s. refused_as fault ≡ Some s) }
 {
@@ -38,7 +38,7 @@ pub fn status_of(alloc: Global, fault: LinkFault) -> Result<GrpcStatusError, Out
     }
 }
 
-/// The headers of each `start`.
+/// Returns the headers of each `start`.
 pub fn stream_headers(alloc: Global) -> Result<Headers, OutOfMemory>
     ensures { IfOk result (λ h. h ≡ with_metadata []) }
 {
@@ -103,7 +103,7 @@ fn ask_item<L: Link>(alloc: Global, link: &mut L) -> Result<Event, OutOfMemory>
     }
 }
 
-/// Asks once, for what stands next.
+/// Asks once, for what comes next.
 pub(crate) fn ask<C: Connector>(
     alloc: Global,
     connector: &mut C,

@@ -115,14 +115,14 @@ where
         }
     }
 
-    /// The events so far, oldest first.
+    /// Returns the events so far, oldest first.
     pub fn events(&self) -> &[Event]
         ensures { result.now ≡ self.now.core.run }
     {
         self.session.events()
     }
 
-    /// The events so far, which contracts alone see.
+    /// Returns the events so far, which contracts alone see.
     pub fn noted_events(&self) -> snapshot::Snapshot<Vec<Event>>
         ensures { result.value.items ≡ self.now.core.run }
     {
@@ -156,7 +156,7 @@ where
         ends_with_moment(self.session.events())
     }
 
-    /// A moment of the clock, which stands among the events. Nothing is asked.
+    /// Adds a moment of the clock to the events. Nothing is asked.
     pub(crate) fn take_moment(&mut self, moment: i64) -> Result<Option<AttemptEnd>, Stop>
         requires going { self.old.core.stuck ≡ false }
         ensures settings { self.new.core.settings ≡ self.old.core.settings }
@@ -227,21 +227,21 @@ where
         }
     }
 
-    /// The rules of its run.
+    /// Returns the rules of its run.
     pub fn rules(&self) -> SessionRules
         ensures { result ≡ self.now.core.settings }
     {
         self.session.rules()
     }
 
-    /// What picks the SVID.
+    /// Returns the picker of the SVID.
     pub fn picker(&self) -> &Option<K>
         ensures { result.now ≡ self.now.core.picker }
     {
         self.session.picker()
     }
 
-    /// The publisher, which has exactly the steps of the run.
+    /// Returns the publisher, which has exactly the steps of the run.
     pub fn publisher(&self) -> &P
         ensures publisher { result.now ≡ self.now.core.publisher }
         ensures published { Published (P.steps self.now.core.publisher)
@@ -250,8 +250,8 @@ where
         self.session.publisher()
     }
 
-    /// The same with another publisher, which has published the same steps, and the publisher
-    /// until now.
+    /// Returns the same with another publisher, which has published the same steps, and the
+    /// publisher that it had until now.
     pub fn with_publisher<Q: Publisher + Drop>(self, publisher: Q) -> (Feeder<C, Q, M, K>, P)
         requires published { Published (Q.steps publisher)
             (rules_by K.picks self.core.settings self.core.picker) self.core.run }
@@ -280,7 +280,7 @@ where
         (feeder, before)
     }
 
-    /// The publisher of a feeder that asks no more.
+    /// Returns the publisher of a feeder that asks no more.
     pub fn into_publisher(self) -> P
         ensures { result ≡ self.core.publisher }
     {
@@ -288,7 +288,7 @@ where
         session.into_parts().publisher
     }
 
-    /// What is left of a feeder that asks no more. Its connector and its link are let go.
+    /// Returns what is left of a feeder that asks no more. Its connector and its link are dropped.
     pub fn into_parts(self) -> SessionParts<P, K>
         requires going { self.core.stuck ≡ false }
         ensures publisher { result.publisher ≡ self.core.publisher }

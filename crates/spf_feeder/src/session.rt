@@ -154,7 +154,7 @@ impl<P: Publisher + Drop, M: MetricsRecorder + Drop, K: SvidPicker + Drop> Model
 }
 
 impl<P: Publisher + Drop, M: MetricsRecorder + Drop, K: SvidPicker + Drop> Session<P, M, K> {
-    /// A session of no events yet, whose publisher has no steps.
+    /// A session without events yet, whose publisher has no steps.
     #[tactic(auto, unfolding(crate::specs::Orderly::IsOrderly))]
     pub(crate) fn new(
         alloc: Global,
@@ -226,7 +226,7 @@ impl<P: Publisher + Drop, M: MetricsRecorder + Drop, K: SvidPicker + Drop> Sessi
         self.rules
     }
 
-    /// What picks the SVID.
+    /// The picker of the SVID.
     pub(crate) fn picker(&self) -> &Option<K>
         ensures { result.now ≡ self.now.picker }
     {
@@ -242,8 +242,8 @@ impl<P: Publisher + Drop, M: MetricsRecorder + Drop, K: SvidPicker + Drop> Sessi
         &self.publisher
     }
 
-    /// The same with another publisher, which has published the same steps, and the publisher
-    /// until now.
+    /// Returns the same with another publisher, which has published the same steps, and the
+    /// publisher that it had until now.
     pub(crate) fn with_publisher<Q: Publisher + Drop>(self, publisher: Q) -> (Session<Q, M, K>, P)
         requires published { Published (Q.steps publisher)
             (rules_by K.picks self.settings self.picker) self.run }
@@ -317,8 +317,8 @@ impl<P: Publisher + Drop, M: MetricsRecorder + Drop, K: SvidPicker + Drop> Sessi
         self.stuck = true;
     }
 
-    /// One event more: its step is published, then it stands among the events, then its records are
-    /// recorded.
+    /// Takes one more event: its step is published, then it is added to the events, then its
+    /// records are recorded.
     pub(crate) fn advance(&mut self, event: Event) -> Result<Option<AttemptEnd>, Stop>
         requires going { self.old.stuck ≡ false }
         requires fits { (is_moment event || does_answer (ask_of context_in

@@ -43,7 +43,8 @@ pub(crate) fn next_moment<T: Clock, W: Pause, H: Wait>(
     unreachable!()
 }
 
-/// The first moment and a timeout behind it in whole seconds, rounded up. It stops at `i64::MAX`.
+/// The deadline: the first moment plus the timeout in whole seconds, rounded up. It saturates at
+/// `i64::MAX`.
 pub(crate) fn deadline_after(first: i64, timeout: Duration) -> i64
     requires { pos 0 ≤ℤ first }
     ensures { result ≡ spec.deadline_after first timeout }
@@ -53,7 +54,8 @@ pub(crate) fn deadline_after(first: i64, timeout: Duration) -> i64
     (first as u128 + seconds).min(latest) as i64
 }
 
-/// Where a client is asked for next, a moment of the clock stands right before it.
+/// Takes a moment of the clock where a client is asked for next, so that it stands right before the
+/// client.
 #[tactic(auto, unfolding(crate::specs::Orderly::IsTimed, crate::specs::Pacing::KeepsPace))]
 fn moment_before<C, P, M, K, T, W, H>(
     rt: &H,

@@ -1,5 +1,5 @@
-//! What the rows of tests are written in: names, each for octets in hexadecimal or for a text that
-//! holds such octets.
+//! The names that the rows of tests are written with, each for octets in hexadecimal or for a text
+//! that holds such octets.
 //!
 //! ROOT1, ROOT2 and ROOT3 are authorities that differ in their serial, INTER1
 //! is an intermediate, LEAF1 and LEAF2 are leaves of `spiffe://example.org/w`
@@ -155,7 +155,7 @@ static NAMES: [(&str, &str); 46] = [
     ("KEY2", "300d020100300506032b6570040102"),
 ];
 
-/// The text with each name replaced by what it stands for.
+/// Returns the text with each name replaced by what it stands for.
 pub fn written_out(alloc: Global, text: &str) -> Result<String, Fail> {
     let mut text = String::from_str(alloc, text)?;
     for (name, meaning) in NAMES.iter() {
@@ -164,13 +164,13 @@ pub fn written_out(alloc: Global, text: &str) -> Result<String, Fail> {
     Ok(text)
 }
 
-/// The octets that the text spells, in hexadecimal and by names; spaces are ignored.
+/// Returns the octets that the text spells, in hexadecimal and by names; spaces are ignored.
 pub fn octets(alloc: Global, text: &str) -> Result<Vec<u8>, Fail> {
     let digits = written_out(alloc, text)?.replace(alloc, " ", "")?;
     Ok(hex::decode(alloc, digits.as_str())?)
 }
 
-/// Whether `text` is `wanted` with its names replaced by what they stand for.
+/// Returns whether `text` is `wanted` with its names replaced by what they stand for.
 pub fn is_written(alloc: Global, text: String, wanted: &str) -> Result<bool, Fail> {
     Ok(text.as_str() == written_out(alloc, wanted)?.as_str())
 }

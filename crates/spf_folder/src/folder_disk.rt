@@ -13,9 +13,9 @@ use spf_disk::{Disk, DiskFailed, HelperFile, MemDisk};
 use std::alloc::Global;
 use std::fs;
 
-/// The three files of a folder. What they held when they were opened, and what is written since,
-/// is kept in memory too: reads are served from there, and contracts speak of that. That the
-/// operating system keeps the files so is trusted. After a call that failed each later one fails.
+/// The three files of a folder. What they held when they were opened, and what is written since, is
+/// kept in memory too: reads are served from there, and contracts speak of that. It is trusted that
+/// the operating system keeps the files like this. After a call that failed each later one fails.
 #[derive(Drop)]
 pub struct FolderDisk {
     memory: MemDisk,
@@ -25,8 +25,9 @@ pub struct FolderDisk {
 }
 
 impl FolderDisk {
-    /// Opens the files of the folder for writing, and makes those that are missing. While they are
-    /// open no other disk opens them so. Where that fails, each call of the disk fails.
+    /// Opens the files of the folder for writing, and creates those that are missing. While they
+    /// are open, no other disk can open them for writing. Where opening fails, each call of the
+    /// disk fails.
     pub fn open(rt: &HostRuntime, folder: &str) -> FolderDisk
         ensures durable { Only (⟦<FolderDisk as Disk>⟧.seen result)
             (⟦<FolderDisk as Disk>⟧.may_leave result) }
@@ -50,7 +51,7 @@ impl FolderDisk {
         }
     }
 
-    /// Why the first call that failed did.
+    /// Returns why the first call that failed did so.
     pub fn fault(&self) -> Option<&FolderFault>
         ensures { option_map (λ f. f.now) result ≡ self.now.fault }
     {

@@ -9,7 +9,7 @@ use std::io;
 use std::os::fd::AsRawFd;
 use std::os::unix::fs::{FileExt, OpenOptionsExt};
 
-/// Who may read and write a file that is made: its owner.
+/// Who may read and write a file that is created: its owner.
 const OWNER_ONLY: u32 = 0o600;
 
 /// The highest descriptor of a standard stream.
@@ -23,8 +23,8 @@ pub(crate) struct FolderFiles {
 }
 
 impl FolderFiles {
-    /// Opens the files, of which those that are missing are made, and takes the lock of the gates.
-    /// Afterwards the files, and their names, are on the disk.
+    /// Opens the files, creates those that are missing, and takes the lock of the gates. After that
+    /// the files and their names are on the disk.
     pub(crate) fn open(rt: &HostRuntime, folder: &str) -> Result<FolderFiles, FolderFault> {
         let directory = File::open(rt, folder)?;
         let gates = open_file(rt, folder, HelperFile::Gates)?;
@@ -71,7 +71,7 @@ impl FolderFiles {
     }
 }
 
-/// Opens a file of the folder, and makes it where it is missing. No link is followed.
+/// Opens a file of the folder, and creates it where it is missing. No symbolic link is followed.
 fn open_file(rt: &HostRuntime, folder: &str, file: HelperFile) -> Result<File, FolderFault> {
     let path = path_of(rt.alloc(), folder, file)?;
     let opened = make_or_open(rt, path.as_str())?;

@@ -6,7 +6,7 @@ use std::os::unix::fs::PermissionsExt;
 use std::test::Fail;
 use std::{fs, io};
 
-/// What the first octets of a file are, as the disk reads them.
+/// The first octets of a file, as the disk reads them.
 fn first_octets(disk: &mut FolderDisk, file: HelperFile) -> [u8; 4] {
     let mut octets = [0; 4];
     let _ = disk.read(file, 0, &mut octets);

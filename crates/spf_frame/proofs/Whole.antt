@@ -33,7 +33,7 @@ no_kind kinds allowed old new errors.ReadFault h =
     ([], h, ((λ k p rest ok short e. absurd cc), refl, λ e. refl))
 no_kind kinds allowed old new errors.OutOfMemory h = absurd h
 
--- no frame is synced by a kind that is not allowed
+-- no frame begins with a kind that is not allowed
 other_kind : (kinds : ℕ → Bool) (kind : ℕ) (ys : List ℕ) → kinds kind ≡ false
     → NoFrame kinds (kind ∷ ys) × (frame_front kinds (kind ∷ ys) ≡ kind ∷ [])
 unfolding frame_front

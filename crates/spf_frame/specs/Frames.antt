@@ -1,4 +1,4 @@
--- Reading a frame of a kind that may stand.
+-- Reading a frame of an allowed kind.
 use Rattle.std.specs.Prelude.{◌≡◌, ◌≢◌, ℕ, Bool, false, IsTrue, List, [], ◌∷◌, ◌++◌, Option, None}
 use Rattle.std.specs.Prelude.{Some, IfSome, Result, Ok, Err}
 use Rattle.std.specs.Io.KnownBytes.{Consumes, IsAtEnd}
@@ -9,7 +9,7 @@ use Rattle.spf_frame.specs.declared.error.FrameError.{FrameError}
 use Rattle.spf_frame.specs.declared.error.FrameError.TheVariants as errors
 use Rattle.spf_frame.specs.Parts.{Takes}
 
--- no frame of a kind that may stand begins these bytes
+-- no frame of an allowed kind begins these bytes
 abbrev pub NoFrame : (ℕ → Bool) → List ℕ → Type 0
 NoFrame kinds bytes = (kind : ℕ) (payload rest : List ℕ) → IsTrue (kinds kind) → FitsFrame payload
     → bytes ≡ raw_text kind payload ++ rest → ⊥

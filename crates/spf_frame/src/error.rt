@@ -10,7 +10,7 @@ pub enum FrameError {
     /// A byte came where no frame was allowed.
     #[error("too many frames")]
     TooLong,
-    /// No frame of a kind that may stand begins the bytes left.
+    /// No frame of an allowed kind begins the bytes that are left.
     #[error("bad frame")]
     BadFrame,
     /// A read of the source failed.

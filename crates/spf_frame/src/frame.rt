@@ -12,10 +12,10 @@ use crate::kinds::Kinds;
 use spf_io::{Bytes, Source};
 use std::alloc::Global;
 
-/// The max length of a payload.
+/// The maximum length of a payload.
 const MAX_PAYLOAD: u32 = 1 << 24;
 
-/// Octets for which a buffer is made before any of a payload has come.
+/// How many octets a buffer is made for before any of a payload has come.
 const PIECE: usize = 1 << 16;
 
 /// A frame with its payload unread.
@@ -112,8 +112,8 @@ fn read_sized<S: Source>(source: &mut S, payload: &mut Vec<u8>) -> Result<(), Fr
     Ok(())
 }
 
-/// The kind of the next frame, whose payload then stands in the buffer. None at the end of input. A
-/// byte where no frame is allowed, and a kind that may not stand, end the reading there.
+/// Returns the kind of the next frame, whose payload is then in the buffer. None at the end of
+/// input. A byte where no frame is allowed, and a kind that is not allowed, end the reading there.
 pub fn next_frame<S: Source, K: Kinds>(
     source: &mut S,
     payload: &mut Vec<u8>,
@@ -137,7 +137,7 @@ pub fn next_frame<S: Source, K: Kinds>(
     Ok(Some(kind))
 }
 
-/// The next frame, of a kind that may stand. None at the end of input.
+/// Returns the next frame, of an allowed kind. None at the end of input.
 pub fn read_frame<S: Source, K: Kinds>(
     alloc: Global,
     source: &mut S,

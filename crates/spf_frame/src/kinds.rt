@@ -1,10 +1,10 @@
-//! Which kinds of frames may stand next.
+//! Which kinds of frames are allowed next.
 
 ghost use Rattle.std.specs.Prelude.{◌≡◌, ℕ, Bool};
 
 /// A set of kinds of frames.
 pub trait Kinds {
-    // Whether frames of a kind may stand.
+    // Whether frames of a kind are allowed.
     ghost allows: { Self → ℕ → Bool };
 
     fn allow(&self, kind: u8) -> bool

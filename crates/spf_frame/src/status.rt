@@ -7,7 +7,8 @@ use spf_api::{GrpcStatusCode, GrpcStatusError, read_text_field};
 use spf_io::{OutOfMemory, Text};
 use std::alloc::Global;
 
-/// The text field that the bytes are, where nothing follows it. None where they are none.
+/// Returns the text field that the bytes are, where nothing follows it; None where they are not
+/// one.
 #[tactic(auto, unfolding(crate::specs::Status::text_at))]
 pub fn read_text(alloc: Global, bytes: &[u8]) -> Result<Option<Text>, OutOfMemory>
     ensures { IfOk result (λ o. o ≡ text_at bytes.now) }
@@ -21,8 +22,8 @@ pub fn read_text(alloc: Global, bytes: &[u8]) -> Result<Option<Text>, OutOfMemor
     Ok(Some(Text::copy_of(alloc, text)?))
 }
 
-/// The status that the bytes are, a code octet and its message,
-/// where nothing follows it. None where they are none.
+/// Returns the status that the bytes are, a code octet and its message, where nothing follows it;
+/// None where they are not one.
 #[tactic(auto, unfolding(crate::specs::Status::status_at))]
 pub fn read_status(alloc: Global, bytes: &[u8]) -> Result<Option<GrpcStatusError>, OutOfMemory>
     ensures { IfOk result (λ o. o ≡ status_at bytes.now) }

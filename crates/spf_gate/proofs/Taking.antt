@@ -81,7 +81,7 @@ pub end_known : (b : Option (List ℕ)) (q : List ℕ) (P : List ℕ → Type 0)
 end_known None q P end all = tt
 end_known (Some y) q P end all = subst (λ (l : List ℕ). P (q ++ l)) (sym end) all
 
--- a line that may stand keeps the rules of lines where it keeps those of its text
+-- a line that is allowed keeps the rules of lines where it keeps those of its text
 pub allowed : (max number : ℕ) (line : List ℕ) → number < max
     → line_rule max (number + 1) line ≡ text_rule (number + 1) line
 unfolding line_rule

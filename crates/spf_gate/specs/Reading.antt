@@ -41,7 +41,7 @@ abbrev pub IsFirstFeed : List ℕ → Option ℕ → Type 0
 IsFirstFeed bytes None = HasNoFeed bytes
 IsFirstFeed bytes (Some n) = (position_or_len is_feed bytes ≡ n) × (n < length bytes)
 
--- a further line may stand, where bytes of one are there
+-- one more line is allowed, where bytes of one are there
 abbrev pub HasRoom : List ℕ → ℕ → ℕ → Result (Unit {0}) GateError → Type 0
 HasRoom bytes max number (Ok done) = bytes ≢ [] → number < max
 HasRoom bytes max number (Err errors.TooManyLines) = (bytes ≢ []) × (max ≤ number)

@@ -70,7 +70,7 @@ policy_line line = if is_skipped line then Ok None else rule_or_broken (rule_of 
 
 -- ---- what rules match
 
--- a path that goes no further, or goes on with a slash
+-- the rest of a path: empty, or begun by a slash
 abbrev pub ends_or_goes_on : List ℕ → Bool
 ends_or_goes_on rest = length rest == 0 || begins (codes "/") rest
 

@@ -30,7 +30,7 @@ verdict_with rules (Some material) revision id =
     then verdict_by revision (first_match 1 rules id) else verdicts.NoBundle revision
 
 -- The verdict of the rules on an ID, by a view and its revision: Withdrawn where the view is;
--- NoBundle
--- where its set has no bundle of the ID's trust domain; otherwise by the first rule that matches.
+-- NoBundle where its bundle set has no bundle of the ID's trust domain; otherwise by the first rule
+-- that matches.
 abbrev pub verdict_of : List Rule → View Material Denial → ℕ → Id → Verdict
 verdict_of rules view revision id = verdict_with rules (held_in view) revision id

@@ -99,7 +99,7 @@ fn push_answer_text(
     }
 }
 
-/// The line that answers an ask, in place of what the buffer held.
+/// Writes the line that answers an ask into the buffer, in place of what that held.
 #[tactic(auto, unfolding(crate::specs::Answers::answer_line))]
 pub fn write_answer(
     alloc: Global,

@@ -11,7 +11,7 @@ pub enum GateError {
     /// An answer could not be written.
     #[error("write failed")]
     WriteFault,
-    /// A line of the policy is no rule.
+    /// A line of the policy is not a rule.
     #[error("bad rule in line {line}")]
     BadRule { line: u64 },
     /// The input ends before the policy does.
@@ -23,7 +23,7 @@ pub enum GateError {
     /// A line is not UTF-8.
     #[error("line {line} is no text")]
     NotText { line: u64 },
-    /// More lines than are allowed.
+    /// There are more lines than are allowed.
     #[error("too many lines")]
     TooManyLines,
     /// Memory ran out.

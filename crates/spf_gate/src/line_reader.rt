@@ -15,10 +15,10 @@ use memchr::memchr;
 use spf_io::Source;
 use std::alloc::Global;
 
-/// The most bytes of a line.
+/// The maximum number of bytes of a line.
 const MAX_LINE: usize = 4096;
 
-/// The bytes that are asked of the source at once.
+/// How many bytes are read at once.
 const PIECE: usize = 4096;
 
 /// Where the first line of the bytes ends.
@@ -54,7 +54,7 @@ fn read_more<S: Source>(
     }
 }
 
-/// After the last line that is allowed no byte may stand.
+/// Checks that no byte follows the last line that is allowed.
 fn check_room(octets: &[u8], max: u64, number: u64) -> Result<(), GateError>
     ensures { HasRoom octets.now max number result }
 {
@@ -82,8 +82,8 @@ fn first_feed(octets: &[u8]) -> Option<usize>
     memchr(b'\n', octets)
 }
 
-/// Reads until the bytes hold a whole line, or until the source ends. After the last line that is
-/// allowed no byte may stand, and no line may be too long.
+/// Reads until the bytes hold a whole line, or until the source ends. No byte may follow the last
+/// line that is allowed, and no line may be too long.
 fn fill_line<S: Source>(
     source: &mut S,
     piece: &mut [u8],
@@ -129,7 +129,8 @@ fn line_text(octets: &[u8], number: u64) -> Result<&str, GateError>
     }
 }
 
-/// What is read of an input beyond its lines so far, how many these are, and how many may be.
+/// Reads the lines of an input: what is read beyond the lines so far, how many these are, and how
+/// many there may be.
 #[derive(Debug, Drop)]
 pub(crate) struct LineReader {
     piece: [u8; PIECE],

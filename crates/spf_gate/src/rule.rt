@@ -20,7 +20,8 @@ pub enum Pattern {
     Id(SpiffeId),
     /// Each ID of this trust domain.
     Domain(TrustDomain),
-    /// Each ID of the same trust domain whose path is this one, or this one, `/` and more.
+    /// Each ID of the same trust domain whose path is this one, or this one followed by `/` and
+    /// more.
     Prefix(SpiffeId),
 }
 
@@ -156,7 +157,7 @@ fn rule_in(alloc: Global, text: &str) -> Result<Option<Rule>, OutOfMemory>
     }
 }
 
-/// The rule of a line of a policy. None for an empty line and for one that begins with `#`.
+/// Returns the rule of a line of a policy. None for an empty line and for one that begins with `#`.
 #[tactic(auto, unfolding(crate::specs::Rules::policy_line))]
 pub fn parse_rule(alloc: Global, line: &str) -> Result<Option<Rule>, RuleError>
     ensures { Gives is_memory (λ rule. rule) result (spec.policy_line line.now) }
@@ -170,14 +171,14 @@ pub fn parse_rule(alloc: Global, line: &str) -> Result<Option<Rule>, RuleError>
     }
 }
 
-/// Whether a path goes no further, or goes on with a slash.
+/// Whether the rest of a path is empty, or begins with a slash.
 fn ends_or_goes_on(rest: &[u8]) -> bool
     ensures { result ≡ spec.ends_or_goes_on rest.now }
 {
     matches!(rest, [] | [b'/', ..])
 }
 
-/// Whether a path is this one, or this one, `/` and more.
+/// Whether a path is this one, or this one followed by `/` and more.
 #[tactic(auto, unfolding(crate::specs::Rules::is_under))]
 fn is_under(own: &str, path: &str) -> bool
     ensures { result ≡ spec.is_under own.now path.now }

@@ -46,8 +46,8 @@ fn verdict_by(rules: &[Rule], revision: u64, id: &SpiffeId) -> Verdict
     }
 }
 
-/// The verdict on an ID: Withdrawn while the state is; NoBundle without a bundle of the ID's trust
-/// domain; otherwise by the first rule that matches. It takes no memory.
+/// Returns the verdict on an ID: Withdrawn while the state is; NoBundle without a bundle of the
+/// ID's trust domain; otherwise by the first rule that matches. It allocates nothing.
 pub fn decide(rules: &[Rule], state: &X509SourceState, id: &SpiffeId) -> Verdict
     ensures { result ≡ verdict_of rules.now state.now.view state.now.revision id.now }
 {

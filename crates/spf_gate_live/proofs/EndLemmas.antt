@@ -71,7 +71,7 @@ nine_of_other status end other status_is nine = other (by_nine end (sym status_i
 pub nine_of_refusal : (status : ℕ) → status ≡ end_status (Err errors.NoSupervisor) → status ≡ 9 → ⊥
 nine_of_refusal status status_is nine = cc
 
--- another status is no refusal of arguments
+-- another status does not refuse the arguments
 pub no_refusal : (end : Result (Unit {0}) LiveGateError) → (end_status end ≡ 9 → ⊥)
     → IsErrOf end errors.BadArguments → ⊥
 no_refusal end other is = other (ap end_status is)

@@ -26,7 +26,7 @@ use Rattle.spf_gate_live.specs.Ends.{end_status, error_line}
 use Rattle.spf_gate_live.specs.declared.live_error.LiveGateError.{LiveGateError}
 use Rattle.spf_gate_live.specs.declared.live_error.LiveGateError.TheVariants as errors
 
--- the most lines of an input
+-- the maximum number of lines of an input
 abbrev pub max_lines : ℕ
 max_lines = 1_000_000
 

@@ -8,8 +8,8 @@ ghost use Rattle.spf_program.specs.Streams.{side};
 use crate::live_error::{LiveGateError, message_of, number_of, status_of};
 use spf_io::Sink;
 
-/// Puts the line of an error to `errors`, and returns the exit status. That `errors` fails changes
-/// nothing.
+/// Puts the line of an error to `errors`, and returns the exit status. A failure of `errors`
+/// changes nothing.
 pub fn report<E: Sink>(errors: &mut E, end: Result<(), LiveGateError>) -> u8
     ensures status { result ≡ end_status end }
     ensures line { IsEndReported error_line (side (E.held errors.old) (E.failures errors.old))

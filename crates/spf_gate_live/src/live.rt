@@ -20,12 +20,12 @@ use spiffe::{X509Job, X509SourceBuilder};
 use std::alloc::Global;
 use std::sync::Wait;
 
-/// The max number of lines of an input.
+/// The maximum number of lines of an input.
 pub(crate) const MAX_LINES: u64 = 1_000_000;
 
 /// Answers the asks of the input from a source over the connector, and returns the exit status: 0
 /// where all were answered. Where they were not, a line on `errors` says why. However answering
-/// ends, the source is then closed, and its supervisor is waited for. There are no arguments.
+/// ends, the source is then closed, and its supervisor is waited for. It takes no arguments.
 pub fn gate_live<C, T, W, N, S, L, I, K, E, R>(
     rt: R,
     alloc: Global,

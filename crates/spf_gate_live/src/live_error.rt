@@ -16,12 +16,12 @@ pub enum LiveGateError {
     /// The asks were not answered to the end of the input.
     #[error("{0}")]
     Gate(GateError),
-    /// The endpoint is none, or the agent rejected the request.
+    /// The endpoint is invalid, or the agent rejected the request.
     #[error("request rejected")]
     Rejected,
     #[error("required RPC is unsupported")]
     Unsupported,
-    /// No thread was to be had.
+    /// No thread could be started.
     #[error("no supervisor")]
     NoSupervisor,
     /// The board had no place for another reader.

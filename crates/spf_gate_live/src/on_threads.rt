@@ -38,7 +38,7 @@ where
     // Status 9 comes exactly where there are arguments.
     ensures arguments { (result ≡ 9) ↔ (length arguments.now ≢ 0) }
     // As `gate_live` over the endpoint, the clock and the threads of the process: no clause says
-    // when a thread or a place is not to be had.
+    // when a thread or a place is not available.
     ensures ended { Ended None (⟦<HintPicker as SvidPicker>⟧.picks) (Ok tt) (Unit {0}) (Unit {0})
         (Rose (I.failures input.old) (I.failures input.new))
         (Rose (K.failures out.old) (K.failures out.new))

@@ -100,7 +100,7 @@ at_true : (b : Bool) (X : Type 0) → b ≡ true → OnTrue b X → X
 at_true true X is x = x
 at_true false X is x = absurd cc
 
--- ---- one step more
+-- ---- one more step
 
 module _ {D : Type 0} (seen : D → Image) (may_leave : D → Image → Type 0) (moment : D → ℕ)
     (left_since : D → ℕ → Image → Type 0) (failures : D → ℕ) (b : Beginning)

@@ -88,7 +88,7 @@ was_damaged (Err (errors.Follow answers.NeverSynced)) is = absurd (omega (arith,
 was_damaged (Err errors.DiskFault) is = absurd (omega (arith, is))
 was_damaged (Err errors.Full) is = absurd (omega (arith, is))
 
--- a damage is said, unless the disk failed or memory ran out
+-- damage is reported, unless the disk failed or memory ran out
 pub damage_said : {D : Type 0} (seen : D → Image) (may_leave : D → Image → Type 0)
     (failures : D → ℕ) (old new : D) (steps : List PlainStep) (r : Result ℕ HelperError)
     → Ran seen may_leave failures old new steps r → latest (seen old) ≡ Err opening.Damaged

@@ -25,7 +25,7 @@ pub record Helping (D : Type 0) : Type 0 where
   pub fault : Bool
   pub full : Bool
 
--- no entry has a greater number
+-- the entry, where there is one, has no greater number
 abbrev pub IsUpTo : ℕ → Option Entry → Type 0
 IsUpTo number None = Unit {0}
 IsUpTo number (Some e) = number_of e < number + 1

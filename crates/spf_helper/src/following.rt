@@ -37,7 +37,7 @@ fn ended(followed: Result<u64, FollowError>, fault: bool, full: bool) -> Result<
     }
 }
 
-/// Follows a session with a publisher that a call began with, and gives it back.
+/// Follows a session with a publisher that a call began with, and returns the publisher.
 fn follow_kept<'a, N: Origin, S: Source, K: Sink, D: Disk>(
     alloc: Global,
     source: &mut S,
@@ -74,7 +74,7 @@ fn follow_kept<'a, N: Origin, S: Source, K: Sink, D: Disk>(
     (followed, held.into_inner())
 }
 
-/// Follows a session over a disk that a call began with, and gives the disk back.
+/// Follows a session over a disk that a call began with, and returns the disk.
 pub(crate) fn follow_disk<'a, N: Origin, S: Source, K: Sink, D: Disk>(
     alloc: Global,
     source: &mut S,

@@ -85,7 +85,7 @@ impl<'a, D: Disk> LentDisk for &'a mut D {
     }
 }
 
-/// Follows a session over a disk that a call began with, and gives the disk back.
+/// Follows a session over a disk that a call began with, and returns the disk.
 pub(crate) fn follow_lent<N: Origin, T: LentDisk, S: Source, K: Sink>(
     alloc: Global,
     source: &mut S,

@@ -107,7 +107,7 @@ impl<'a, D: Disk> HelperPublisher<'a, D> {
         disk
     }
 
-    /// How many of the first steps are written.
+    /// Returns how many of the first steps are written.
     pub fn acknowledged(&self) -> u64
         ensures count { result ≡ self.now.acknowledged }
         // Unless the disk failed or the numbers ran out, all
@@ -118,14 +118,14 @@ impl<'a, D: Disk> HelperPublisher<'a, D> {
         self.acknowledged
     }
 
-    /// Whether the disk failed. After that no step is written.
+    /// Returns whether the disk failed. After that no step is written.
     pub fn fault(&self) -> bool
         ensures { result ≡ self.now.fault }
     {
         self.fault
     }
 
-    /// Whether a step came for which there is no number. After that no step is written.
+    /// Returns whether a step came for which there is no number. After that no step is written.
     pub fn full(&self) -> bool
         ensures { result ≡ self.now.full }
     {
@@ -138,7 +138,7 @@ impl<'a, D: Disk> Publisher for HelperPublisher<'a, D> {
 
     ghost steps = { λ p. Some p.steps };
 
-    /// Memory is taken before anything is written; where there is none, nothing is changed.
+    /// Memory is allocated before anything is written; where it runs out, nothing is changed.
     fn publish(&mut self, step: Step) -> Result<(), OutOfMemory>
         ensures appends { RecordAppends (Some self.old.steps) (Some self.new.steps) result
             (plain step) }

@@ -50,7 +50,8 @@ pub fn helper_watch<S: Source, D: Disk, K: Sink, E: Sink>(
           failures = E.failures errors.old;
           failures' = E.failures errors.new;
         }) result }
-    // Each failure comes only where its count rose, and a damage only of what the disk held.
+    // Each failure comes only where its count rose, and damage is reported only of what the disk
+    // held.
     ensures read_fault { result ≡ 3 → Rose (S.failures source.old) (S.failures source.new) }
     ensures write_fault { result ≡ 4 → Rose (K.failures out.old) (K.failures out.new) }
     ensures disk_fault { result ≡ 21 → Rose (D.failures disk.old) (D.failures disk.new) }

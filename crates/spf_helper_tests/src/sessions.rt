@@ -133,7 +133,7 @@ fn written(alloc: Global, disk: &mut MemDisk, frames: &str) -> Result<u64, Fail>
     Ok(publisher.acknowledged())
 }
 
-/// The number that is found after so many steps of RECOVERY, which accept, deny and accept again.
+/// The number that is found after this many steps of RECOVERY, which accept, deny and accept again.
 fn number_after(steps: u64) -> Option<u64> {
     match steps {
         1 => Some(1),
@@ -142,7 +142,7 @@ fn number_after(steps: u64) -> Option<u64> {
     }
 }
 
-/// Whether a crash leaves what so many steps say, or one more.
+/// Whether a crash leaves what this many steps say, or one more.
 fn crashes_whole(alloc: Global, disk: &MemDisk, fill: u8, steps: u64) -> Result<bool, Fail> {
     let mut crashed = disk.crash(fill)?;
     if holds(alloc, &mut crashed, number_after(steps))? {
@@ -151,7 +151,7 @@ fn crashes_whole(alloc: Global, disk: &MemDisk, fill: u8, steps: u64) -> Result<
     holds(alloc, &mut crashed, number_after(steps.saturating_add(1)))
 }
 
-/// Whether each crash of a disk that stops after so many calls leaves what the written steps say,
+/// Whether each crash of a disk that stops after this many calls leaves what the written steps say,
 /// or one more.
 fn stops_whole(alloc: Global, calls: u64) -> Result<bool, Fail> {
     let mut disk = MemDisk::stopping(alloc, calls);
@@ -161,8 +161,8 @@ fn stops_whole(alloc: Global, calls: u64) -> Result<bool, Fail> {
     Ok(zeros && ones && crashes_whole(alloc, &disk, 255, steps)?)
 }
 
-/// Whether a session over a disk that stops after so many calls ends well, and then a crash leaves
-/// what all steps say.
+/// Whether a session over a disk that stops after this many calls ends well, and then a crash
+/// leaves what all steps say.
 fn ends_whole(alloc: Global, calls: u64) -> Result<bool, Fail> {
     let mut disk = MemDisk::stopping(alloc, calls);
     if !followed(alloc, &mut disk, RECOVERY)? {

@@ -59,7 +59,7 @@ ended_stays (entry.End ∷ old) (entry.Step t ∷ new) p ends ended = cc (p.1)
 ended_stays (entry.End ∷ []) (entry.End ∷ new) p ends ended = ap (λ l. entry.End ∷ l) ends
 ended_stays (entry.End ∷ (f ∷ old)) (entry.End ∷ new) p ends ended = cc (p.1, ends)
 
--- an entry behind a list that has not ended is its last
+-- after a list that has not ended, with one more entry, nothing follows an End
 pub ends_next : {S : Type 0} (list : List (Entry S)) (e : Entry S) → is_ended list ≡ false
     → EndsLast (list ++ e ∷ [])
 unfolding is_ended EndsLast

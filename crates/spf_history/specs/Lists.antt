@@ -10,7 +10,7 @@ steps_of [] = []
 steps_of (entry.Step s ∷ later) = s ∷ steps_of later
 steps_of (entry.End ∷ later) = steps_of later
 
--- an End is there
+-- the list has an End
 unfoldable pub is_ended : {S : Type 0} → List (Entry S) → Bool
 is_ended [] = false
 is_ended (entry.Step s ∷ later) = is_ended later

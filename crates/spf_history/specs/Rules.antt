@@ -1,4 +1,4 @@
--- The rule of a history, and what its step tells.
+-- The rule of a history, and what a step of its scribe does.
 use Rattle.std.specs.Prelude.{ℕ, ◌≡◌, ◌≢◌, ◌==◌, true, List, [], ◌∷◌, ◌++◌, length, MatchBool}
 use Rattle.logbook.specs.Pages.{Cell, Step, View, Book, Named}
 use Rattle.spf_history.specs.declared.entry.Entry.{Entry}

@@ -45,7 +45,7 @@ impl<K: Kind> Front<K> {
         }
     }
 
-    /// A copy, which takes no memory.
+    /// Returns a copy, which allocates nothing.
     pub fn again(&self) -> Front<K>
         ensures same { result ≡ self.now }
         ensures history { IsBoardList K.legal result.list }
@@ -56,7 +56,8 @@ impl<K: Kind> Front<K> {
         }
     }
 
-    /// Whether it begins another one of the same history, which otherwise is shorter.
+    /// Returns whether this front is a beginning of another one of the same history, which
+    /// otherwise is the shorter one.
     pub fn begins(&self, other: &Front<K>) -> bool
         requires { self.now.book ≡ other.now.book }
         ensures { MatchBool result (IsPrefix self.now.list other.now.list)
@@ -67,7 +68,7 @@ impl<K: Kind> Front<K> {
         self.number <= other.number
     }
 
-    /// Whether two of the same history are the same.
+    /// Returns whether two fronts of the same history are the same.
     pub fn is_same(&self, other: &Front<K>) -> bool
         requires { self.now.book ≡ other.now.book }
         ensures same { OnTrue result (self.now.list ≡ other.now.list) }

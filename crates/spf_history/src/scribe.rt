@@ -12,7 +12,7 @@ use crate::law::{Adding, EndOf, Law, Nothing, StepOf};
 use logbook::{Offer, Plain, Seen, Start, Word};
 use std::marker::Model;
 
-/// How many entries a history has at most.
+/// The greatest number of entries of a history.
 const MOST: u64 = 1 << 62;
 
 /// What writes a history. Contracts see what it has written.
@@ -44,7 +44,7 @@ impl<K: Kind> Scribe<K> {
     ghost use Rattle.spf_history.specs.Lists.{IsBoardList, MayFollow};
     ghost use Rattle.spf_history.specs.Past.{added};
 
-    /// A history of one step.
+    /// Returns a history of one step.
     pub fn new(first: &K::Step) -> Option<Scribe<K>>
         requires { MayFollow K.legal [] (entry.Step first.now) }
         ensures { IfSome result (λ s. s.list ≡ entry.Step first.now ∷ []) }
@@ -58,7 +58,7 @@ impl<K: Kind> Scribe<K> {
         Some(Scribe { head, number, seen })
     }
 
-    /// What it has written.
+    /// Returns what it has written.
     pub fn front(&self) -> Front<K>
         ensures same { result ≡ self.now }
         ensures history { IsBoardList K.legal result.list }
@@ -66,8 +66,8 @@ impl<K: Kind> Scribe<K> {
         Front::new(self.number, &self.seen)
     }
 
-    /// Adds a step. It does not at the greatest length of a history,
-    /// nor where somebody else has written, which nobody can.
+    /// Adds a step, and returns whether it did. It does not where the history has its greatest
+    /// length, or where something else has written to it, which nothing can.
     pub fn add(&mut self, step: &K::Step) -> bool
         requires { MayFollow K.legal self.old.list (entry.Step step.now) }
         ensures book { self.new.book ≡ self.old.book }
@@ -76,7 +76,7 @@ impl<K: Kind> Scribe<K> {
         write::<K, K::Step, StepOf>(&self.head, &mut self.number, &mut self.seen, step)
     }
 
-    /// Adds the end, as `add` does a step.
+    /// Adds the end, as `add` adds a step.
     pub fn end(&mut self) -> bool
         requires { MayFollow K.legal self.old.list entry.End }
         ensures book { self.new.book ≡ self.old.book }
@@ -86,7 +86,7 @@ impl<K: Kind> Scribe<K> {
     }
 }
 
-// Adds an entry behind all that was seen.
+// Adds an entry after all that was seen.
 fn write<K: Kind, X, M: Plain<X, Entry<K::Step>, u64>>(
     head: &Word<Entry<K::Step>, u64, Law<K>>,
     number: &mut u64,

@@ -51,7 +51,7 @@ pub colon_found : (xs after : List ℕ) → position_or_len is_colon xs < length
     → starts_with nat_eq after (codes "/") ≡ true → holds_colon_slash xs ≡ true
 colon_found xs after lt is slash = colon_first xs lt ∙ ap goes_on (sym is) ∙ rw slash refl
 
--- or by something else
+-- the first colon is followed by something else
 pub colon_passed : (xs after : List ℕ) → position_or_len is_colon xs < length xs
     → after ≡ after_first is_colon xs
     → starts_with nat_eq after (codes "/") ≡ false → holds_colon_slash xs ≡ holds_colon_slash after

@@ -70,7 +70,7 @@ order_of_text a b same =
     (ap (λ (x : Id). x.domain)
     (same ((bytes_exact (id_text a) (id_text b)).0 (texts_ties (id_text a) (id_text b) ∙ tie)))))
 
--- since the rules give one ID for a text
+-- the rules give one ID for a text
 pub one_id : (a b : Id) (s t : List ℕ) → s ≡ id_text a → id_rule s ≡ Ok a → t ≡ id_text b
     → id_rule t ≡ Ok b → id_text a ≡ id_text b → a ≡ b
 one_id a b s t of_a rule_a of_b rule_b text =

@@ -2,8 +2,8 @@ use spf_io::OutOfMemory;
 use std::alloc::{AllocError, AllocFailed};
 use thiserror::Error;
 
-/// Why a text is no SPIFFE ID or names no trust domain.
-/// The first broken rule decides, in this order.
+/// Why a text is not a SPIFFE ID or names no trust domain. The first broken rule decides, in this
+/// order.
 #[derive(Clone, Copy, Debug, PartialEq, Eq, Hash, Error)]
 pub enum SpiffeIdError {
     /// The text is empty.

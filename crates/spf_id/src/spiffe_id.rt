@@ -48,7 +48,7 @@ fn is_lower_case_scheme(octets: &[u8]) -> bool
     matches!(octets, [b's', b'p', b'i', b'f', b'f', b'e', b':'])
 }
 
-/// Whether a URI begins with `spiffe:`, ASCII case apart.
+/// Returns whether a URI begins with `spiffe:`, ignoring ASCII case.
 #[tactic(auto, unfolding(crate::specs::Rule::has_spiffe_scheme))]
 pub fn uri_has_spiffe_scheme(uri: &str) -> bool
     ensures { result ≡ has_spiffe_scheme uri.now }
@@ -61,7 +61,7 @@ pub fn uri_has_spiffe_scheme(uri: &str) -> bool
 }
 
 impl SpiffeId {
-    /// The ID that a text is, or the first broken rule.
+    /// Returns the ID that a text is, or the first broken rule.
     pub fn new(alloc: Global, text: &str) -> Result<SpiffeId, SpiffeIdError>
         ensures { Gives is_memory (λ id. id) result (id_rule text.now) }
     {
@@ -91,7 +91,7 @@ impl SpiffeId {
         &self.domain
     }
 
-    /// The path, which is empty or begins with `/`.
+    /// Returns the path, which is empty or begins with `/`.
     pub fn path(&self) -> &str
         ensures { result.now ≡ self.now.path }
     {
@@ -108,7 +108,7 @@ impl SpiffeId {
         self.text.as_str()
     }
 
-    /// A copy of the ID.
+    /// Returns a copy of the ID.
     pub fn try_clone(&self, alloc: Global) -> Result<SpiffeId, OutOfMemory>
         ensures { IfOk result (λ id. id ≡ self.now) }
     {

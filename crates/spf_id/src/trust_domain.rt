@@ -71,8 +71,8 @@ fn name_in(text: &str) -> Result<&str, SpiffeIdError>
 }
 
 impl TrustDomain {
-    /// The trust domain that a text names. A text that holds
-    /// `:/` is read as an ID, and its trust domain is taken.
+    /// Returns the trust domain that a text names. A text that holds `:/` is read as an ID, and its
+    /// trust domain is taken.
     pub fn new(alloc: Global, text: &str) -> Result<TrustDomain, SpiffeIdError>
         ensures { Gives is_memory (λ t. t) result (name_rule text.now) }
     {
@@ -122,7 +122,7 @@ impl TrustDomain {
         self.name.as_str()
     }
 
-    /// A copy of the trust domain.
+    /// Returns a copy of the trust domain.
     pub fn try_clone(&self, alloc: Global) -> Result<TrustDomain, OutOfMemory>
         ensures { IfOk result (λ t. t ≡ self.now) }
     {

@@ -24,8 +24,8 @@ abbrev pub each : {A B E : Type 0} → (A → Result B E) → List A → Result 
 each f [] = Ok []
 each f (x ∷ xs) = f x >>= λ y. each f xs >>= λ ys. Ok (y ∷ ys)
 
--- A rule for each of the pieces of which the bytes are the concatenation, at most `n` of them:
--- the values, or the first broken rule, which is `spent` where bytes are left after `n` pieces.
+-- A rule for each of the pieces whose concatenation the bytes are, at most `n` of them: the values,
+-- or the first broken rule, which is `spent` where bytes are left after `n` pieces.
 abbrev pub many : {A E : Type 0} → (List ℕ → Result (A × List ℕ) E) → E → ℕ → List ℕ
     → Result (List A) E
 many one spent n [] = Ok []

@@ -27,7 +27,7 @@ impl Bytes {
         Bytes { bytes }
     }
 
-    /// A copy of the bytes.
+    /// Returns a copy of the bytes.
     pub fn copy_of(alloc: Global, bytes: &[u8]) -> Result<Bytes, OutOfMemory>
         ensures { IfOk result (λ b. b ≡ bytes.now) }
     {
@@ -47,7 +47,7 @@ impl Bytes {
         self.bytes
     }
 
-    /// A copy of the bytes.
+    /// Returns a copy of the bytes.
     pub fn try_clone(&self, alloc: Global) -> Result<Bytes, OutOfMemory>
         ensures { IfOk result (λ b. b ≡ self.now) }
     {

@@ -51,8 +51,8 @@ impl Model for MemSink {
 }
 
 impl MemSink {
-    /// Takes its room at once. Put number k, from 1, fails exactly where k is in `failing` or the
-    /// piece does not fit in the room that is left; it then keeps nothing of the piece.
+    /// Allocates its room at once. Put number k, from 1, fails exactly where k is in `failing` or
+    /// the piece does not fit in the room that is left; it then keeps nothing of the piece.
     pub fn new(alloc: Global, room: usize, failing: Vec<u64>) -> Result<MemSink, OutOfMemory>
         ensures held { IfOk result (λ s. ⟦<MemSink as Sink>⟧.held s ≡ Some []) }
         ensures failures { IfOk result (λ s. ⟦<MemSink as Sink>⟧.failures s ≡ 0) }

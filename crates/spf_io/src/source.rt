@@ -18,7 +18,8 @@ pub trait Source {
     // How often the source has failed.
     ghost failures: { Self → ℕ };
 
-    /// Reads the first of the bytes left. 0 into a buffer with room is the end of input.
+    /// Reads the first of the bytes left. A result of 0 for a buffer that is not empty is the end
+    /// of input.
     fn read(&mut self, buf: &mut [u8]) -> Result<usize, Failed>
         ensures bound { ReadsAtMost result buf.new }
         ensures bytes { ReadConsumes (left self.old) (left self.new) result buf.new }

@@ -28,7 +28,7 @@ impl Text {
         Text { string: text }
     }
 
-    /// A copy of the text.
+    /// Returns a copy of the text.
     pub fn copy_of(alloc: Global, text: &str) -> Result<Text, OutOfMemory>
         ensures { IfOk result (λ t. t ≡ text.now) }
     {
@@ -48,7 +48,7 @@ impl Text {
         self.string
     }
 
-    /// A copy of the text.
+    /// Returns a copy of the text.
     pub fn try_clone(&self, alloc: Global) -> Result<Text, OutOfMemory>
         ensures { IfOk result (λ t. t ≡ self.now) }
     {

@@ -4,7 +4,7 @@ ghost use Rattle.std.specs.Prelude.{ℕ};
 
 use spf_io::Failed;
 
-/// What a thread does.
+/// A job: what a thread does.
 pub trait Job: Drop {
     type Done: Drop;
 
@@ -25,7 +25,7 @@ pub trait Joins<J: Job> {
         ensures { J.may_give (job self) result };
 }
 
-/// What starts jobs. It counts how often it refused.
+/// Starts jobs, and counts how often it refused.
 pub trait Spawner<J: Job> {
     ghost use Rattle.spf_job.specs.Starts.{Starts};
 

@@ -5,8 +5,6 @@ mod inline;
 mod job;
 mod refusing;
 mod step_words;
-#[cfg(test)]
-mod tests;
 mod threads;
 
 pub use inline::{Held, InlineSpawner};

@@ -19,7 +19,7 @@ impl RefusingSpawner {
         RefusingSpawner { refusals: 0 }
     }
 
-    /// How often it has refused.
+    /// Returns how often it has refused.
     pub fn refusals(&self) -> u64
         ensures { result ≡ self.now.refusals }
     {

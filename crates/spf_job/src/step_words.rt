@@ -1,4 +1,4 @@
-//! Plain random words.
+//! Random words, good enough for the jitter of pauses.
 
 ghost use Rattle.std.specs.Prelude.{◌≡◌, ℕ};
 ghost use Rattle.rand_core.specs.Steps.{stream_of};
@@ -8,8 +8,8 @@ use rand_core::utils::NextWord;
 use rand_core::{Rng, utils};
 use std::marker::Model;
 
-/// Words by a linear congruence: good enough for the jitter of pauses, and the same words for the
-/// same seed. Contracts see the state.
+/// Random words by a linear congruential generator: good enough for the jitter of pauses, and the
+/// same words for the same seed. Contracts see the state.
 #[derive(Debug, Drop)]
 pub struct StepWords {
     state: u64,
@@ -28,7 +28,8 @@ impl StepWords {
         StepWords { state: seed }
     }
 
-    /// The words whose seed is a moment of the clock, in Unix seconds; 0 where there is none.
+    /// Returns the generator whose seed is a moment of the clock, in Unix seconds; 0 where there is
+    /// none, or it is before the epoch.
     pub fn seeded_at(moment: Option<i64>) -> StepWords
         ensures { result ≡ seed_of moment }
     {

@@ -8,7 +8,7 @@ use std::snapshot::Snapshot;
 use std::thread;
 use std::thread::{Promise, PromisedHandle, Threads};
 
-/// That a job leaves what it may leave.
+/// The promise that a job leaves what it may leave.
 #[derive(Drop)]
 pub struct Gives<J: Job>(Snapshot<J>);
 

@@ -23,7 +23,8 @@ abbrev pub is_memory_keys : JwtBundleError → Bool
 is_memory_keys keys.OutOfMemory = true
 is_memory_keys _ = false
 
--- the same error; a text that is no JSON is said to be so, whatever `serde_json` says beside it
+-- the same error; a text that is not JSON is reported as that, whatever else `serde_json` says of
+-- it
 abbrev pub of_any_kind : JwtBundleError → JwtBundleError
 of_any_kind (keys.Json kind) = keys.Json (record { kind = Syntax })
 of_any_kind e = e
@@ -36,7 +37,7 @@ abbrev pub is_memory_token : JwtSvidError → Bool
 is_memory_token token.OutOfMemory = true
 is_memory_token _ = false
 
--- how a text that is no SPIFFE ID reads as a claim `sub`
+-- how a text that is not a SPIFFE ID reads as a claim `sub`
 abbrev pub sub_of : SpiffeIdError → JwtSvidError
 sub_of id.OutOfMemory = token.OutOfMemory
 sub_of e = token.InvalidSub e

@@ -1,4 +1,4 @@
--- What keeps the limits.
+-- Which bundle sets keep the limits.
 use Rattle.std.specs.Prelude.{ℕ, ◌-◌, ◌^◌, nat_lt, min, sum_by, List, [], ◌∷◌, length, codes}
 use Rattle.std.specs.Prelude.{if◌then◌else◌, Option, None, Some, Result, Ok, Err}
 use Rattle.spf_io.specs.Rule.{◌>>=◌}
@@ -28,7 +28,7 @@ within_limit kind (Some limit) actual =
 abbrev pub octets_in : List (List ℕ × Authority) → ℕ
 octets_in keys = min (sum_by (λ (k : List ℕ × Authority). length k.1.jwk) keys) (2 ^ 64 - 1)
 
--- the keys of each trust domain in order
+-- the limit of each bundle, in the order of the trust domains
 abbrev pub within_bundles : Option ℕ → List (List ℕ × Bundle) → Result (Unit {0}) JwtLimitBroken
 within_bundles limit [] = Ok tt
 within_bundles limit (e ∷ es) =

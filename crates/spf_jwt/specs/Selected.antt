@@ -12,7 +12,7 @@ use Rattle.spf_jwt.specs.Responses.{entries_required, jwt_svids_of}
 use Rattle.spf_jwt.specs.Token.{Svid, token_rule}
 use Rattle.spf_jwt.specs.Validation.{validation_rule}
 
--- a list of SVIDs or of their entries holds one
+-- the first of a list of SVIDs or of their entries, which must have one
 abbrev pub first_of : {A : Type 0} → List A → Result A WorkloadApiError
 first_of [] = Err (api.MissingRequiredField (codes "JWTSVIDResponse.svids"))
 first_of (x ∷ others) = Ok x

@@ -107,7 +107,7 @@ abbrev pub kid_rule : Option Data → Result (Option (List ℕ)) JwtSvidError
 kid_rule None = Ok None
 kid_rule (Some d) = kid_text (as_str d)
 
--- the key that a header names
+-- the key that a header names, where its algorithm and type are allowed
 abbrev pub header_rule : Data → Result (Option (List ℕ)) JwtSvidError
 header_rule d =
     alg_rule (option_and_then as_str (get (codes "alg") d))

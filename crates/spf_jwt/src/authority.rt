@@ -32,7 +32,7 @@ impl Model for JwtAuthority {
     ghost inverse = { λ v. record { key_id = v.key_id; jwk_json = v.jwk } };
 }
 
-/// The value of a JSON text whose numbers are whole ones of 64 bits.
+/// The value of a JSON text whose numbers are integers of 64 bits.
 pub(crate) fn whole_value(alloc: Global, jwk: &[u8]) -> Result<Value, JwtBundleError>
     ensures gives { Gives is_memory_keys view (broken_as of_any_kind result)
         (whole_rule (data_of jwk.now)) }
@@ -52,7 +52,7 @@ pub(crate) fn whole_value(alloc: Global, jwk: &[u8]) -> Result<Value, JwtBundleE
 }
 
 impl JwtAuthority {
-    /// The key that a JSON text is, or the first broken rule.
+    /// Returns the key that a JSON text is, or the first broken rule.
     pub fn from_jwk_json(alloc: Global, jwk: &[u8]) -> Result<JwtAuthority, JwtBundleError>
         ensures { Gives is_memory_keys (λ a. a) (broken_as of_any_kind result)
             (authority_of jwk.now) }
@@ -79,7 +79,7 @@ impl JwtAuthority {
         Ok(JwtAuthority { key_id, jwk_json })
     }
 
-    /// A copy of the key.
+    /// Returns a copy of the key.
     pub fn try_clone(&self, alloc: Global) -> Result<JwtAuthority, OutOfMemory>
         ensures { IfOk result (λ a. a ≡ self.now) }
     {
@@ -89,14 +89,14 @@ impl JwtAuthority {
         })
     }
 
-    /// The `kid`, which is not empty.
+    /// Returns the `kid`, which is not empty.
     pub fn key_id(&self) -> &str
         ensures { result.now ≡ self.now.key_id }
     {
         self.key_id.as_str()
     }
 
-    /// The key as JSON without spaces, with the names of each object in order.
+    /// Returns the key as JSON without spaces, with the names of each object in order.
     pub fn jwk_json(&self) -> &[u8]
         ensures { result.now ≡ self.now.jwk }
     {

@@ -22,8 +22,8 @@ use std::alloc::Global;
 use std::collections::{BTreeMap, btree_map};
 use std::marker::Model;
 
-/// A trust domain and its keys by `kid`, of which the last of an equal one stands
-/// (SPIFFE Trust Domain and Bundle section 4). Contracts see them in the order of the `kid`.
+/// A trust domain and its keys by `kid`; of keys with the same `kid` the last one counts (SPIFFE
+/// Trust Domain and Bundle section 4). Contracts see them in the order of the `kid`.
 #[derive(Debug, Drop)]
 pub struct JwtBundle {
     trust_domain: TrustDomain,
@@ -54,7 +54,7 @@ impl Model for JwtBundle {
 }
 
 impl JwtBundle {
-    /// A bundle without keys.
+    /// Returns a bundle without keys.
     pub fn new(alloc: Global, trust_domain: TrustDomain) -> JwtBundle
         ensures { result ≡ record { domain = trust_domain; authorities = [] } }
     {
@@ -66,7 +66,7 @@ impl JwtBundle {
         }
     }
 
-    /// The bundle of a key set (RFC 7517 section 5).
+    /// Returns the bundle of a key set (RFC 7517 section 5).
     pub fn from_jwt_authorities(
         alloc: Global,
         trust_domain: TrustDomain,
@@ -96,8 +96,8 @@ impl JwtBundle {
         Ok(bundle)
     }
 
-    /// Whether this is the bundle of that trust domain, and
-    /// keeps exactly these bytes as its key set. It takes no memory.
+    /// Returns whether this is the bundle of that trust domain, and keeps exactly these bytes as
+    /// its key set. It allocates nothing.
     pub fn is_parsed_from(&self, trust_domain: &TrustDomain, jwks: &[u8]) -> bool
         ensures { IsTrue result
             → bundle_of trust_domain.now (key_set_of jwks.now) ≡ Ok self.now }
@@ -108,7 +108,7 @@ impl JwtBundle {
         }
     }
 
-    /// Replaces the key of its `kid`.
+    /// Adds a key, which replaces the one with the same `kid`.
     pub fn add_jwt_authority(&mut self, authority: JwtAuthority) -> Result<(), OutOfMemory>
         ensures ok { OnOk result (self.new ≡ record {
           domain = self.old.domain;
@@ -139,14 +139,14 @@ impl JwtBundle {
         Ok(())
     }
 
-    /// The key of that `kid`.
+    /// Returns the key with that `kid`.
     pub fn find_jwt_authority(&self, key_id: &str) -> Option<&JwtAuthority>
         ensures { option_map (λ a. a.now) result ≡ find_entry key_id.now self.now.authorities }
     {
         self.authorities.get(key_id)
     }
 
-    /// The keys in the order of their `kid`.
+    /// Returns the keys in the order of their `kid`.
     pub fn jwt_authorities(&self) -> JwtAuthorityIter<'_>
         ensures keys { result ≡ map (λ e. e.1) self.now.authorities }
         ensures order { IsInOrder self.now.authorities }

@@ -43,7 +43,7 @@ impl JwtBundleSet {
         }
     }
 
-    /// Replaces the bundle of its trust domain.
+    /// Adds a bundle, which replaces the one of its trust domain.
     pub fn add_bundle(&mut self, bundle: JwtBundle) -> Result<(), OutOfMemory>
         ensures ok { OnOk result (self.new ≡ with_entry self.old bundle.domain bundle) }
         ensures found { OnOk result (find_entry bundle.domain self.new ≡ Some bundle) }
@@ -54,7 +54,7 @@ impl JwtBundleSet {
         self.add_shared(bundle)
     }
 
-    /// The same with a share of a bundle.
+    /// The same for a shared bundle.
     pub fn add_shared(&mut self, bundle: Arc<JwtBundle>) -> Result<(), OutOfMemory>
         ensures ok { OnOk result
             (self.new ≡ with_entry self.old (arc_value bundle).domain (arc_value bundle)) }
@@ -78,7 +78,7 @@ impl JwtBundleSet {
         Ok(())
     }
 
-    /// A share of the bundle of that trust domain.
+    /// Returns a share of the bundle of that trust domain.
     pub fn get(&self, trust_domain: &TrustDomain) -> Result<Option<Arc<JwtBundle>>, OutOfMemory>
         ensures { IfOk result (λ o. option_map arc_value o ≡ find_entry trust_domain.now self.now) }
     {
@@ -94,7 +94,7 @@ impl JwtBundleSet {
         self.bundles.get(trust_domain)
     }
 
-    /// The pairs of trust domain and bundle, in the order of the trust domains.
+    /// Returns the pairs of trust domain and bundle, in the order of the trust domains.
     pub fn iter(&self) -> JwtBundleIter<'_>
         ensures pairs { result ≡ self.now }
         ensures order { IsInOrder self.now }

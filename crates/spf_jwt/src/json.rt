@@ -44,7 +44,7 @@ pub(crate) fn read(alloc: Global, bytes: &[u8]) -> Result<Value, JsonFault>
     }
 }
 
-/// Whether a number in the value, at any depth, is not a whole one of 64 bits.
+/// Whether a number in the value, at any depth, is not an integer of 64 bits.
 #[cycle(holds_float)]
 pub(crate) fn holds_float(value: &Value) -> bool
     ensures { result ≡ has_float (view value.now) }

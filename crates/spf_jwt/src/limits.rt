@@ -8,11 +8,11 @@ use crate::bundle::JwtBundle;
 use crate::bundle_set::JwtBundleSet;
 use std::fmt;
 
-/// The most that a bundle set may hold. None is no limit.
+/// The limits of what a bundle set may hold. `None` means no limit.
 #[derive(Clone, Copy, Debug, PartialEq, Eq)]
 pub struct JwtResourceLimits {
     pub max_bundles: Option<usize>,
-    /// The most octets of the keys of one trust domain.
+    /// How many octets the keys of one trust domain may have.
     pub max_bundle_jwks_bytes: Option<usize>,
 }
 
@@ -92,7 +92,7 @@ pub struct JwtLimitBroken {
     pub actual: usize,
 }
 
-/// The limit is broken only above its number.
+/// Checks a limit, which is passed only above its number.
 fn within(kind: JwtLimitKind, limit: Option<usize>, actual: usize) -> Result<(), JwtLimitBroken>
     ensures { result ≡ within_limit kind limit actual }
 {
@@ -117,7 +117,7 @@ fn key_octets(bundle: &JwtBundle) -> usize
     total
 }
 
-/// The octets of each bundle, in the order of the trust domains.
+/// Checks the octets of each bundle, in the order of the trust domains.
 fn within_bundles(set: &JwtBundleSet, limit: Option<usize>) -> Result<(), JwtLimitBroken>
     ensures { result ≡ spec.within_bundles limit set.now }
 {
@@ -127,8 +127,8 @@ fn within_bundles(set: &JwtBundleSet, limit: Option<usize>) -> Result<(), JwtLim
     Ok(())
 }
 
-/// The first limit that is passed: bundles, then octets
-/// per bundle in the order of the trust domains.
+/// Checks the limits, and returns the first that is passed: bundles, then octets per bundle in the
+/// order of the trust domains.
 #[tactic(auto, unfolding(crate::specs::Limits::within))]
 pub fn validate_jwt_limits(
     set: &JwtBundleSet,

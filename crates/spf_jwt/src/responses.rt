@@ -48,8 +48,8 @@ fn named_bundles(alloc: Global, entries: &[BundleEntry]) -> Result<Vec<JwtBundle
     Ok(bundles)
 }
 
-/// Returns the bundles of the response, of which a
-/// later one of a trust domain replaces an earlier one.
+/// Returns the bundles of the response, where a later one of a trust domain replaces an earlier
+/// one.
 #[tactic(auto, unfolding(crate::specs::Responses::jwt_bundle_set_of))]
 pub fn jwt_bundle_set_from(
     alloc: Global,
@@ -103,7 +103,7 @@ pub(crate) fn require_entries(alloc: Global, r: &JwtSvidsResponse) -> Result<(),
     check_entries(alloc, r.svids.as_slice())
 }
 
-/// A hint, which is none where it is empty.
+/// A hint, where an empty one counts as none.
 fn hint_of(alloc: Global, hint: &str) -> Result<Option<Text>, OutOfMemory>
     ensures { IfOk result (λ t. t ≡ hint_rule hint.now) }
 {

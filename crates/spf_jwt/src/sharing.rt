@@ -1,5 +1,5 @@
-//! The bundles of a response, of which those are shared
-//! that are held and were read from the same bytes.
+//! The bundles of a response, which are shared with the held ones that were read from the same
+//! bytes.
 
 ghost use Rattle.std.specs.Prelude.{◌≡◌, IfOk, IfSome};
 ghost use Rattle.std.specs.Arc.{arc_value};

@@ -102,7 +102,7 @@ fn copies(alloc: Global, texts: &[Text]) -> Result<List<Text>, OutOfMemory>
 }
 
 impl JwtSvid {
-    /// What a token says, or the first broken rule. Its signature is not checked.
+    /// Returns what a token says, or the first broken rule. Its signature is not checked.
     #[tactic(auto, unfolding(crate::specs::Token::token_rule))]
     pub fn parse_insecure(alloc: Global, token: &str) -> Result<JwtSvid, JwtSvidError>
         ensures { Gives is_memory_token (λ s. s) result (token_rule token.now) }
@@ -164,7 +164,7 @@ impl JwtSvid {
         JwtSvid { hint, ..self }
     }
 
-    /// A copy of the SVID.
+    /// Returns a copy of the SVID.
     pub fn try_clone(&self, alloc: Global) -> Result<JwtSvid, OutOfMemory>
         ensures { IfOk result (λ s. s ≡ self.now) }
     {
@@ -184,14 +184,14 @@ impl JwtSvid {
         &self.spiffe_id
     }
 
-    /// For whom the token is meant: one text at least.
+    /// Returns the audience of the token, which is not empty.
     pub fn audience(&self) -> &[Text]
         ensures { result.now ≡ self.now.audience }
     {
         self.audience.as_slice()
     }
 
-    /// When the token expires, in Unix seconds.
+    /// Returns when the token expires, in Unix seconds.
     pub fn expiry(&self) -> i64
         ensures { result ≡ self.now.expiry }
     {
@@ -204,7 +204,7 @@ impl JwtSvid {
         self.token.as_str()
     }
 
-    /// The key that the header names.
+    /// Returns the key that the header names.
     pub fn key_id(&self) -> Option<&str>
         ensures { option_map (λ t. t.now) result ≡ self.now.key_id }
     {
@@ -214,7 +214,7 @@ impl JwtSvid {
         }
     }
 
-    /// What the identity is meant for, as its operator says.
+    /// Returns what the identity is meant for, as the operator says.
     pub fn hint(&self) -> Option<&str>
         ensures { option_map (λ t. t.now) result ≡ self.now.hint }
     {

@@ -87,7 +87,7 @@ fn decoded(alloc: Global, part: &str) -> Result<Vec<u8>, PartFault>
     }
 }
 
-/// The JSON object of a part, whose numbers are whole ones of 64 bits.
+/// The JSON object of a part, whose numbers are integers of 64 bits.
 #[tactic(auto, unfolding(crate::specs::Token::part_rule))]
 pub(crate) fn object(alloc: Global, part: &str) -> Result<Value, PartFault>
     ensures { Gives is_memory_part view result (part_rule part.now) }

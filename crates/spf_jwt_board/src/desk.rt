@@ -87,7 +87,7 @@ impl<R: Wait + Drop> Held<R> {
         (Held { writer, scribe, rt }, result)
     }
 
-    // Says whether the end was published.
+    // Publishes the end, and returns whether it was published.
     fn end(self) -> (Held<R>, bool)
         requires { is_ended self.list ≡ false }
         ensures whole { result.1 ≡ is_ended result.0.list }
@@ -136,7 +136,7 @@ impl<R: Wait + Drop> JwtDesk<R> {
         JwtDesk { held: Some(held) }
     }
 
-    /// What it has published.
+    /// Returns what it has published.
     pub fn front(&self) -> Front<Jwt>
         ensures same { result ≡ self.now }
         ensures board { IsBoardList Legal self.now.list }
@@ -163,7 +163,7 @@ impl<R: Wait + Drop> JwtDesk<R> {
         result
     }
 
-    /// Publishes the end. Where that finds no memory there is an ended writer too, without an End.
+    /// Publishes the end. Where memory runs out there is an ended writer too, without an End.
     pub fn end(self) -> JwtEnded<R>
         ensures ended { (result ≡ added self entry.End) ⊎ (result ≡ self) }
         ensures book { result.book ≡ self.book }
@@ -232,14 +232,14 @@ impl<R: Wait + Drop> Drop for JwtEnded<R> {
 }
 
 impl<R: Wait + Drop> JwtEnded<R> {
-    /// Whether the end was published.
+    /// Returns whether the end was published.
     pub fn is_whole(&self) -> bool
         ensures { result ≡ is_ended self.now.list }
     {
         self.whole
     }
 
-    /// What it has published.
+    /// Returns what it has published.
     pub fn front(&self) -> Front<Jwt>
         ensures { result ≡ self.now }
     {

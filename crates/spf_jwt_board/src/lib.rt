@@ -9,8 +9,6 @@ mod pass;
 mod places;
 mod shared_step;
 mod shown;
-#[cfg(test)]
-mod tests;
 
 pub use board::{open, settle};
 pub use desk::{JwtDesk, JwtEnded};

@@ -21,7 +21,7 @@ use spf_jwt_feed::JwtSourceState;
 use std::alloc::Global;
 use std::marker::Model;
 
-/// What one reader has seen. It has a place on the board, and may have places for passes to come.
+/// What one reader has seen. It has a place on the board, and may hold places for further passes.
 #[derive(Drop)]
 pub struct JwtPass {
     // There is one between two calls.
@@ -87,15 +87,15 @@ impl JwtPass {
         result
     }
 
-    /// What the pass has seen replays to this, at a source that is closed or not.
+    /// Returns the state that what the pass has seen replays to, of a source that is closed or not.
     pub fn kept_state(&self, closed: bool) -> Result<JwtSourceState, OutOfMemory>
         ensures { IfOk result (λ s. IsStateOf self.now.seen closed s) }
     {
         self.memory.snapshot().state(closed)
     }
 
-    /// The state of what is published now, or of what the pass
-    /// has seen where the reader is not let in.
+    /// Returns the state of what is published now, or of what the pass has seen where the reader is
+    /// not let in.
     pub fn state(&mut self, closed: bool) -> Result<JwtSourceState, OutOfMemory>
         ensures book { self.new.book ≡ self.old.book }
         ensures seen { IsPrefix self.old.seen self.new.seen }
@@ -108,8 +108,8 @@ impl JwtPass {
         self.kept_state(closed)
     }
 
-    /// Whether what is published now is usable. It keeps nothing of what it reads, and takes no
-    /// memory.
+    /// Returns whether what is published now is usable. It keeps nothing of what it reads, and
+    /// allocates nothing.
     pub fn is_usable(&mut self) -> bool
         ensures book { self.new.book ≡ self.old.book }
         ensures entered { IsPrefix self.old.entered self.new.entered }
@@ -132,7 +132,7 @@ impl JwtPass {
         self.closed = found;
     }
 
-    /// Who closed the source, where the look that was noted last has found that.
+    /// Returns who closed the source, if the look that was noted last has found that it is closed.
     pub fn closed_by(&self) -> Option<Maker>
         ensures { result ≡ option_map (λ (mark : Held). mark.maker) self.now.closed }
     {
@@ -142,15 +142,15 @@ impl JwtPass {
         }
     }
 
-    /// What the pass has seen.
+    /// Returns what the pass has seen.
     pub fn seen(&self) -> &Front<Jwt>
         ensures { (result.now.book ≡ self.now.book) × (result.now.list ≡ self.now.seen) }
     {
         self.memory.seen()
     }
 
-    /// Another pass of the board, which has seen what this one has seen. It knows nothing of the
-    /// closed cell.
+    /// Returns another pass of the board, which has seen what this one has seen. It knows nothing
+    /// of the closed cell.
     pub fn another(&mut self) -> Result<JwtPass, PlaceFault>
         ensures giver { self.new ≡ self.old }
         ensures pass { IfOk result (λ p. (p.book ≡ self.old.book) × (p.seen ≡ self.old.seen)
@@ -166,8 +166,8 @@ impl JwtPass {
         }
     }
 
-    /// Gives its places to a giver of the same board, its spare ones only where the
-    /// giver has none. Where that finds no memory, the place ends with this pass.
+    /// Gives its places to a giver of the same board, its spare ones only where the giver has none.
+    /// Where memory runs out, the place ends with this pass.
     pub fn give_back(self, giver: &mut JwtPass)
         requires { self.book ≡ giver.old.book }
         ensures { giver.new ≡ giver.old }

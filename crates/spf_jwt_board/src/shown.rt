@@ -71,7 +71,7 @@ impl Shown {
         }
     }
 
-    /// One more step.
+    /// Applies one more step.
     pub(crate) fn apply(&mut self, step: SharedStep)
         ensures { self.new ≡ kept_next set_eq self.old step }
     {
@@ -79,7 +79,7 @@ impl Shown {
         self.snapshot.apply(step.into_step());
     }
 
-    /// A copy, which shares what is held.
+    /// Returns a copy, which shares what is held.
     pub fn try_clone(&self) -> Result<Shown, OutOfMemory>
         ensures { IfOk result (λ s. s ≡ self.now) }
     {
@@ -100,7 +100,7 @@ impl Shown {
         self.snapshot.state(closed)
     }
 
-    /// Whether a bundle set with a key is permitted.
+    /// Returns whether a bundle set with a key is permitted.
     pub fn is_usable(&self) -> bool
         ensures { result ≡ is_usable self.now }
     {

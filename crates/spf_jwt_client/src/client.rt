@@ -45,7 +45,7 @@ pub trait JwtClient {
         ensures kept { client self.new ≡ record (client self.old)
             { link = (client self.new).link } };
 
-    /// Begins a stream of bundle sets, which is over the client until it is let go.
+    /// Begins a stream of bundle sets, which borrows the client until it is dropped.
     fn stream_jwt_bundles(
         &mut self,
         alloc: Global,

@@ -16,7 +16,7 @@ pub(crate) enum AskFault {
     Failed(WorkloadApiError),
 }
 
-/// Whether a status is of the connection, so that another one may do better.
+/// Whether a status is of the connection, so that another connection may do better.
 fn is_transient_code(code: GrpcStatusCode) -> bool
     ensures { result ≡ spec.is_transient_code code }
 {
@@ -67,7 +67,7 @@ fn failed(e: WorkloadApiError) -> JwtSourceError
 }
 
 impl AskFault {
-    /// The error of a fetch whose last ask failed so.
+    /// The error of a fetch whose last ask failed like this.
     pub(crate) fn into_error(self) -> JwtSourceError
         ensures { result ≡ fault_error self }
     {

@@ -60,7 +60,7 @@ impl<C: Connector> JwtFetcher<C>
 where
     C::Link: Drop,
 {
-    /// A fetcher over the clients of the connector. It has none yet.
+    /// Returns a fetcher over the clients of the connector. It has none yet.
     pub fn new(connector: C) -> JwtFetcher<C>
         ensures connector { result.connector ≡ connector }
         ensures client { result.client ≡ None }

@@ -1,6 +1,6 @@
 //! A stream of JWT bundles over the link of a client (SPIFFE Workload API section 6). It ends where
 //! the link says so, or refuses. An item that breaks a rule is an error, and so is running out of
-//! memory: the stream goes on.
+//! memory: after either, the stream goes on.
 
 ghost use Rattle.std.specs.Prelude.{◌≡◌, Some};
 ghost use Rattle.std.specs.Option.{option_map};
@@ -25,7 +25,7 @@ pub struct JwtBundleStream<'a, L: Link, I = NoInterceptor> {
 }
 
 impl<'a, L: Link, I> JwtBundleStream<'a, L, I> {
-    /// The next bundle set: none at the end of the stream, and after it.
+    /// Returns the next bundle set: none at the end of the stream, and after it.
     pub fn next_item(&mut self, alloc: Global) -> Option<Result<JwtBundleSet, WorkloadApiError>>
         ensures streams { Streams L.Link Response.JwtBundles jwt_bundle_set_of (λ b. b)
             self.old.ended self.old.client.now.link

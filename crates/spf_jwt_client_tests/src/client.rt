@@ -1,4 +1,4 @@
-//! The JWT calls of a client over links of memory.
+//! The JWT calls of a client over in-memory links.
 
 use crate::links::{TOKEN1, link};
 use spf_api::WorkloadApiError;
@@ -95,7 +95,7 @@ fn of_id(alloc: Global, client: &mut Client, audience: &[Text]) -> Result<String
     svid_or_error(alloc, client.fetch_jwt_svid(alloc, audience, Some(&id)))
 }
 
-/// What the call of that name returns, as a text. A name that is no other one's is a hint.
+/// What the call of that name returns, as a text. Any other name is a hint.
 fn fetched(alloc: Global, client: &mut Client, call: &str) -> Result<String, Fail> {
     let audience = vec![in alloc; Text::copy_of(alloc, "a")?]?;
     let audience = audience.as_slice();
@@ -137,7 +137,7 @@ const BAD_TOKEN: &str = "failed to parse JWT-SVID: Parts";
 
 const NO_HINT: &str = "no JWT-SVID found with hint: x";
 
-/// An answer behind the start, a call, and what it returns.
+/// The answer after the start, a call, and what it returns.
 const FETCHES: &[(&str, &str, &str)] = &[
     ("h", "svid", "spiffe://example.org/w 9 h true"),
     ("h", "svid of an ID", "spiffe://example.org/w 9 h true"),

@@ -26,7 +26,7 @@ fn fetched(
     shown(alloc, fetcher.fetch(alloc, audience))
 }
 
-/// What so many fetches return.
+/// What this many fetches return.
 fn all_fetched(alloc: Global, members: &[&[&str]], fetches: usize) -> Result<String, Fail> {
     let audience = vec![in alloc; Text::copy_of(alloc, "a")?]?;
     let mut fetcher = JwtFetcher::new(connector(alloc, members)?);
@@ -40,8 +40,8 @@ fn all_fetched(alloc: Global, members: &[&[&str]], fetches: usize) -> Result<Str
 }
 
 /// Links of a connector, a number of fetches, and what they return. Each SVID is shown by its hint.
-/// A link has answers behind those that its client takes, so another number of asks or of clients
-/// shows another hint.
+/// A link has more answers than its client takes, so another number of asks or of clients shows
+/// another hint.
 const FETCHES: &[(&[&[&str]], usize, &str)] = &[
     // One client for each fetch that nothing refuses.
     (

@@ -1,4 +1,4 @@
-//! Links and connectors of memory, whose answers are spelled by words.
+//! In-memory links and connectors, whose answers are given as words.
 
 use spf_api::{
     BundleEntry, BundlesResponse, Claim, ClaimValue, ClientFault, GrpcStatusCode, GrpcStatusError,
@@ -85,7 +85,7 @@ fn other_number(alloc: Global) -> Result<ClaimValue, Fail> {
     Ok(ClaimValue::OtherNumber(Text::copy_of(alloc, "1.5")?))
 }
 
-/// The response that the word spells. A word that spells no other one is the hint of one SVID.
+/// The response that the word stands for. Any other word is the hint of one SVID.
 fn response(alloc: Global, word: &str) -> Result<Response, Fail> {
     match word {
         "no_svids" => svids(alloc, &[]),
@@ -110,7 +110,7 @@ fn status(alloc: Global, code: GrpcStatusCode) -> Result<GrpcStatusError, Fail> 
     Ok(GrpcStatusError::new(code, message))
 }
 
-/// The code of a refusal that the word spells.
+/// The code of a refusal that the word stands for.
 fn code_of(word: &str) -> Option<GrpcStatusCode> {
     match word {
         "!cancelled" => Some(GrpcStatusCode::Cancelled),
@@ -148,7 +148,7 @@ fn answer(alloc: Global, word: &str) -> Result<Answer, Fail> {
     }
 }
 
-/// A link with the answers that the words spell, one for each word.
+/// Returns a link with the answers that the words stand for, one for each word.
 pub fn link(alloc: Global, words: &[&str]) -> Result<MemLink, Fail> {
     let mut answers = Vec::new(alloc);
     for word in words {
@@ -157,7 +157,7 @@ pub fn link(alloc: Global, words: &[&str]) -> Result<MemLink, Fail> {
     Ok(MemLink::new(alloc, answers))
 }
 
-/// What a `connect` gives: the fault that one word alone spells, or else a link.
+/// What a `connect` gives: the fault that a single word stands for, or else a link.
 fn member(alloc: Global, words: &[&str]) -> Result<Result<MemLink, ClientFault>, Fail> {
     match words {
         ["?unreachable"] => {
@@ -173,7 +173,7 @@ fn member(alloc: Global, words: &[&str]) -> Result<Result<MemLink, ClientFault>,
     }
 }
 
-/// A connector that gives these links and faults in turn.
+/// Returns a connector that gives these links and faults in turn.
 pub fn connector(alloc: Global, members: &[&[&str]]) -> Result<MemConnector, Fail> {
     let mut links = Vec::new(alloc);
     for words in members {

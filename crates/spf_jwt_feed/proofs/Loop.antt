@@ -125,7 +125,7 @@ exit_unread rules max_frames old cur new count kept phase line errors.OutOfMemor
     followed_no_frame (stream rules) (outputs rules) max_frames old cur new at.past count h.1.0
     at.so_far same (ltb-true count max_frames h.0) h.1.1 h.1.2
 
--- ---- one event more
+-- ---- one more event
 
 pub next_of : (rules : Rules) (max_frames : ℕ) (old cur : Sides) (count : ℕ) (kept : Held)
     (phase : Phase) (line : List ℕ) (after : Option (List ℕ)) (received : Received)

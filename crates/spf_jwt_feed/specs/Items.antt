@@ -68,13 +68,13 @@ bundles_in (item.Bundles set) = Some set
 bundles_in item.Empty = None
 bundles_in item.Broken = None
 
--- an item that breaks no rule, or none but that it is empty
+-- an item that breaks no rule, or only the rule that it is not empty
 abbrev pub keeps_stream : JwtItem → Bool
 keeps_stream (item.Bundles set) = true
 keeps_stream item.Empty = true
 keeps_stream item.Broken = false
 
--- The rules of a session, but for its most frames.
+-- The rules of a session, but for its limit of frames.
 pub record Rules : Type 0 where
   pub limits : JwtResourceLimits
   pub deadline : Option ℤ

@@ -1,4 +1,4 @@
--- JWT sessions: what stands next, what ends a session, and what an event gives.
+-- JWT sessions: what comes next, what ends a session, and what an event gives.
 use Rattle.std.specs.Prelude.{◌+◌, Bool, ◌&&◌, if◌then◌else◌, List, [], ◌∷◌, ◌++◌, length}
 use Rattle.std.specs.Prelude.{decimal, Option, None, Some, Result, Ok, Err}
 use Rattle.std.specs.Option.{option_map, option_to_list}
@@ -35,8 +35,8 @@ use Rattle.spf_jwt_feed.specs.Items.{keeps_stream}
 use Rattle.spf_jwt_feed.specs.Shown.{shown_text}
 use Rattle.spf_jwt_feed.specs.Steps.{BundleSet, PlainStep}
 
--- What stands next after an event: an item that breaks no rule, or none but that
--- it is empty, keeps the stream after an accepted one; a moment changes nothing.
+-- What comes next after an event: after an accepted item, one that breaks no rule, or only the rule
+-- that it is not empty, keeps the stream; a moment changes nothing.
 abbrev pub asked_by : {I : Type 0} → (I → JwtItem) → Phase → Bool → SessionEvent I → Phase
 asked_by read before synced events.ClientMade = phases.Connect
 asked_by read before synced events.Connected = phases.Next
@@ -45,7 +45,7 @@ asked_by read before synced (events.Item i) =
 asked_by read before synced (events.Moment m) = before
 asked_by read before synced _ = phases.Client
 
--- what stands next, by the last event that is not a moment
+-- what comes next, by the last event that is not a moment
 abbrev pub ask_of : {I : Type 0} → (I → JwtItem) → Rules → List (SessionEvent I) → Phase
 ask_of read rules [] = phases.Client
 ask_of read rules (e ∷ past) =
@@ -63,13 +63,14 @@ stream rules = record {
 
 -- ---- records
 
--- an attempt ended before or after something was accepted, where there is one with an error
+-- the records of an attempt that ended, before or after something was accepted: its error, where
+-- there is one, and then the end itself
 abbrev pub ended : Bool → Option JwtMetricsErrorKind → List JwtMetricsRecord
 ended synced error =
     option_to_list (option_map records.Error error)
     ++ ((if synced then records.Reconnect else records.Error kinds.InitialSyncFailed) ∷ [])
 
--- an update is rejected, where there is one with an error
+-- the records of a rejected update: its error, where there is one, and then the rejection itself
 abbrev pub rejected : Bool → Option JwtMetricsErrorKind → List JwtMetricsRecord
 rejected synced error =
     option_to_list (option_map records.Error error)
@@ -95,7 +96,7 @@ item_records synced limits (item.Bundles set) = kept_out synced (within limits s
 item_records synced limits item.Empty = empty_records synced
 item_records synced limits item.Broken = ended synced (Some kinds.StreamError)
 
--- that no identity is issued is no error of the connection
+-- that no identity is issued is not an error of the connection
 abbrev pub connect_error : WorkloadApiError → Option JwtMetricsErrorKind
 connect_error api.NoIdentityIssued = None
 connect_error _ = Some kinds.StreamConnect
@@ -111,7 +112,7 @@ records_by read synced limits (events.ItemStatus s) = ended synced (Some kinds.S
 records_by read synced limits events.StreamEnd = ended synced (Some kinds.StreamEnded)
 records_by read synced limits _ = []
 
--- an accepted item is an update where something else was visible before it; the first one is none
+-- an accepted item is an update where something else was visible before it; the first one is not
 abbrev pub update_records : View BundleSet Denial → BundleSet → List JwtMetricsRecord
 update_records Waiting set = []
 update_records view set =

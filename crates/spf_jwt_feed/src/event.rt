@@ -7,7 +7,7 @@ use spf_jwt::JwtBundleSet;
 /// An event of a JWT session.
 pub type JwtEvent = SessionEvent<BundlesResponse>;
 
-/// What an item is, where its key sets are read.
+/// An item, with its key sets read.
 #[derive(Debug, Drop)]
 pub enum JwtItem {
     Bundles(JwtBundleSet),

@@ -102,7 +102,7 @@ fn record_one<M: JwtMetricsRecorder>(
     }
 }
 
-/// Hands on the records, in order.
+/// Passes the records to the recorder, in order.
 pub fn record_all<M: JwtMetricsRecorder>(
     recorder: &mut M,
     records: Records,
@@ -118,7 +118,7 @@ pub fn record_all<M: JwtMetricsRecorder>(
     Ok(())
 }
 
-/// One more step, which opens the snapshot where there is none before it.
+/// Applies one more step, which opens the snapshot where there is none yet.
 fn take_step(snapshot: &mut Option<JwtSnapshot>, step: JwtStep) -> Change
     requires { snapshot.old ≡ None → IsTrue (is_accept (plain step)) }
     ensures change { result ≡ change_of snapshot.old (plain step) }
@@ -139,7 +139,7 @@ fn take_step(snapshot: &mut Option<JwtSnapshot>, step: JwtStep) -> Change
     }
 }
 
-/// Publishes a step, and then takes it into the snapshot.
+/// Publishes a step, and then applies it to the snapshot.
 pub fn publish<P: JwtPublisher>(
     publisher: &mut P,
     snapshot: &mut Option<JwtSnapshot>,
@@ -162,7 +162,7 @@ pub fn publish<P: JwtPublisher>(
     Ok(take_step(snapshot, step))
 }
 
-/// An update is recorded where something else than before is visible.
+/// Records an update where something else is visible than before.
 fn record_change<M: JwtMetricsRecorder>(recorder: &mut M, change: Change) -> Result<(), OutOfMemory>
     ensures { HandsOn (M.records recorder.old) (M.records recorder.new) result (update_of change) }
 {
@@ -172,7 +172,7 @@ fn record_change<M: JwtMetricsRecorder>(recorder: &mut M, change: Change) -> Res
     }
 }
 
-/// Whether something else than before is visible.
+/// Whether something else is visible than before.
 fn is_change(change: Change) -> bool
     ensures { result ≡ is_changed change }
 {
@@ -237,7 +237,7 @@ fn deny<P: JwtPublisher, M: JwtMetricsRecorder>(
     Ok(is_change(change))
 }
 
-/// Does what an event does, and says whether the snapshot changed.
+/// Does what an event does, and returns whether the snapshot changed.
 fn take<P: JwtPublisher, M: JwtMetricsRecorder>(
     alloc: Global,
     publisher: &mut P,

@@ -1,5 +1,5 @@
-//! Laws of what is the same and of texts, which contracts cite.
-//! No law has a body: its statement is what it says.
+//! Laws of what is the same and of texts, which contracts cite. No law has a body: its contract is
+//! its statement.
 
 ghost use Rattle.std.specs.Prelude.{◌↔◌, ◌≡◌, ℕ, true, List, Some};
 ghost use Rattle.spf_api.specs.declared.response.BundlesResponse.{BundlesResponse};

@@ -20,7 +20,7 @@ use spf_jwt::{JwtAuthority, JwtAuthorityIter, JwtBundle, JwtBundleSet};
 use std::alloc::Global;
 use std::marker::Model;
 
-/// The octets that are kept free before a line for its number, the most that a `u64` takes.
+/// How many octets are kept free before a line for its number: as many as a `u64` can take.
 const NUMBER_ROOM: usize = 20;
 
 /// Appends two digits for each octet.
@@ -42,7 +42,7 @@ fn push_hex(line: &mut Vec<u8>, octets: &[u8]) -> Result<(), OutOfMemory>
     }
 }
 
-/// The ID of a key and its JSON text.
+/// Appends the ID of a key and its JSON text.
 fn push_key(line: &mut Vec<u8>, key: &JwtAuthority) -> Result<(), OutOfMemory>
     ensures text { OnOk result (line.new.items ≡ line.old.items ++ key_text key.now) }
     ensures grows { vec_len line.old ≤ vec_len line.new }
@@ -52,7 +52,7 @@ fn push_key(line: &mut Vec<u8>, key: &JwtAuthority) -> Result<(), OutOfMemory>
     push_hex(line, key.jwk_json())
 }
 
-/// Each key with a comma before it.
+/// Appends each key with a comma before it.
 fn push_others(line: &mut Vec<u8>, keys: JwtAuthorityIter<'_>) -> Result<(), OutOfMemory>
     ensures text { OnOk result
         (line.new.items ≡ line.old.items ++ flat_map after_comma keys.entry) }
@@ -65,7 +65,7 @@ fn push_others(line: &mut Vec<u8>, keys: JwtAuthorityIter<'_>) -> Result<(), Out
     Ok(())
 }
 
-/// Each key in order, with commas between them.
+/// Appends the keys in order, with commas between them.
 fn push_keys(line: &mut Vec<u8>, bundle: &JwtBundle) -> Result<(), OutOfMemory>
     ensures text { OnOk result
         (line.new.items ≡ line.old.items ++ keys_text bundle.now.authorities) }
@@ -79,7 +79,7 @@ fn push_keys(line: &mut Vec<u8>, bundle: &JwtBundle) -> Result<(), OutOfMemory>
     push_others(line, keys)
 }
 
-/// A trust domain and its keys.
+/// Appends a trust domain and its keys.
 fn push_bundle(
     line: &mut Vec<u8>,
     domain: &TrustDomain,
@@ -95,7 +95,7 @@ fn push_bundle(
     push_keys(line, bundle)
 }
 
-/// Per trust domain in order its name and its keys.
+/// Appends, for each trust domain in order, its name and its keys.
 fn push_bundles(line: &mut Vec<u8>, set: &JwtBundleSet) -> Result<(), OutOfMemory>
     ensures text { OnOk result (line.new.items ≡ line.old.items ++ flat_map entry_text set.now) }
     ensures grows { vec_len line.old ≤ vec_len line.new }
@@ -120,7 +120,7 @@ fn push_withdrawn(line: &mut Vec<u8>, reason: &Denial) -> Result<(), OutOfMemory
     Ok(())
 }
 
-/// What is visible after the revision.
+/// Appends what is visible, which follows the revision.
 fn push_visible(line: &mut Vec<u8>, standing: &Standing) -> Result<(), OutOfMemory>
     ensures text { OnOk result
         (line.new.items ≡ line.old.items ++ visible_text (view_in standing.now)) }
@@ -135,7 +135,7 @@ fn push_visible(line: &mut Vec<u8>, standing: &Standing) -> Result<(), OutOfMemo
     }
 }
 
-/// The revision, what is visible, and a line feed.
+/// Appends the revision, what is visible, and a line feed.
 #[tactic(auto, unfolding(crate::specs::Shown::view_line))]
 fn push_view(line: &mut Vec<u8>, revision: u64, standing: &Standing) -> Result<(), OutOfMemory>
     ensures text { OnOk result

@@ -6,8 +6,8 @@ ghost use Rattle.spf_jwt_feed.specs.Received.{received_ask};
 use crate::event::{JwtItem, JwtReceived};
 use spf_feed::Phase;
 
-/// What the source is asked for after an event. An item that breaks no
-/// rule, or none but that it is empty, keeps the stream, once one was accepted.
+/// Returns what the source is asked for after an event. Once an item was accepted, one that breaks
+/// no rule, or only the rule that it is not empty, keeps the stream.
 pub fn phase_after(phase: Phase, synced: bool, event: &JwtReceived) -> Phase
     ensures { result ≡ received_ask phase synced event.now }
 {

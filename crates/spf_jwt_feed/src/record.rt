@@ -22,7 +22,7 @@ pub enum JwtMetricsErrorKind {
     LimitMaxBundles,
     LimitMaxBundleJwksBytes,
     UpdateRejected,
-    /// Nothing records it.
+    /// Never recorded.
     SupervisorJoinFailed,
 }
 
@@ -63,7 +63,7 @@ pub enum JwtMetricsRecord {
     Error(JwtMetricsErrorKind),
 }
 
-/// What records are handed to. It keeps memory of its own, which may run out.
+/// Takes the records. It has memory of its own, which may run out.
 pub trait JwtMetricsRecorder {
     // The records so far, where the recorder says so.
     ghost records: { Self → Option (List JwtMetricsRecord) };

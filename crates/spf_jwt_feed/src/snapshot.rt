@@ -34,7 +34,7 @@ impl Model for JwtSnapshot {
 }
 
 impl JwtSnapshot {
-    /// The snapshot of a first accepted bundle set.
+    /// Returns the snapshot of a first accepted bundle set.
     pub fn opening(step: JwtStep) -> JwtSnapshot
         requires { IsTrue (is_accept (plain step)) }
         ensures value { result ≡ record { revision = 0; view = shown_by (plain step) } }
@@ -71,7 +71,7 @@ impl JwtSnapshot {
         self.standing = Standing::of(step);
     }
 
-    /// One more step. An unchanged bundle set keeps the older one.
+    /// Applies one more step. An unchanged bundle set keeps the older one.
     pub fn apply(&mut self, step: JwtStep)
         ensures value { self.new ≡ kept_next set_eq self.old (plain step) }
         ensures stands { (steps : List PlainStep) → Stands set_eq steps self.old
@@ -82,7 +82,7 @@ impl JwtSnapshot {
         }
     }
 
-    /// A copy, which shares what is held.
+    /// Returns a copy, which shares what is held.
     pub fn try_clone(&self) -> Result<JwtSnapshot, OutOfMemory>
         ensures { IfOk result (λ s. s ≡ self.now) }
     {

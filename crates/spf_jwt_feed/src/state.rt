@@ -183,7 +183,7 @@ impl JwtSourceState {
         self.closed
     }
 
-    /// The reason of the withdrawal, while withdrawn.
+    /// Returns the reason of the withdrawal, while withdrawn.
     pub fn withdrawal(&self) -> Option<&Arc<Denial>>
         ensures { option_map (λ a. arc_value a.now) result ≡ reason_of self.now.view }
     {
@@ -193,7 +193,7 @@ impl JwtSourceState {
         }
     }
 
-    /// The held bundle set.
+    /// Returns the held bundle set.
     pub fn bundle_set(&self) -> Result<Arc<JwtBundleSet>, JwtSourceError>
         ensures { SetAnswer self.now.view result }
     {
@@ -203,7 +203,7 @@ impl JwtSourceState {
         }
     }
 
-    /// Whether a bundle set with at least one key is permitted.
+    /// Returns whether a bundle set with at least one key is permitted.
     pub fn is_usable(&self) -> bool
         ensures { result ≡ option_map_or spec.has_authority (held_in self.now.view) false }
     {

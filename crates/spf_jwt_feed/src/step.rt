@@ -40,7 +40,7 @@ impl JwtStep {
     }
 }
 
-/// What steps are handed to. It keeps memory of its own, which may run out.
+/// Takes the steps. It has memory of its own, which may run out.
 pub trait JwtPublisher {
     // The steps so far, where the publisher says so.
     ghost steps: { Self → Option (List PlainStep) };
@@ -88,8 +88,8 @@ impl MemJwtPublisher {
         }
     }
 
-    /// A publisher that is out of memory at its call of
-    /// number `at`, from 1, and keeps nothing of that step.
+    /// Returns a publisher that runs out of memory at call number `at`, counted from 1, and keeps
+    /// nothing of that step.
     pub fn refusing(alloc: Global, at: u64) -> MemJwtPublisher
         ensures { result ≡ record { steps = []; calls = 0; refused = Some at } }
     {

@@ -145,7 +145,7 @@ fn status_turn(synced: bool, answer: WorkloadApiError, error: Option<JwtMetricsE
     }
 }
 
-/// That no identity is issued is no error of the connection.
+/// That no identity is issued is not an error of the connection.
 fn connect_error(answer: &WorkloadApiError) -> Option<JwtMetricsErrorKind>
     ensures { result ≡ run_spec.connect_error answer.now }
 {
@@ -188,7 +188,7 @@ fn initial_failure_turn(answer: WorkloadApiError) -> Turn
     Turn::Passed(Records::ended(false, Some(JwtMetricsErrorKind::ClientCreation)))
 }
 
-/// A client failure never is a denial.
+/// A client failure is never a denial.
 fn failure_turn(synced: bool, fault: ClientFault) -> Turn
     ensures may { (limits : JwtResourceLimits) → MayTake limits synced result }
     ensures turn { IsTurn (if synced then None else client_rejected fault) OutcomePassed
@@ -250,7 +250,7 @@ fn item_turn(limits: JwtResourceLimits, synced: bool, item: JwtItem) -> Turn
     }
 }
 
-/// What an event does, where an item was accepted before it or not.
+/// Returns what an event does, where an item was accepted before it or not.
 pub fn turn_of(
     limits: JwtResourceLimits,
     deadline: Option<i64>,

@@ -144,7 +144,7 @@ turned_of {S} {L} {P} {M} connector link records before old new e r ask is next 
 
 -- ---- what a feeder keeps
 
--- an event more is in the run where the run goes on
+-- one more event is in the run where the run goes on
 ran : {P M : Type 0} (records : M → Option (List JwtMetricsRecord)) (rules : Rules)
     (old new : Core P M) (e : Event) (r : Result (Option AttemptEnd) Stop)
     → Advances records rules old e r new → new.stuck ≡ false → new.run ≡ old.run ++ e ∷ []

@@ -1,4 +1,4 @@
--- What one event more does to what is kept of a run.
+-- What one more event does to what is kept of a run.
 use Rattle.std.proofs.Common.{◌≡◌, Bool, true, false, cond, List, [], ◌∷◌, ◌++◌, reverse, Option}
 use Rattle.std.proofs.Common.{None, Some, Ok, Err, inl, refl, sym, ap, ◌∙◌, subst}
 use Rattle.std.specs.Prelude.{ℤ, is_some, IsTrue, IfSome}

@@ -37,7 +37,7 @@ fed connector link core first = record {
   first = first;
 }
 
--- where the link is asked next it is there, and it was asked for JWT bundles
+-- where the link is asked next there is one, and it was asked for JWT bundles
 abbrev pub IsReady : {L : Type 0} → (L → Option ResponseKind) → Phase → Option L → Type 0
 IsReady kind_of ask link = IsReadyFor (kind_wanted jwt_bundles) kind_of ask link
 
@@ -49,7 +49,7 @@ pub record Yields {S L : Type 0} (members : S → Option (List Member))
   pub yielded : AllYielded rules first (reverse run)
   pub rest : Holds members answers (left_after rules first (reverse run)) asked.connector asked.link
 
--- A turn that went through: one ask, one event more, which is published before the next turn.
+-- A turn that went through: one ask, one more event, which is published before the next turn.
 pub record TurnedOnce {S L P M : Type 0} (connector : connectors.Ghosts S L)
     (link : links.Ghosts L) (records : M → Option (List JwtMetricsRecord)) (rules : Rules)
     (old : Fed S L P M) (end : Option AttemptEnd) (new : Fed S L P M) : Type 0 where
@@ -87,7 +87,7 @@ Turns connector link records rules old (Ok end) new =
     TurnedOnce connector link records rules old end new
 Turns connector link records rules old (Err e) new = TurnedAway connector link rules old new
 
--- a terminal event came after the run: it is no event of it
+-- a terminal event came after the run, and is not part of it; or memory ran out
 abbrev pub StopsBy : Rules → List Event → Stop → Type 0
 StopsBy rules run (stops.Terminal end) =
     (e : Event) × ((stream rules).refusal (reverse run) e ≡ Some end)

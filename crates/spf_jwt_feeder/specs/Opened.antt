@@ -7,7 +7,7 @@ use Rattle.spf_jwt.specs.declared.limits.JwtResourceLimits.{JwtResourceLimits}
 use Rattle.spf_jwt_feed.specs.Items.{Event}
 use Rattle.spf_jwt_feeder.specs.Fed.{StopsBy}
 
--- a terminal event came after some run, by a deadline of the timeout
+-- a terminal event came after some run, by a deadline of the timeout; or memory ran out
 pub record StopsOpening (limits : JwtResourceLimits) (timeout : Option Duration) (stop : Stop) :
     Type 0 where
   pub deadline : Option ℤ

@@ -17,8 +17,8 @@ AddsAnswer rules old new = AddsAnswerTo (ask_of item_in rules) old new
 unfoldable pub IsTimed : Rules → List Event → Type 0
 IsTimed rules past = AreTimed (subject rules) past
 
--- nothing is accepted yet, and the moments so far stand where they should: a last one is there only
--- where a client is asked for next
+-- nothing is accepted yet, and the moments so far stand where they should: the last event is one
+-- only where a client is asked for next
 pub record IsOpening (rules : Rules) (run : List Event) : Type 0 where
   pub timed : IsTimed rules (reverse run)
   pub unsynced : has_synced (subject rules) (reverse run) ≡ false

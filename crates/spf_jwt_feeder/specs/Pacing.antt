@@ -1,4 +1,4 @@
--- DelaysOf a run: the pauses after its attempts, by the random words that were drawn.
+-- The delays of a run: the pauses after its attempts, by the random words that were drawn.
 use Rattle.std.specs.Prelude.{◌≡◌, Bool, List, [], ◌∷◌, ◌++◌, Result, Ok, Err, ◌⊎◌}
 use Rattle.spf_pace.specs.declared.pace.Pace.{Pace}
 use Rattle.spf_feeder.specs.Pacing.{KeepsPaceBy, opens_by}

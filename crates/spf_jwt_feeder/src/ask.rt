@@ -28,7 +28,7 @@ fn ask_item<L: Link>(alloc: Global, link: &mut L) -> Result<JwtEvent, OutOfMemor
     }
 }
 
-/// Asks once, for what stands next.
+/// Asks once, for what comes next.
 pub(crate) fn ask<C: Connector>(
     alloc: Global,
     connector: &mut C,

@@ -33,7 +33,7 @@ fn failure_says_no_identity(alloc: Global, fault: &ClientFault) -> Result<bool, 
     }
 }
 
-/// How the item of a stream ends the attempt, where `next` stands next.
+/// How the item of a stream ends the attempt, where `next` is what comes next.
 fn item_end(next: Phase, gave_accepted: bool) -> Option<AttemptEnd>
     ensures { result ≡ spec.item_end next gave_accepted }
 {
@@ -46,7 +46,7 @@ fn item_end(next: Phase, gave_accepted: bool) -> Option<AttemptEnd>
     }
 }
 
-/// How an event that is not accepted ends the attempt, where `next` stands next.
+/// How an event that is not accepted ends the attempt, where `next` is what comes next.
 pub(crate) fn end_of(
     alloc: Global,
     next: Phase,

@@ -101,14 +101,14 @@ where
         }
     }
 
-    /// The events so far, oldest first.
+    /// Returns the events so far, oldest first.
     pub fn events(&self) -> &[JwtEvent]
         ensures { result.now ≡ self.now.core.run }
     {
         self.session.events()
     }
 
-    /// The events so far, which contracts alone see.
+    /// Returns the events so far, which contracts alone see.
     pub fn noted_events(&self) -> snapshot::Snapshot<Vec<JwtEvent>>
         ensures { result.value.items ≡ self.now.core.run }
     {
@@ -142,7 +142,7 @@ where
         ends_with_moment(self.session.events())
     }
 
-    /// A moment of the clock, which stands among the events. Nothing is asked.
+    /// Adds a moment of the clock to the events. Nothing is asked.
     pub(crate) fn take_moment(&mut self, moment: i64) -> Result<Option<AttemptEnd>, Stop>
         requires going { self.old.core.stuck ≡ false }
         ensures settings { self.new.core.settings ≡ self.old.core.settings }
@@ -210,14 +210,14 @@ where
         }
     }
 
-    /// The rules of its run.
+    /// Returns the rules of its run.
     pub fn rules(&self) -> JwtSessionRules
         ensures { result ≡ self.now.core.settings }
     {
         self.session.rules()
     }
 
-    /// The publisher, which has exactly the steps of the run.
+    /// Returns the publisher, which has exactly the steps of the run.
     pub fn publisher(&self) -> &P
         ensures publisher { result.now ≡ self.now.core.publisher }
         ensures published { Published (P.steps self.now.core.publisher)
@@ -226,8 +226,8 @@ where
         self.session.publisher()
     }
 
-    /// The same with another publisher, which has published the same steps, and the publisher
-    /// until now.
+    /// Returns the same with another publisher, which has published the same steps, and the
+    /// publisher that it had until now.
     pub fn with_publisher<Q: JwtPublisher + Drop>(self, publisher: Q) -> (JwtFeeder<C, Q, M>, P)
         requires published { Published (Q.steps publisher)
             (rules_of self.core.settings) self.core.run }
@@ -256,7 +256,7 @@ where
         (feeder, before)
     }
 
-    /// The publisher of a feeder that asks no more.
+    /// Returns the publisher of a feeder that asks no more.
     pub fn into_publisher(self) -> P
         ensures { result ≡ self.core.publisher }
     {
@@ -264,7 +264,7 @@ where
         session.into_parts().publisher
     }
 
-    /// What is left of a feeder that asks no more. Its connector and its link are let go.
+    /// Returns what is left of a feeder that asks no more. Its connector and its link are dropped.
     pub fn into_parts(self) -> JwtSessionParts<P>
         requires going { self.core.stuck ≡ false }
         ensures publisher { result.publisher ≡ self.core.publisher }

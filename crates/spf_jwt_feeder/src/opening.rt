@@ -47,8 +47,8 @@ fn deadline_of(first: i64, timeout: Option<Duration>) -> Option<i64>
     }
 }
 
-/// A feeder whose first item was accepted, and its pace. It takes a moment from the clock, from
-/// which the deadline counts, and synchronises.
+/// Takes a moment from the clock, from which the deadline counts, and synchronises. It returns a
+/// feeder whose first item was accepted, and its pace.
 #[tactic(auto, unfolding(crate::specs::Orderly::IsTimed))]
 pub fn open_jwt_feeder<C, P, M, R, T, W, H>(
     rt: &H,

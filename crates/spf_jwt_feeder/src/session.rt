@@ -30,7 +30,7 @@ use std::marker::Model;
 use std::snapshot;
 use std::sync::Arc;
 
-/// The rules of a session, but for its most frames.
+/// The rules of a session, but for its limit of frames.
 #[derive(Clone, Copy, Debug, PartialEq, Eq)]
 pub struct JwtSessionRules {
     pub limits: JwtResourceLimits,
@@ -137,7 +137,7 @@ impl<P: JwtPublisher + Drop, M: JwtMetricsRecorder + Drop> Model for Session<P, 
 }
 
 impl<P: JwtPublisher + Drop, M: JwtMetricsRecorder + Drop> Session<P, M> {
-    /// A session of no events yet, whose publisher has no steps.
+    /// A session without events yet, whose publisher has no steps.
     #[tactic(auto, unfolding(crate::specs::Orderly::IsOrderly))]
     pub(crate) fn new(
         alloc: Global,
@@ -214,8 +214,8 @@ impl<P: JwtPublisher + Drop, M: JwtMetricsRecorder + Drop> Session<P, M> {
         &self.publisher
     }
 
-    /// The same with another publisher, which has published the same steps, and the publisher
-    /// until now.
+    /// Returns the same with another publisher, which has published the same steps, and the
+    /// publisher that it had until now.
     pub(crate) fn with_publisher<Q: JwtPublisher + Drop>(self, publisher: Q) -> (Session<Q, M>, P)
         requires published { Published (Q.steps publisher)
             (rules_of self.settings) self.run }
@@ -281,8 +281,8 @@ impl<P: JwtPublisher + Drop, M: JwtMetricsRecorder + Drop> Session<P, M> {
         self.stuck = true;
     }
 
-    /// One event more: its step is published, then it stands among the events, then its records are
-    /// recorded.
+    /// Takes one more event: its step is published, then it is added to the events, then its
+    /// records are recorded.
     pub(crate) fn advance(&mut self, event: JwtEvent) -> Result<Option<AttemptEnd>, Stop>
         requires going { self.old.stuck ≡ false }
         requires fits { (is_moment event || does_answer (ask_of item_in

@@ -84,7 +84,8 @@ BundleAnswer view domain (Err (errors.Withdrawn reason)) = reason_of view ≡ So
 BundleAnswer view domain (Err errors.OutOfMemory) = Unit {0}
 BundleAnswer view domain (Err _) = ⊥
 
--- the bundle of a trust domain, and none where there is no bundle or nothing is held
+-- the bundle of a trust domain, and none where there is no bundle, or the getter returns an error
+-- other than out of memory
 abbrev pub TriesBundle : List ℕ → ℕ → PassView → PassView
     → Result (Option (Arc Bundle Global)) OutOfMemory → Type 0
 TriesBundle domain cell old new (Ok (Some bundle)) =
@@ -105,7 +106,8 @@ IsHealthy cell old new healthy =
     × Peeks Legal Replays (λ shown found. found ≡ is_usable shown)
     (read_of old) (read_of new) healthy)
 
--- No place comes only where the count of refused places rose, and no other error but out of memory.
+-- No place comes only where the count of refused places rose; the only other error is out of
+-- memory.
 abbrev pub HasPlaceCause : {T : Type 0} → ℕ → ℕ → Result T JwtSourceError → Type 0
 HasPlaceCause before now (Ok p) = before ≤ now
 HasPlaceCause before now (Err errors.NoPlace) = (before ≤ now) × Rose before now
@@ -139,12 +141,12 @@ pub record Follows (source : Source) (giver : PassView) (updates : Updates) : Ty
   pub seen : IsPrefix giver.seen updates.pass.seen
   pub marked : IsRevision updates.pass updates.marked
 
--- what a source gives to a pass that has read a state
+-- something holds of the view of a state that the pass has read
 abbrev pub OfState : PassView → (View BundleSet Denial → Type 0) → Type 0
 OfState pass holds =
     (state : StateView) × IsStateOf pass.seen state.closed state × holds state.view
 
--- a source that is closed: out of memory, where no caller closed it
+-- the error of a closed source, or out of memory
 abbrev pub IsClosing : {T : Type 0} → Result T JwtSourceError → Type 0
 IsClosing (Err errors.Closed) = Unit {0}
 IsClosing (Err errors.OutOfMemory) = Unit {0}

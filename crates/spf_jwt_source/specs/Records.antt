@@ -71,8 +71,9 @@ pub record IsRecord (r : Recorded) : Type 0 where
   pub maker : r.closed.maker ≡ makers.Caller
 
 -- A record of what a supervisor was given: its events begin with those of the initial
--- synchronisation and have no moment more, its rules and bounds are those given, the events
--- that are no moments are what the connector had to yield, and its cell was closed.
+-- synchronisation and have no more moments, its rules and bounds are those given, the events that
+-- are not moments are what the connector had to yield, where that is known, and its cell was
+-- closed.
 pub record IsOf {S : Type 0} (members : S → Option (List Member)) (job : Assigned S)
     (r : Recorded) : Type 0 where
   pub goes_on : GoesOn job.run r.run

@@ -24,7 +24,7 @@ ShutsBy grace (Some old) None result = ⊥
 ShutsBy grace (Some old) (Some new) result =
     (new ≡ later (later old)) × (result ≡ shuts grace (next_moment old) (next_moment (later old)))
 
--- the same, where a grace is set
+-- the same where a grace is set; without one, no moment is asked for
 abbrev pub ShutsConfigured : Option Duration → Option (List (Option ℤ)) → Option (List (Option ℤ))
     → Result (Unit {0}) JwtSourceError → Type 0
 ShutsConfigured None old new result = (new ≡ old) × (result ≡ Ok tt)

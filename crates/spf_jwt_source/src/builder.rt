@@ -45,8 +45,8 @@ impl<C: Drop, M: Drop> fmt::Debug for JwtSourceBuilder<C, M> {
 }
 
 impl<C: Connector + Drop> JwtSourceBuilder<C, NoRecorder> {
-    /// Pauses of 200 ms to 10 s between attempts, the default limits, a
-    /// shutdown that takes at most 30 s, and no limit of the initial synchronisation.
+    /// Returns a builder with pauses of 200 ms to 10 s between attempts, the default limits, a
+    /// shutdown that takes at most 30 s, and no limit for the initial synchronisation.
     pub fn new(connector: C) -> JwtSourceBuilder<C, NoRecorder>
         ensures connector { result.connector ≡ connector }
         ensures settings { IsDefault result.settings }
@@ -68,7 +68,7 @@ impl<C: Connector + Drop, M: JwtMetricsRecorder + Drop> JwtSourceBuilder<C, M>
 where
     C::Link: Drop,
 {
-    /// Reads of this connector.
+    /// Reads from this connector.
     pub fn client_factory<D: Connector + Drop>(self, factory: D) -> JwtSourceBuilder<D, M>
         ensures { (result.connector ≡ factory) × (result.settings ≡ self.settings) }
     {
@@ -101,7 +101,7 @@ where
         }
     }
 
-    /// The bounds of the pauses between attempts.
+    /// Sets the bounds of the pauses between attempts.
     pub fn reconnect_backoff(mut self, min: Duration, max: Duration) -> JwtSourceBuilder<C, M>
         ensures { result ≡ record self {
           settings = record self.settings {
@@ -113,7 +113,7 @@ where
         self
     }
 
-    /// The limits that each update has to keep.
+    /// Sets the limits that each update has to keep.
     pub fn resource_limits(mut self, limits: JwtResourceLimits) -> JwtSourceBuilder<C, M>
         ensures { result ≡ record self { settings = record self.settings { limits = limits } } }
     {
@@ -121,7 +121,7 @@ where
         self
     }
 
-    /// How long [`JwtSupervisorHandle::shutdown_configured`] may take.
+    /// Sets how long [`JwtSupervisorHandle::shutdown_configured`] may take.
     pub fn shutdown_timeout(mut self, timeout: Option<Duration>) -> JwtSourceBuilder<C, M>
         ensures { result ≡ record self { settings = record self.settings { grace = timeout } } }
     {
@@ -129,7 +129,7 @@ where
         self
     }
 
-    /// How long the initial synchronisation may take.
+    /// Sets how long the initial synchronisation may take.
     pub fn initial_sync_timeout(mut self, timeout: Duration) -> JwtSourceBuilder<C, M>
         ensures { result ≡ record self {
           settings = record self.settings {
@@ -141,9 +141,9 @@ where
         self
     }
 
-    /// Synchronises, and makes all of a source but what runs its supervisor: the source, its first
-    /// pass, the job of the supervisor, and what is left to make a handle of it. The caller starts
-    /// the job, as on a thread of its own.
+    /// Synchronises, and makes all of a source but a running supervisor: the source, its first
+    /// pass, the job of the supervisor, and what is then needed to make its handle. The caller
+    /// starts the job, for instance on a thread.
     pub fn prepare<T, W, N, R, L>(
         self,
         rt: R,

@@ -1,4 +1,4 @@
-//! What says that a source is closed.
+//! Whether a source is closed.
 
 ghost use Rattle.std.specs.Prelude.{◌≡◌, None, IfErr, OnOk};
 ghost use Rattle.spf_jwt_source.specs.Reads.{HasClosedCause, LooksAt, SaysClosed};

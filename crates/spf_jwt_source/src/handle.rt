@@ -43,7 +43,7 @@ impl JwtPendingHandle {
         JwtPendingHandle { closing, grace }
     }
 
-    /// The handle of the supervisor whose job was started.
+    /// Returns the handle of the supervisor whose job was started.
     pub fn started<J: Job, H: Joins<J> + Drop>(self, handle: H) -> JwtSupervisorHandle<J, H>
         ensures { (result.job ≡ H.job handle) × (result.cell ≡ self.cell)
             × (result.grace ≡ self.grace) }
@@ -77,7 +77,7 @@ impl<J: Job, H: Joins<J> + Drop> Model for JwtSupervisorHandle<J, H> {
 }
 
 impl<J: Job, H: Joins<J> + Drop> JwtSupervisorHandle<J, H> {
-    /// Closes the source, waits for the supervisor, and gives what its job leaves.
+    /// Closes the source, waits for the supervisor, and returns what its job leaves.
     pub fn close_and_join(self) -> J::Done
         ensures { J.may_give self.job result }
     {
@@ -91,7 +91,7 @@ impl<J: Job, H: Joins<J> + Drop> JwtSupervisorHandle<J, H> {
     }
 
     /// Closes the source and waits for the supervisor. It asks the clock right before and right
-    /// after the wait, which may take the grace.
+    /// after the wait, which may take as long as the grace.
     pub fn shutdown_with_timeout<T: Clock>(
         self,
         clock: &mut T,
@@ -111,8 +111,8 @@ impl<J: Job, H: Joins<J> + Drop> JwtSupervisorHandle<J, H> {
         shut(started, ended, grace)
     }
 
-    /// The same with the grace of the builder. Where there is none it asks no clock and never times
-    /// out.
+    /// The same with the grace that the builder set. Where it set none, no clock is asked and
+    /// nothing times out.
     pub fn shutdown_configured<T: Clock>(self, clock: &mut T) -> Result<(), JwtSourceError>
         ensures { ShutsConfigured self.grace (T.moments clock.old) (T.moments clock.new) result }
     {
@@ -140,7 +140,7 @@ fn is_late(started: i64, ended: i64, grace: Duration) -> bool
     taken > 0 && taken as u128 * 1_000_000_000 > grace.as_nanos()
 }
 
-/// The answer of a shutdown by its two moments.
+/// The result of a shutdown by its two moments.
 fn shut(started: Option<i64>, ended: Option<i64>, grace: Duration) -> Result<(), JwtSourceError>
     ensures { Shuts grace started ended result }
 {
@@ -162,8 +162,8 @@ where
     R: Wait + Drop,
     H: Joins<JwtJob<C, M, W, N, R>> + Drop,
 {
-    /// Closes the source, waits for the supervisor, and gives its record: what the pass of the same
-    /// source has then seen is exactly the steps of the record, and it never sees more.
+    /// Closes the source, waits for the supervisor, and returns its record: what the pass of the
+    /// same source has then seen is exactly the steps of the record, and it never sees more.
     pub fn join_record(self, pass: &mut JwtPass) -> Result<JwtSupervised, OutOfMemory>
         requires { pass.old.book ≡ self.job.board }
         ensures record { IfOk result (IsOf C.members self.job) }

@@ -47,8 +47,8 @@ impl<R: Wait + Drop> Model for JwtDone<R> {
 }
 
 impl<R: Wait + Drop> JwtDone<R> {
-    /// The record, where the pass of the same source learns all that was published: its steps
-    /// are what the pass has then seen, and it never sees more.
+    /// Returns the record, and lets the pass of the same source learn all that was published: the
+    /// steps of the record are what the pass has then seen, and it never sees more.
     pub fn into_record(self, pass: &mut JwtPass) -> Result<JwtSupervised, OutOfMemory>
         requires { pass.old.book ≡ self.past.book }
         ensures record { IfOk result (λ r. self.recorded ≡ Some r) }

@@ -55,8 +55,8 @@ fn stopped(stop: Stop) -> JwtSourceError
     }
 }
 
-/// Validates the connector, lets it and the pause heed the mark, and synchronises. A single wait
-/// takes at most the timeout meanwhile.
+/// Validates the connector, lets it and the pause heed the stop flag, and synchronises. A single
+/// wait takes at most the timeout meanwhile.
 pub(crate) fn synchronised<C, M, T, W, N, R>(
     rt: &R,
     alloc: Global,
@@ -122,7 +122,7 @@ where
     }
 }
 
-/// The one step of a publisher, and once more among the steps.
+/// The one step of a publisher, and the list of steps with that one.
 fn first_step(
     publisher: &MemJwtPublisher,
     steps: &mut Vec<JwtStep>,

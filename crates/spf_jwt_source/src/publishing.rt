@@ -57,7 +57,7 @@ impl<R: Wait + Drop> BoardPublisher<R> {
         self.desk.front()
     }
 
-    /// Publishes the end, and gives the steps.
+    /// Publishes the end, and returns the steps.
     pub(crate) fn finish(self) -> (JwtEnded<R>, Vec<JwtStep>)
         ensures steps { map plain result.1.items ≡ steps_of self.list }
         ensures board { (result.0.book ≡ self.book)

@@ -67,7 +67,7 @@ impl JwtSupervised {
         }
     }
 
-    /// The events, oldest first.
+    /// Returns the events, oldest first.
     pub fn events(&self) -> &[JwtEvent]
         ensures events { result.now ≡ self.now.run }
         ensures kept { IsRecord self.now }
@@ -75,7 +75,7 @@ impl JwtSupervised {
         self.events.as_slice()
     }
 
-    /// The steps that were published, oldest first.
+    /// Returns the steps that were published, oldest first.
     pub fn steps(&self) -> &[JwtStep]
         ensures steps { map plain result.now ≡ self.now.steps }
         ensures kept { IsRecord self.now }
@@ -83,14 +83,14 @@ impl JwtSupervised {
         self.steps.as_slice()
     }
 
-    /// The delays between attempts, oldest first.
+    /// Returns the delays between attempts, oldest first.
     pub fn delays(&self) -> &[Duration]
         ensures { result.now ≡ self.now.pace.delays.items }
     {
         self.pace.delays()
     }
 
-    /// Why the supervisor ended.
+    /// Returns why the supervisor ended.
     pub fn end(&self) -> SupervisorEnd
         ensures { result ≡ SupervisorEnd.Closed }
     {

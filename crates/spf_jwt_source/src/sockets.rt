@@ -26,8 +26,8 @@ impl<C: Connector + Drop, M: JwtMetricsRecorder + Drop> JwtSourceBuilder<C, M>
 where
     C::Link: Drop,
 {
-    /// Reads of the endpoint that a text names, as `unix:///run/agent.sock`. The text is parsed
-    /// when the source is built.
+    /// Reads from the endpoint that a text names, such as `unix:///run/agent.sock`. The text is
+    /// parsed when the source is built.
     pub fn endpoint<N: Net<Stream = TcpStream> + Drop>(
         self,
         net: N,
@@ -45,7 +45,7 @@ where
 }
 
 impl JwtSource {
-    /// A builder over a connector, on which nothing is set.
+    /// Returns a builder over a connector, on which nothing is set.
     pub fn builder<C: Connector + Drop>(connector: C) -> JwtSourceBuilder<C, NoRecorder>
         ensures connector { result.connector ≡ connector }
         ensures settings { IsDefault result.settings }
@@ -53,7 +53,8 @@ impl JwtSource {
         JwtSourceBuilder::new(connector)
     }
 
-    /// A source of the endpoint that the environment names, by a builder on which nothing is set.
+    /// Returns a source of the endpoint that the environment names, by a builder on which nothing
+    /// is set.
     pub fn new<N, E, T, W, G, R, S, L>(
         rt: R,
         net: N,

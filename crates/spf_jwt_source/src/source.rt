@@ -32,7 +32,7 @@ use std::marker::Model;
 use std::sync::Arc;
 
 /// A handle of a source. What it gives is read through a pass of its board, without a lock. When
-/// the last handle is let go, the source is closed.
+/// the last handle is dropped, the source is closed.
 #[derive(Drop)]
 pub struct JwtSource {
     front: Front<Jwt>,
@@ -60,8 +60,8 @@ impl fmt::Debug for JwtSource {
 }
 
 impl JwtSource {
-    /// A source over a board that its caller publishes on, and the cell that the closer closes. The
-    /// bell is rung at each change. `JwtSourceBuilder` makes all of this.
+    /// Returns a source over a board that its caller publishes on, and the cell that the closer
+    /// closes. The bell is rung at each change. `JwtSourceBuilder` makes all of this.
     pub fn over(
         alloc: Global,
         front: Front<Jwt>,
@@ -83,7 +83,7 @@ impl JwtSource {
         })
     }
 
-    /// The state that is published now, read through the pass.
+    /// Returns the state that is published now, read through the pass.
     pub fn state(&self, pass: &mut JwtPass) -> Result<JwtSourceState, OutOfMemory>
         requires { pass.old.book ≡ self.now.board }
         ensures state { IfOk result (λ s. IsStateOf pass.new.seen s.closed s) }
@@ -95,7 +95,7 @@ impl JwtSource {
         pass.state(closed)
     }
 
-    /// The bundle set that is held. Closed comes first.
+    /// Returns the bundle set that is held. Whether the source is closed is looked at first.
     pub fn bundle_set(&self, pass: &mut JwtPass) -> Result<Arc<JwtBundleSet>, JwtSourceError>
         requires { pass.old.book ≡ self.now.board }
         ensures gets { Gets SetAnswer self.now.cell pass.old pass.new result }
@@ -106,7 +106,8 @@ impl JwtSource {
         state.bundle_set()
     }
 
-    /// A share of the bundle of the trust domain in the held bundle set. Closed comes first.
+    /// A share of the bundle of the trust domain in the held bundle set. Whether the source is
+    /// closed is looked at first.
     fn bundle_of(
         &self,
         pass: &mut JwtPass,
@@ -121,7 +122,7 @@ impl JwtSource {
         Ok(bundle_set.get(trust_domain)?)
     }
 
-    /// The bundle of the trust domain in the held bundle set, None where there is none.
+    /// Returns the bundle of the trust domain in the held bundle set, None where there is none.
     pub fn try_bundle_for_trust_domain(
         &self,
         pass: &mut JwtPass,
@@ -138,8 +139,8 @@ impl JwtSource {
         }
     }
 
-    /// Whether a bundle set with a key is permitted. A closed source is not healthy. It takes no
-    /// memory, and the pass keeps nothing of what it reads.
+    /// Returns whether a bundle set with a key is permitted. A closed source is not healthy. It
+    /// allocates nothing, and the pass keeps nothing of what it reads.
     pub fn is_healthy(&self, pass: &mut JwtPass) -> bool
         requires { pass.old.book ≡ self.now.board }
         ensures healthy { IsHealthy self.now.cell pass.old pass.new result }
@@ -151,7 +152,7 @@ impl JwtSource {
         pass.is_usable()
     }
 
-    /// Another pass of the source, which has seen what the giver has seen.
+    /// Returns another pass of the source, which has seen what the giver has seen.
     pub fn another_pass<H: JwtPlaces>(
         &self,
         giver: &mut JwtPass,
@@ -188,8 +189,8 @@ impl JwtSource {
         Ok(updates)
     }
 
-    /// Fetches a JWT-SVID for the audience, of any identity of the workload. Closed comes first,
-    /// and then the fetcher asks nothing.
+    /// Fetches a JWT-SVID for the audience, of any identity of the workload. Whether the source is
+    /// closed is looked at first; if it is, the fetcher asks nothing.
     pub fn fetch_jwt_svid<F: Connector>(
         &self,
         alloc: Global,
@@ -207,7 +208,7 @@ impl JwtSource {
         self.fetch_jwt_svid_with_id(alloc, fetcher, audience, None)
     }
 
-    /// The same of that identity.
+    /// The same for that identity.
     pub fn fetch_jwt_svid_with_id<F: Connector>(
         &self,
         alloc: Global,
@@ -240,7 +241,7 @@ impl JwtSource {
         self.closing.close();
     }
 
-    /// Another handle of the same source. It takes no place.
+    /// Returns another handle of the same source. It takes no place.
     pub fn try_clone(&mut self) -> Result<JwtSource, OutOfMemory>
         ensures unchanged { self.new ≡ self.old }
         ensures same { IfOk result (λ s. s ≡ self.old) }
@@ -262,11 +263,12 @@ impl BundleSource for JwtSource {
 
     type Seen = JwtPass;
 
-    ghost use Rattle.std.specs.Prelude.{◌≡◌};
-    ghost use Rattle.std.specs.Option.{option_and_then};
+    ghost use Rattle.std.specs.Prelude.{◌≡◌, IfOk};
+    ghost use Rattle.std.specs.Arc.{arc_value};
+    ghost use Rattle.std.specs.Option.{option_and_then, option_map};
     ghost use Rattle.spf_view.specs.Standing.{held_in};
     ghost use Rattle.spf_x509.specs.Bundle.{find_entry};
-    ghost use Rattle.spf_jwt_source.specs.Reads.{OfState};
+    ghost use Rattle.spf_jwt_source.specs.Reads.{BundleAnswer, Gets, OfState, SeesNoLess};
 
     ghost fits = { λ source pass. pass.book ≡ source.board };
 
@@ -277,7 +279,16 @@ impl BundleSource for JwtSource {
         &self,
         seen: &mut JwtPass,
         trust_domain: &TrustDomain,
-    ) -> Result<Option<Arc<JwtBundle>>, JwtSourceError> {
+    ) -> Result<Option<Arc<JwtBundle>>, JwtSourceError>
+        requires { seen.old.book ≡ self.now.board }
+        ensures fits { seen.new.book ≡ self.now.board }
+        ensures answer { IfOk result (λ o. OfState seen.new (λ view.
+            option_and_then (find_entry trust_domain.now) (held_in view)
+            ≡ option_map arc_value o)) }
+        ensures gets { Gets (λ view. BundleAnswer view trust_domain.now) self.now.cell seen.old
+            seen.new result }
+        ensures pass { SeesNoLess seen.old seen.new }
+    {
         self.bundle_of(seen, trust_domain)
     }
 }

@@ -70,8 +70,8 @@ fn unseen(pass: &mut JwtPass, marked: u64) -> Result<Option<u64>, OutOfMemory>
     }
 }
 
-/// One look for a change. That the source is closed counts where nothing else is published than
-/// what is marked.
+/// One look for a change. That the source is closed counts only where nothing is published but the
+/// marked revision.
 fn look_for_change(
     watch: &Watch,
     pass: &mut JwtPass,
@@ -91,7 +91,7 @@ fn look_for_change(
     Ok(None)
 }
 
-/// Waits until another revision is published than the marked one, or the source is closed.
+/// Waits until a revision other than the marked one is published, or the source is closed.
 fn await_change<R: Wait + Clock>(
     rt: &R,
     watch: &Watch,
@@ -127,7 +127,7 @@ impl JwtSourceUpdates {
         }
     }
 
-    /// The state that is published now. Its revision is then marked as seen.
+    /// Returns the state that is published now. Its revision is then marked as seen.
     pub fn state(&mut self) -> Result<JwtSourceState, OutOfMemory>
         ensures cell { self.new.cell ≡ self.old.cell }
         ensures state { IfOk result (λ s. IsStateOf self.new.pass.seen s.closed s) }
@@ -144,7 +144,7 @@ impl JwtSourceUpdates {
         Ok(state)
     }
 
-    /// The revision that is published now, which is not marked as seen.
+    /// Returns the revision that is published now, which is not marked as seen.
     pub fn last(&mut self) -> Result<u64, OutOfMemory>
         ensures cell { self.new.cell ≡ self.old.cell }
         ensures revision { IfOk result (IsRevision self.new.pass) }
@@ -156,8 +156,8 @@ impl JwtSourceUpdates {
         revision_of(&mut self.pass)
     }
 
-    /// Waits until another revision is published than the marked one, which it then marks. Where
-    /// the source is closed there is none: an unseen revision comes first.
+    /// Waits until a revision other than the marked one is published, marks it, and returns it. It
+    /// fails where the source is closed, but an unseen revision comes first.
     pub fn changed<R: Wait + Clock>(&mut self, rt: &R) -> Result<u64, JwtSourceError>
         ensures cell { self.new.cell ≡ self.old.cell }
         ensures revision { IfOk result (λ revision. IsRevision self.new.pass revision
@@ -173,7 +173,8 @@ impl JwtSourceUpdates {
         Ok(revision)
     }
 
-    /// The revision that is published now, which is not marked as seen. Closed comes first.
+    /// The revision that is published now, which is not marked as seen. Whether the source is
+    /// closed is looked at first.
     fn current(&mut self) -> Result<u64, JwtSourceError>
         ensures cell { self.new.cell ≡ self.old.cell }
         ensures revision { IfOk result (IsRevision self.new.pass) }
@@ -187,8 +188,9 @@ impl JwtSourceUpdates {
         Ok(revision_of(&mut self.pass)?)
     }
 
-    /// The current revision, not marked as seen, where `f` takes it; otherwise the first one of
-    /// [`JwtSourceUpdates::changed`] that `f` takes. Closed comes first.
+    /// Returns the current revision, not marked as seen, where `f` takes it; otherwise the first
+    /// one of [`JwtSourceUpdates::changed`] that `f` takes. Whether the source is closed is looked
+    /// at first.
     pub fn wait_for<R: Wait + Clock, F: FnMut(&u64) -> bool>(
         &mut self,
         rt: &R,
@@ -219,7 +221,7 @@ impl JwtSourceUpdates {
         unreachable!()
     }
 
-    /// The pass, with all that it has seen.
+    /// Returns the pass, with all that it has seen.
     pub fn into_pass(self) -> JwtPass
         ensures { result ≡ self.pass }
     {

@@ -1,4 +1,4 @@
-//! Sources that are built over doubles: the row build-causes.
+//! Sources that are built over doubles: what a build gives, by the answers of its link.
 
 ghost use Rattle.std.specs.Prelude.{◌≡◌};
 
@@ -137,7 +137,7 @@ fn build_causes(rt: HostRuntime) -> Result<(), Fail> {
     Ok(())
 }
 
-/// Where no place and where no supervisor is given.
+/// What a build gives without a place, and without a supervisor.
 #[test]
 fn refused_builds(rt: HostRuntime) -> Result<(), Fail> {
     let alloc = rt.alloc();

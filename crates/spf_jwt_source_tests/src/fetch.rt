@@ -48,7 +48,7 @@ fn fetched(
     }
 }
 
-/// The row after-shutdown, as far as it is about fetches.
+/// What fetches return before and after a shutdown.
 #[test]
 fn fetches_of_a_source(rt: HostRuntime) -> Result<(), Fail> {
     let alloc = rt.alloc();

@@ -1,4 +1,4 @@
-//! Responses and connectors of memory.
+//! Responses and in-memory connectors.
 
 use spf_api::{
     BundleEntry, BundlesResponse, GrpcStatusCode, GrpcStatusError, JwtSvidEntry, JwtSvidsResponse,

@@ -41,7 +41,7 @@ fn first_bundles(alloc: Global) -> Result<JwtBundleSet, Fail> {
     }
 }
 
-/// An open source, with what sets its mark and a pass of its board.
+/// An open source, with the closer that sets its mark, and a pass of its board.
 pub(crate) fn opened<R: Wait + Drop>(
     rt: R,
     alloc: Global,
@@ -124,7 +124,7 @@ fn is_closed_at(source: &JwtSource, pass: &mut JwtPass, revision: u64) -> bool
     }
 }
 
-/// The row after-shutdown, as far as it is about the getters.
+/// What the getters return before and after a shutdown.
 #[test]
 fn after_shutdown(rt: HostRuntime) -> Result<(), Fail> {
     let alloc = rt.alloc();
@@ -152,7 +152,7 @@ fn followed(source: &JwtSource, pass: &mut JwtPass) -> Result<(u64, u64, bool), 
     Ok((last, state.revision(), state.is_closed()))
 }
 
-/// Whether updates follow revision 0, and say so that the source is closed.
+/// Whether updates follow revision 0, and say accordingly whether the source is closed.
 fn follows_first(source: &JwtSource, pass: &mut JwtPass, is_closed: bool) -> bool
     requires { pass.old.book ≡ source.now.board }
     ensures { pass.new.book ≡ pass.old.book }
@@ -163,7 +163,7 @@ fn follows_first(source: &JwtSource, pass: &mut JwtPass, is_closed: bool) -> boo
     }
 }
 
-/// Whether no further pass is given where no place is.
+/// Whether there is no further pass where there is no place.
 fn lacks_place(source: &JwtSource, pass: &mut JwtPass) -> bool
     requires { pass.old.book ≡ source.now.board }
 {
@@ -173,7 +173,7 @@ fn lacks_place(source: &JwtSource, pass: &mut JwtPass) -> bool
     }
 }
 
-/// Updates go on after the source is closed. Where no place is given there are none.
+/// Updates go on after the source is closed. Where there is no place there are none.
 #[test]
 fn updates_of_a_source(rt: HostRuntime) -> Result<(), Fail> {
     let (mut source, mut pass, _desk, _stop) = opened(rt, rt.alloc())?;
@@ -223,7 +223,7 @@ fn waits_for_a_change(rt: HostRuntime) -> Result<(), Fail> {
     Ok(())
 }
 
-/// The source is closed when its last handle is let go, and not before.
+/// The source is closed when its last handle is dropped, and not before.
 #[test]
 fn last_handle_closes(rt: HostRuntime) -> Result<(), Fail> {
     let (mut source, _pass, _desk, stop) = opened(rt, rt.alloc())?;

@@ -32,8 +32,8 @@ fn keys_of(alloc: Global, keys: &str) -> Result<String, Fail> {
     keys_in(alloc, &bundle)
 }
 
-/// Key sets and their keys: of an equal key ID the last stands, and in a key the names stand in
-/// order at every depth, of equal ones the last.
+/// Key sets and their keys: of keys with the same ID the last one counts, and in a key the names
+/// are in order at every depth, of equal names the last.
 const KEYS: [(&str, &str); 4] = [
     ("{\"keys\":[]}", ""),
     (
@@ -123,7 +123,7 @@ fn kept_key_set(rt: HostRuntime) -> Result<(), Fail> {
     Ok(())
 }
 
-/// A bundle whose key set was read anew, with a copy of a key added.
+/// A bundle whose key set was read again, with a copy of a key added.
 fn with_another(alloc: Global) -> Result<JwtBundle, Fail> {
     let mut bundle = keeping(alloc, KEPT)?;
     let key = JwtAuthority::from_jwk_json(alloc, b"{\"kid\":\"a\"}")?;

@@ -8,7 +8,7 @@ use spf_jwt::{
 use std::alloc::Global;
 use std::test::Fail;
 
-/// A piece so many times, between two texts.
+/// A piece this many times, between two texts.
 fn filled(
     alloc: Global,
     before: &str,
@@ -20,7 +20,7 @@ fn filled(
     Ok(format!(in alloc; "{before}{middle}{after}")?)
 }
 
-/// A key set beside which lists are nested so deep.
+/// A key set beside which lists are nested this deep.
 fn nested(alloc: Global, depth: usize) -> Result<String, Fail> {
     let open = filled(alloc, "{\"keys\":[],\"x\":", "[", depth, "")?;
     filled(alloc, open.as_str(), "]", depth, "}")
@@ -93,7 +93,7 @@ fn largest(alloc: Global) -> Result<JwtBundleSet, Fail> {
     Ok(set)
 }
 
-/// It is read, and passes the limit of octets, which is told with the amount.
+/// It is read, and passes the limit of octets, which is reported with the amount.
 #[test]
 fn largest_key_set(rt: HostRuntime) -> Result<(), Fail> {
     let set = largest(rt.alloc())?;

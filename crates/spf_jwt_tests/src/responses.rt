@@ -19,7 +19,7 @@ fn entry(alloc: Global, name: &str, keys: &str) -> Result<BundleEntry, Fail> {
     })
 }
 
-/// The set of two bundles of one trust domain, of which the last stands.
+/// The set of two bundles of one trust domain, of which the last one counts.
 fn bundle_set(alloc: Global) -> Result<JwtBundleSet, Fail> {
     let first = entry(alloc, "example.org", "{\"keys\":[]}")?;
     let last = entry(alloc, "example.org", "{\"keys\":[{\"kid\":\"k\"}]}")?;

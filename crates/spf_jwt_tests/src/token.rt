@@ -59,7 +59,7 @@ fn outcome_of(alloc: Global, header: &str, claims: &str) -> Result<String, Fail>
     outcome(alloc, token.as_str())
 }
 
-/// Texts that are no tokens, by their parts alone.
+/// Texts that are not tokens, by their parts alone.
 const BROKEN_PARTS: [(&str, &str); 8] = [
     ("not-a-jwt", "Parts"),
     ("", "Parts"),

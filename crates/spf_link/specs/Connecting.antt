@@ -22,7 +22,7 @@ pub record HasClientCause {T : Type 0} (before now : ℕ) (result : Result T Cli
 abbrev pub Member : Type 0
 Member = Result (List Answer) ClientFault
 
--- what a `connect` gives by the members to come: none refuses
+-- what a `connect` gives for the members to come; where there is none, it refuses
 abbrev pub connected_by : List Member → Member
 connected_by (m ∷ members) = m
 connected_by [] = Err (fault.Status unavailable)

@@ -10,7 +10,7 @@ abbrev pub value_in : List ℕ → List Header → Option (List ℕ)
 value_in name [] = None
 value_in name (h ∷ headers) = if bytes_eq h.0 name then Some h.1 else value_in name headers
 
--- the headers without the one of this name
+-- the headers without that of this name
 abbrev pub without : List ℕ → List Header → List Header
 without name [] = []
 without name (h ∷ headers) = if bytes_eq h.0 name then headers else h ∷ without name headers

@@ -1,4 +1,4 @@
--- How a link and a connector of memory answer: what they are made of, and what each call leaves.
+-- How a link and a connector in memory answer: what they are made of, and what each call leaves.
 use Rattle.std.specs.Prelude.{◌≡◌, ℕ, ◌⊎◌, List, [], ◌∷◌, ◌++◌, map, Option, None, Some, Result, Ok}
 use Rattle.std.specs.Prelude.{Err}
 use Rattle.spf_io.specs.Memory.{next_number}
@@ -39,8 +39,8 @@ abbrev pub kind_after : {T : Type 0} → Result T LinkFault → Request → Opti
 kind_after (Ok _) request = Some (answered_by request)
 kind_after (Err f) request = None
 
--- a `start` returns by the next answer, and keeps what it was given; where memory runs out, at most
--- an answer is taken
+-- a `start` returns what the next answer says, and keeps what it was given; where memory runs out,
+-- at most an answer is taken
 abbrev pub StartsInMemory : LinkState → Start → Result (Unit {0}) LinkFault → LinkState → Type 0
 StartsInMemory old start (Err fault.OutOfMemory) new = (new ≡ old)
     ⊎ ((started_by old.answers ≡ Err fault.OutOfMemory)
@@ -55,7 +55,7 @@ StartsInMemory old start result new =
       refusals = refusals_after result old.refusals;
     })
 
--- a `next` returns by the next answer
+-- a `next` returns what the next answer says
 abbrev pub NextsInMemory : LinkState → Result (Option Response) LinkFault → LinkState → Type 0
 NextsInMemory old result new =
     (result ≡ next_by old.kind old.answers)
@@ -71,7 +71,7 @@ client_refusals_after (Ok _) refusals = refusals
 client_refusals_after (Err client.OutOfMemory) refusals = refusals
 client_refusals_after (Err f) refusals = next_number refusals
 
--- the next link or fault: none refuses
+-- the next link or fault; where there is none, a refusal
 abbrev pub next_link : List (Result LinkState ClientFault) → Result LinkState ClientFault
 next_link [] = Err (client.Status unavailable)
 next_link (link ∷ links) = link

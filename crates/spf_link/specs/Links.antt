@@ -40,16 +40,16 @@ StartAppends None new result start = Unit {0}
 StartAppends (Some old) new (Err fault.OutOfMemory) start = new ≡ Some old
 StartAppends (Some old) new result start = new ≡ Some (old ++ start ∷ [])
 
--- UNAVAILABLE with an empty message, by which a link refuses that has no answer that fits
+-- UNAVAILABLE with an empty message, with which a link refuses where no answer fits
 abbrev pub unavailable : Refused
 unavailable = record { code = code.Unavailable; message = []; source = None }
 
--- the members behind the first one
+-- the members after the first one
 abbrev pub rest_of : {A : Type 0} → List A → List A
 rest_of [] = []
 rest_of (x ∷ xs) = xs
 
--- the next answer is taken, and the call returns by it, unless memory ran out
+-- the next answer is taken, and the call returns what it says, unless memory ran out
 abbrev pub Takes : {T : Type 0} → Option (List Answer) → Option (List Answer)
     → (List Answer → Result T LinkFault) → Result T LinkFault → Type 0
 Takes None new by result = Unit {0}
@@ -57,13 +57,14 @@ Takes (Some answers) new by (Err fault.OutOfMemory) = (new ≡ Some answers)
     ⊎ (new ≡ Some (rest_of answers))
 Takes (Some answers) new by result = (new ≡ Some (rest_of answers)) × (result ≡ by answers)
 
--- what a `start` returns by the answers to come: an answer that does not fit refuses like none
+-- what a `start` returns for the answers to come: an answer that does not fit is a refusal, as
+-- where there is none
 abbrev pub started_by : List Answer → Result (Unit {0}) LinkFault
 started_by (answer.Started ∷ answers) = Ok tt
 started_by (answer.Refused f ∷ answers) = Err f
 started_by _ = Err (fault.Status unavailable)
 
--- whether responses of the first kind were asked for
+-- whether responses of this kind were asked for
 abbrev pub is_kind : Option ResponseKind → ResponseKind → Bool
 is_kind (Some kind.Context) kind.Context = true
 is_kind (Some kind.Bundles) kind.Bundles = true
@@ -72,7 +73,7 @@ is_kind (Some kind.JwtBundles) kind.JwtBundles = true
 is_kind (Some kind.Validation) kind.Validation = true
 is_kind _ _ = false
 
--- what a `next` returns by the answers to come, where responses of that kind were asked for
+-- what a `next` returns for the answers to come, where responses of that kind were asked for
 abbrev pub next_by : Option ResponseKind → List Answer → Result (Option Response) LinkFault
 next_by asked (answer.End ∷ answers) = Ok None
 next_by asked (answer.Refused f ∷ answers) = Err f

@@ -16,7 +16,7 @@ abbrev pub IsRefusedAs : Option Refused → List Header → List Header → Work
 IsRefusedAs None left headers e = ⊥
 IsRefusedAs (Some s) left headers e = (e ≡ status_reading s) × (left ≡ headers)
 
--- the status of the interceptor, or its headers with the one of the Workload API; unless memory ran
+-- the status of the interceptor, or its headers with that of the Workload API; unless memory ran
 -- out
 abbrev pub IsAdded : {T : Type 0} → Intercepted → List Header → Result T WorkloadApiError → Type 0
 IsAdded i left (Ok done) = (i.refusal ≡ None) × (left ≡ with_metadata i.headers)

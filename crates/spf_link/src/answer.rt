@@ -1,4 +1,4 @@
-//! Answers of a link that are told beforehand.
+//! Answers that a link in memory is given beforehand.
 
 use spf_api::{LinkFault, Response};
 

@@ -1,4 +1,4 @@
-//! What makes links.
+//! Connectors, which make links.
 
 ghost use Rattle.std.specs.Prelude.{◌≡◌, ℕ, List, Option, Result};
 ghost use Rattle.spf_io.specs.Rule.{Gives};
@@ -24,14 +24,14 @@ pub trait Connector {
     // What a `connect` may return, and what connector it may leave.
     ghost connect_gives: { Self → Result Self.Link Fault → Self → Type 0 } = { λ _ _ _. Unit {0} };
 
-    /// Whether the endpoint is one. It asks nobody.
+    /// Checks that the endpoint is valid. It connects to nothing.
     fn validate(&mut self) -> Result<(), EndpointError>
         ensures result { Gives is_memory (λ u. u) result (validates self.old) }
         ensures validates { validates self.new ≡ validates self.old }
         ensures refusals { refusals self.new ≡ refusals self.old }
         ensures members { members self.new ≡ members self.old };
 
-    /// Makes a link.
+    /// Connects, and returns the link.
     fn connect(&mut self) -> Result<Self::Link, ClientFault>
         ensures gives { connect_gives self.old result self.new }
         ensures cause { HasClientCause (refusals self.old) (refusals self.new) result }
@@ -39,7 +39,7 @@ pub trait Connector {
         ensures members { Connects Self.Link.answers (members self.old) (members self.new) result };
 
     /// From here on a wait of the connector, and of the links that it makes, ends soon once the
-    /// mark is set, where it can.
+    /// flag is set, where it can.
     fn heed(&mut self, stop: StopFlag)
         ensures validates { validates self.new ≡ validates self.old }
         ensures refusals { refusals self.new ≡ refusals self.old }

@@ -8,8 +8,8 @@ use spf_io::{OutOfMemory, Text};
 use std::alloc::Global;
 use std::marker::Model;
 
-/// Names and values, a name once, in the order in which they were first set. Contracts see the list
-/// of pairs.
+/// Names and values, each name once, in the order in which they were first set. Contracts see the
+/// list of pairs.
 #[derive(Drop)]
 pub struct Headers {
     alloc: Global,
@@ -43,7 +43,7 @@ fn is_named(entry: &(Text, Text), name: &str) -> bool
 }
 
 impl Headers {
-    /// No headers.
+    /// Returns an empty list of headers.
     pub fn new(alloc: Global) -> Headers
         ensures { result ≡ [] }
     {
@@ -53,7 +53,7 @@ impl Headers {
         }
     }
 
-    /// The value under a name.
+    /// Returns the value of a name.
     pub fn get(&self, name: &str) -> Option<&str>
         ensures { option_copied result ≡ value_in name.now self.now }
     {
@@ -67,7 +67,7 @@ impl Headers {
         None
     }
 
-    /// Takes the name and its value out, where it is there.
+    /// Removes the name and its value, where it is there.
     pub fn remove(&mut self, name: &str)
         ensures { self.new ≡ without name.now self.old }
     {
@@ -85,7 +85,7 @@ impl Headers {
         self.entries.iter().position(|entry| is_named(entry, name))
     }
 
-    /// Puts the value under the name, in place of the one that was there.
+    /// Sets the value of the name, in place of the one that was there.
     pub fn set(&mut self, name: &str, value: &str) -> Result<(), OutOfMemory>
         ensures ok { OnOk result (self.new ≡ with_header name.now value.now self.old) }
         ensures err { OnErr result (self.new ≡ self.old) }
@@ -101,7 +101,7 @@ impl Headers {
         Ok(())
     }
 
-    /// A copy of the headers.
+    /// Returns a copy of the headers.
     pub fn try_clone(&self, alloc: Global) -> Result<Headers, OutOfMemory>
         ensures { IfOk result (λ h. h ≡ self.now) }
     {
@@ -111,7 +111,7 @@ impl Headers {
         })
     }
 
-    /// The names and values.
+    /// Returns the names and values.
     pub fn entries(&self) -> &[(Text, Text)]
         ensures { result.now ≡ self.now }
     {

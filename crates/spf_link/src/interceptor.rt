@@ -21,7 +21,7 @@ pub enum InterceptorFault {
 pub trait Interceptor {
     // What becomes of headers.
     ghost intercepts: { Self → List Header → Intercepted };
-    // The interceptor may be called, and answers by its function.
+    // The interceptor may be called, and does what its function says.
     ghost can_intercept: { Self → Type 0 } = { λ _. Unit {0} };
 
     fn call(&self, headers: &mut Headers) -> Result<(), InterceptorFault>

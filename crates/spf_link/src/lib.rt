@@ -1,5 +1,5 @@
 //! What a client of the Workload API asks over: requests with their headers and interceptors, links
-//! and connectors of any kind, and those of memory.
+//! and connectors of any kind, and those in memory.
 #![tactic(auto)]
 
 mod answer;

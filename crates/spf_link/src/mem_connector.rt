@@ -1,4 +1,4 @@
-//! A connector of memory.
+//! A connector in memory.
 
 ghost use Rattle.std.specs.Prelude.{◌≡◌, Ok, Some, map};
 ghost use Rattle.spf_link.specs.InMemory.{ConnectsInMemory, client_refusals_after, members_of};

@@ -1,4 +1,4 @@
-//! A link of memory.
+//! A link in memory.
 
 ghost use Rattle.std.specs.Prelude.{◌≡◌, List, [], None, Option, Some, Result, IfOk, IfSome};
 ghost use Rattle.std.specs.Option.{option_to_list};
@@ -61,7 +61,7 @@ fn unfit(alloc: Global) -> LinkFault
     LinkFault::Status(unavailable(alloc))
 }
 
-/// What a `start` returns by an answer.
+/// What a `start` returns for an answer.
 fn started_by(alloc: Global, answer: Option<Answer>) -> Result<(), LinkFault>
     ensures { result ≡ spec.started_by (option_to_list answer) }
 {
@@ -85,7 +85,7 @@ fn is_asked(kind: Option<ResponseKind>, response: &Response) -> bool
     }
 }
 
-/// What a `next` returns by an answer, where responses of that kind were asked for.
+/// What a `next` returns for an answer, where responses of that kind were asked for.
 fn given_by(
     alloc: Global,
     kind: Option<ResponseKind>,
@@ -136,7 +136,7 @@ impl MemLink {
         }
     }
 
-    /// What each `start` was given, oldest first.
+    /// Returns what each `start` was given, oldest first.
     pub fn starts(&self) -> &[Start]
         ensures { result.now ≡ self.now.starts }
     {

@@ -41,7 +41,7 @@ fn copies_of(alloc: Global, texts: &[Text]) -> Result<List<Text>, OutOfMemory>
 }
 
 impl Request {
-    /// A copy of the request.
+    /// Returns a copy of the request.
     pub fn try_clone(&self, alloc: Global) -> Result<Request, OutOfMemory>
         ensures { IfOk result (λ r. r ≡ self.now) }
     {
@@ -63,7 +63,7 @@ impl Request {
         }
     }
 
-    /// The kind of the responses that it asks for.
+    /// Returns the kind of the responses that it asks for.
     pub fn response_kind(&self) -> ResponseKind
         ensures { result ≡ answered_by self.now }
     {
@@ -85,7 +85,7 @@ pub struct Start {
 }
 
 impl Start {
-    /// A copy of the headers and of the request.
+    /// Returns a copy of the headers and of the request.
     pub fn copy_of(
         alloc: Global,
         headers: &Headers,

@@ -62,7 +62,8 @@ AreAt clock (line ∷ earlier) clock' =
 -- ---- what is printed
 
 -- One more line is printed, of a state that was read of what the pass has seen, whose revision is
--- marked and above an earlier one. A failed sink may cut it; out of memory there is none.
+-- marked and above an earlier one. A failed sink may cut it; where memory runs out, none is
+-- printed.
 pub record IsNext (seen : Seen) (marked : ℕ) (earlier : Option ℕ) (clock clock' : Moments)
     (line : Line) : Type 0 where
   pub list_is : line.list ≡ seen
@@ -116,7 +117,7 @@ pub record Printed (first seen : Seen) (earlier : Option ℕ) (count : ℕ) (clo
   pub text : Appends held held' (text_of lines)
   pub number : length lines ≡ count
 
--- behind a first line, whatever that is, others are printed, as many as there are to be
+-- after a first line, whatever that is, the others are printed, as many as are wanted
 abbrev pub PrintsOn : Seen → ℕ → Seen → ℕ → Moments → Moments → Option (List ℕ)
     → Option (List ℕ) → Result (Unit {0}) LiveError → Type 0
 PrintsOn seen marked last count clock clock' held held' r =

@@ -7,7 +7,7 @@ use std::alloc::Global;
 /// The status where the environment names no endpoint.
 pub const NO_ENDPOINT: u8 = 14;
 
-/// Writes after the name of the program why the environment names no endpoint. A failure of
+/// Writes, after the name of the program, why the environment names no endpoint. A failure of
 /// `errors` changes nothing.
 pub fn explain_endpoint<E: Sink>(
     alloc: Global,

@@ -18,14 +18,14 @@ pub enum LiveError {
     OutOfMemory,
     #[error("write failed")]
     WriteFailed,
-    /// The endpoint is none, or the agent rejected the request.
+    /// The endpoint is invalid, or the agent rejected the request.
     #[error("request rejected")]
     Rejected,
     #[error("required RPC is unsupported")]
     Unsupported,
     #[error("initial synchronization timed out")]
     TimedOut,
-    /// No thread was to be had.
+    /// No thread could be started.
     #[error("no supervisor")]
     NoSupervisor,
     /// The board had no place for another reader.

@@ -45,7 +45,7 @@ pub(crate) fn print_source<R: Wait + time::Clock, T: Clock, L: Places, K: Sink>(
     }
 }
 
-/// Prints that many lines of the updates, and gives their pass.
+/// Prints that many lines of the updates, and returns their pass.
 fn print_updates<R: Wait + time::Clock, T: Clock, K: Sink>(
     rt: &R,
     alloc: Global,

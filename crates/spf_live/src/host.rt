@@ -45,7 +45,7 @@ pub struct HostConnector {
 }
 
 impl HostConnector {
-    /// A connector that has not refused yet.
+    /// Returns a connector that has not refused yet.
     pub fn new(host: HostRuntime, alloc: Global) -> HostConnector
         ensures { ⟦<HostConnector as Connector>⟧.refusals result ≡ 0 }
     {
@@ -89,7 +89,7 @@ pub struct HostPause {
 }
 
 impl HostPause {
-    /// A pause that heeds no mark yet.
+    /// Returns a pause that heeds no flag yet.
     pub fn new(host: HostRuntime) -> HostPause {
         HostPause {
             pause: StdPause::new(host),

@@ -40,7 +40,7 @@ where
     // Status 1 comes exactly where the arguments are not those of a live run.
     ensures arguments { (result ≡ 1) ↔ (live_setting (map string_bytes arguments.now) ≡ None) }
     // As `watch_live` over the endpoint, the clock and the threads of the process: no clause says
-    // when a thread is not to be had.
+    // when a thread is not available.
     ensures ended { Ended None (⟦<HintPicker as SvidPicker>⟧.picks) (Ok tt) (Unit {0}) (Unit {0})
         (Rose (K.failures out.old) (K.failures out.new))
         (live_setting (map string_bytes arguments.now)) None None

@@ -22,7 +22,7 @@ fn refusing(alloc: Global, code: GrpcStatusCode) -> Result<MemConnector, Fail> {
     connector(alloc, refusing_link(alloc, code)?)
 }
 
-/// What the run stands on.
+/// What the run is given from outside.
 #[derive(Drop)]
 struct Outside {
     input: MemSource,

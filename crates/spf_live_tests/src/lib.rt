@@ -1,7 +1,9 @@
-//! Tests of live runs, of the gate's too, over doubles.
+//! Tests of live runs, of the gate's too, over doubles, and of their options.
 #![tactic(auto)]
 
 #[cfg(test)]
 mod gate_live;
 #[cfg(test)]
 mod live;
+#[cfg(test)]
+mod options;

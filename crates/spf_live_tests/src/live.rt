@@ -1,4 +1,4 @@
-//! Live runs over links in memory: the row watch-live, and the statuses.
+//! Live runs over in-memory links: their lines and their statuses.
 
 use spf_api::GrpcStatusCode;
 use spf_fixtures::is_written;
@@ -45,7 +45,7 @@ struct Wanted {
     error: &'static str,
 }
 
-/// Whether a run ended so.
+/// Whether a run ended like this.
 fn is_so(
     alloc: Global,
     status: u8,
@@ -61,8 +61,8 @@ fn is_so(
     )
 }
 
-/// Whether a run of these arguments ends so, whose supervisor runs where it is joined, and whose
-/// output fails at these calls.
+/// Whether a run of these arguments ends like this, where the supervisor runs where it is joined,
+/// and the output fails at these calls.
 fn ends<R: Wait + Clock + Copy + Drop>(
     rt: R,
     alloc: Global,

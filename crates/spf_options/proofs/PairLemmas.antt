@@ -1,7 +1,15 @@
 -- Arguments that are pairs of an option and its value, at their end.
 use Rattle.std.proofs.Common.{◌≡◌, refl, ℕ, ◌<◌, ◌++◌, List, [], ◌∷◌, length, map, arith, Option}
-use Rattle.std.proofs.Common.{None, Some, ◌==◌, Bool}
-use Rattle.spf_options.specs.Pairs.{are_pairs, values_of, at_most_one}
+use Rattle.std.proofs.Common.{None, Some, ◌==◌, Bool, Bor}
+use Rattle.std.specs.Prelude.{◌||◌}
+use Rattle.std.specs.List.{list_any}
+use Rattle.std.specs.Str.{bytes_eq}
+use Rattle.spf_options.specs.Pairs.{are_pairs, is_one_of, values_of, at_most_one}
+
+pub any_is_one : (names : List (Bor (List ℕ))) (text : List ℕ)
+    → list_any (λ n. bytes_eq n.now text) names ≡ is_one_of (map (λ n. n.now) names) text
+any_is_one [] text = refl
+any_is_one (name ∷ names) text = rw (any_is_one names text) refl
 
 pub values_none : {X : Type 0} (f : X → List ℕ) (option : List ℕ) (arguments : List X)
     → length arguments < 2 → values_of option (map f arguments) ≡ []

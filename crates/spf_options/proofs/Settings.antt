@@ -5,8 +5,8 @@ use Rattle.spf_feed.specs.declared.limits.ResourceLimits.{ResourceLimits}
 use Rattle.spf_feed.specs.Limits.{default_limits}
 use Rattle.spf_feed.specs.declared.ready.Ready.{Ready}
 use Rattle.spf_feed.specs.declared.ready.Ready.TheVariants as readiness
-use Rattle.spf_options.specs.Live.{is_live_option, limits_in, live_setting}
-use Rattle.spf_options.specs.Pairs.{are_pairs, option_in}
+use Rattle.spf_options.specs.Live.{limits_in, live_names, live_setting}
+use Rattle.spf_options.specs.Pairs.{are_pairs, is_one_of, option_in}
 use Rattle.spf_options.specs.Values.{count_in, limit_in, ready_in, seconds_in, text_in}
 
 pub limits_read : (arguments : List (List ℕ)) (a b c d : Option ℕ)
@@ -26,7 +26,7 @@ limits_read arguments a b c d p q r s = rw (← p, ← q, ← r, ← s) refl
 
 pub setting_read : (arguments : List (List ℕ)) (limits : ResourceLimits) (hint : Option (List ℕ))
     (ready : Ready) (timeout : Option ℕ) (lines : ℕ)
-    → are_pairs is_live_option arguments ≡ true
+    → are_pairs (is_one_of live_names) arguments ≡ true
     → Some limits ≡ limits_in arguments
     → Some hint ≡ option_in text_in None (codes "--hint") arguments
     → Some ready ≡ option_in ready_in readiness.Usable (codes "--ready") arguments

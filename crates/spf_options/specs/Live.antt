@@ -1,12 +1,11 @@
 -- The options of a live run.
-use Rattle.std.specs.Prelude.{ℕ, Bool, ◌||◌, not, List, Option, None, Some, if◌then◌else◌, codes}
-use Rattle.std.specs.Str.{bytes_eq}
+use Rattle.std.specs.Prelude.{ℕ, not, List, [], ◌∷◌, Option, None, Some, if◌then◌else◌, codes}
 use Rattle.spf_io.specs.Option.{◌>>=◌}
 use Rattle.spf_feed.specs.declared.limits.ResourceLimits.{ResourceLimits}
 use Rattle.spf_feed.specs.Limits.{default_limits}
 use Rattle.spf_feed.specs.declared.ready.Ready.{Ready}
 use Rattle.spf_feed.specs.declared.ready.Ready.TheVariants as readiness
-use Rattle.spf_options.specs.Pairs.{are_pairs, option_in}
+use Rattle.spf_options.specs.Pairs.{are_pairs, is_one_of, option_in}
 use Rattle.spf_options.specs.Values.{count_in, limit_in, ready_in, seconds_in, text_in}
 
 -- the limits, the hint of the SVID to take, what the first update must hold, the seconds that the
@@ -19,12 +18,10 @@ pub record LiveSetting : Type 0 where
   pub lines : ℕ
 
 -- the names of the options
-unfoldable pub is_live_option : List ℕ → Bool
-is_live_option name =
-    bytes_eq name (codes "--hint") || bytes_eq name (codes "--max-svids")
-    || bytes_eq name (codes "--max-bundles") || bytes_eq name (codes "--max-bundle-bytes")
-    || bytes_eq name (codes "--max-crl-bytes") || bytes_eq name (codes "--ready")
-    || bytes_eq name (codes "--timeout") || bytes_eq name (codes "--lines")
+unfoldable pub live_names : List (List ℕ)
+live_names =
+    codes "--hint" ∷ codes "--max-svids" ∷ codes "--max-bundles" ∷ codes "--max-bundle-bytes"
+    ∷ codes "--max-crl-bytes" ∷ codes "--ready" ∷ codes "--timeout" ∷ codes "--lines" ∷ []
 
 -- the limits that pairs set
 unfoldable pub limits_in : List (List ℕ) → Option ResourceLimits
@@ -41,10 +38,10 @@ limits_in arguments =
       max_crl_bytes = crls;
     })
 
--- the setting of a live run, whose options come each at most once
+-- the setting of a live run, each of whose options comes at most once
 unfoldable pub live_setting : List (List ℕ) → Option LiveSetting
 live_setting arguments =
-    if not (are_pairs is_live_option arguments) then None
+    if not (are_pairs (is_one_of live_names) arguments) then None
     else (limits_in arguments >>= λ limits.
     option_in text_in None (codes "--hint") arguments >>= λ hint.
     option_in ready_in readiness.Usable (codes "--ready") arguments >>= λ ready.

@@ -1,8 +1,13 @@
 -- Arguments that are pairs of an option and its value.
-use Rattle.std.specs.Prelude.{ℕ, Bool, true, false, ◌&&◌, List, [], ◌∷◌, Option, None, Some}
+use Rattle.std.specs.Prelude.{ℕ, Bool, true, false, ◌&&◌, ◌||◌, List, [], ◌∷◌, Option, None, Some}
 use Rattle.std.specs.Prelude.{if◌then◌else◌}
 use Rattle.std.specs.Str.{bytes_eq}
 use Rattle.spf_io.specs.Option.{◌>>=◌}
+
+-- a text is one of these names
+abbrev pub is_one_of : List (List ℕ) → List ℕ → Bool
+is_one_of [] text = false
+is_one_of (name ∷ names) text = bytes_eq name text || is_one_of names text
 
 -- the arguments are pairs of a name and a value
 abbrev pub are_pairs : (List ℕ → Bool) → List (List ℕ) → Bool
@@ -17,7 +22,7 @@ values_of option (name ∷ []) = []
 values_of option (name ∷ value ∷ arguments) =
     if bytes_eq name option then value ∷ values_of option arguments else values_of option arguments
 
--- the one value, or that there is none; none where there are several
+-- the one value, if any; none where there are several
 abbrev pub at_most_one : List (List ℕ) → Option (Option (List ℕ))
 at_most_one [] = Some None
 at_most_one (value ∷ []) = Some (Some value)

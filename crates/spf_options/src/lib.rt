@@ -3,12 +3,10 @@
 
 mod live;
 mod pairs;
-#[cfg(test)]
-mod tests;
 mod value;
 
 pub use live::{LiveOptions, live_options};
-pub use pairs::value_of;
+pub use pairs::{are_pairs, value_of};
 pub use value::{
     count_option, limit_option, moment_option, number_option, ready_option, seconds_option,
     text_option,

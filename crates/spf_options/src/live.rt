@@ -2,9 +2,10 @@
 
 ghost use Rattle.std.specs.Prelude.{◌≡◌, ◌≤◌, map, string_bytes};
 ghost use Rattle.std.specs.Option.{ForSome};
-ghost use Rattle.spf_options.specs.Live.{is_live_option, limits_in, live_setting};
-ghost use Rattle.spf_options.specs.Pairs.{are_pairs};
+ghost use Rattle.spf_options.specs.Live.{limits_in, live_names, live_setting};
+ghost use Rattle.spf_options.specs.Pairs.{are_pairs, is_one_of};
 
+use crate::pairs::are_pairs;
 use crate::value::{count_option, limit_option, ready_option, seconds_option, text_option};
 use spf_feed::{Ready, ResourceLimits};
 use std::marker::Model;
@@ -38,36 +39,24 @@ impl<'a> Model for LiveOptions<'a> {
     } };
 }
 
-/// Whether this is the name of an option.
-#[tactic(auto, unfolding(crate::specs::Live::is_live_option))]
-fn is_option(name: &str) -> bool
-    ensures { result ≡ is_live_option name.now }
-{
-    matches!(
-        name,
-        "--hint"
-            | "--max-svids"
-            | "--max-bundles"
-            | "--max-bundle-bytes"
-            | "--max-crl-bytes"
-            | "--ready"
-            | "--timeout"
-            | "--lines"
-    )
-}
-
 /// Whether the arguments are pairs of an option and its value.
+#[tactic(auto, unfolding(crate::specs::Live::live_names))]
 fn are_options(arguments: &[String]) -> bool
-    ensures { result ≡ are_pairs is_live_option (map string_bytes arguments.now) }
+    ensures { result ≡ are_pairs (is_one_of live_names) (map string_bytes arguments.now) }
 {
-    let mut rest = arguments;
-    while let [name, _, after @ ..] = rest {
-        if !is_option(name.as_str()) {
-            return false;
-        }
-        rest = after;
-    }
-    rest.is_empty()
+    are_pairs(
+        arguments,
+        &[
+            "--hint",
+            "--max-svids",
+            "--max-bundles",
+            "--max-bundle-bytes",
+            "--max-crl-bytes",
+            "--ready",
+            "--timeout",
+            "--lines",
+        ],
+    )
 }
 
 /// The limits that the arguments set.
@@ -88,7 +77,7 @@ fn limits_of(arguments: &[String]) -> Option<ResourceLimits>
     ))
 }
 
-/// What the arguments of a live run set; `None` where they are not those of one.
+/// Returns what the arguments of a live run set; `None` where they are not those of one.
 #[tactic(auto, unfolding(crate::specs::Live::live_setting))]
 pub fn live_options(arguments: &[String]) -> Option<LiveOptions<'_>>
     ensures setting { result ≡ live_setting (map string_bytes arguments.now) }

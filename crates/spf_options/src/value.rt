@@ -45,7 +45,7 @@ fn count(text: &str) -> Option<u64>
     }
 }
 
-/// The limit that an option sets, by default `absent`.
+/// Returns the limit that an option sets, by default `absent`.
 #[tactic(auto, unfolding(crate::specs::Pairs::option_in))]
 pub fn limit_option(
     arguments: &[String],
@@ -60,7 +60,7 @@ pub fn limit_option(
     }
 }
 
-/// The text that an option sets, if any.
+/// Returns the text that an option sets, if any.
 #[tactic(auto, unfolding(crate::specs::Pairs::option_in))]
 pub fn text_option<'a>(arguments: &'a [String], option: &str) -> Option<Option<&'a str>>
     ensures { option_map option_copied result
@@ -72,7 +72,7 @@ pub fn text_option<'a>(arguments: &'a [String], option: &str) -> Option<Option<&
     }
 }
 
-/// What the first update must hold, by default `absent`.
+/// Returns what the first update must hold, by default `absent`.
 #[tactic(auto, unfolding(crate::specs::Pairs::option_in))]
 pub fn ready_option(arguments: &[String], option: &str, absent: Ready) -> Option<Ready>
     ensures { result ≡ option_in ready_in absent option.now (map string_bytes arguments.now) }
@@ -83,7 +83,7 @@ pub fn ready_option(arguments: &[String], option: &str, absent: Ready) -> Option
     }
 }
 
-/// The moment that an option sets, if any.
+/// Returns the moment that an option sets, if any.
 #[tactic(auto, unfolding(crate::specs::Pairs::option_in))]
 pub fn moment_option(arguments: &[String], option: &str) -> Option<Option<i64>>
     ensures { result
@@ -95,7 +95,7 @@ pub fn moment_option(arguments: &[String], option: &str) -> Option<Option<i64>>
     }
 }
 
-/// The number that an option sets, by default `absent`.
+/// Returns the number that an option sets, by default `absent`.
 #[tactic(auto, unfolding(crate::specs::Pairs::option_in))]
 pub fn number_option(arguments: &[String], option: &str, absent: u64) -> Option<u64>
     ensures { result ≡ option_in number_in absent option.now (map string_bytes arguments.now) }
@@ -106,7 +106,7 @@ pub fn number_option(arguments: &[String], option: &str, absent: u64) -> Option<
     }
 }
 
-/// The number of seconds that an option sets, if any.
+/// Returns the number of seconds that an option sets, if any.
 #[tactic(auto, unfolding(crate::specs::Pairs::option_in))]
 pub fn seconds_option(arguments: &[String], option: &str) -> Option<Option<u64>>
     ensures { result ≡ option_in seconds_in None option.now (map string_bytes arguments.now) }
@@ -117,7 +117,7 @@ pub fn seconds_option(arguments: &[String], option: &str) -> Option<Option<u64>>
     }
 }
 
-/// The number from 1 on that an option sets, by default `absent`.
+/// Returns the number from 1 on that an option sets, by default `absent`.
 #[tactic(auto, unfolding(crate::specs::Pairs::option_in))]
 pub fn count_option(arguments: &[String], option: &str, absent: u64) -> Option<u64>
     requires { 1 ≤ absent }

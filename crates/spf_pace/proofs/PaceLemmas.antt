@@ -1,4 +1,4 @@
--- What an event more does to the delays.
+-- What one more event does to the delays.
 use Rattle.std.proofs.Common.{◌≡◌, ℕ, Bool, true, false, not, cond, ◌||◌, ◌&&◌, List, [], ◌∷◌, ◌++◌}
 use Rattle.std.proofs.Common.{reverse, map, Option, None, Some, refl, sym, ap, ◌∙◌, subst}
 use Rattle.std.specs.Duration.{as_nanos}
@@ -46,9 +46,9 @@ step_synced false false None before h = λ words. h words
 step_synced false false (Some end) before h =
     λ words. grow_synced (does_grow false end) false end words before h
 
--- ---- one attempt more
+-- ---- one more attempt
 
--- what a pacer says of one attempt more
+-- what a pacer says of one more attempt
 abbrev pub PacesTo : AttemptEnd → ℕ → Pacer → Duration → Pacer → Type 0
 PacesTo end word old delay new = (bounds : ReconnectConfig) (past : List PaceStep)
     → StandsAfter bounds past old

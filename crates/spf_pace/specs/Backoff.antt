@@ -12,7 +12,7 @@ millis delay = min (delay / NANOS_PER_MILLI) (2 ^ 64 - 1)
 abbrev pub jittered : ℕ → ℕ → ℕ
 jittered base word = base - base / 10 + word % (base / 10 + 1)
 
--- Grown: the base is the smaller of twice the current delay and the max, in milliseconds
+-- Grown: the base is the smaller of twice the current delay and the maximum, in milliseconds
 abbrev pub grown : ℕ → ℕ → ℕ → ℕ
 grown current max_delay word = jittered (min (2 * current) max_delay) word
 

@@ -33,8 +33,8 @@ without_identity synced (Client no_identity) = no_identity
 without_identity synced (Connect no_identity) = no_identity
 without_identity synced (Stream gave_accepted no_identity) = not synced && no_identity
 
--- once synchronised a refused connection pauses for the
--- grown delay, and every other end for the delay before
+-- once synchronised a refused connection pauses for the grown delay; every other end at which the
+-- delay grows pauses for the delay before
 abbrev pub pauses_grown : Bool → AttemptEnd → Bool
 pauses_grown synced (Client no_identity) = false
 pauses_grown synced (Connect no_identity) = synced
@@ -53,8 +53,8 @@ least bounds = as_nanos (normalized bounds).min_backoff
 abbrev pub greatest : ReconnectConfig → ℕ
 greatest bounds = as_nanos (normalized bounds).max_backoff
 
--- the current delay: the least at the start, at the
--- synchronisation, and after a stream that gave an accepted update
+-- the current delay: the least at the start, at the synchronisation, and, once synchronised, after
+-- a stream that gave an accepted update
 abbrev pub delay_after : ReconnectConfig → List PaceStep → ℕ
 delay_after bounds [] = least bounds
 delay_after bounds (Synchronised ∷ past) = least bounds

@@ -28,7 +28,7 @@ ended synced end before words =
     if does_grow synced end then Ended end (newest_word words) ∷ before (earlier_words words)
     else Ended end 0 ∷ before words
 
--- one event more, which may be the first accepted update, or end an attempt
+-- one more event, which may be the first accepted update, or end an attempt
 abbrev pub paced_by : Bool → Bool → Option AttemptEnd → (List ℕ → List PaceStep) → List ℕ
     → List PaceStep
 paced_by synced opening None before words =

@@ -20,7 +20,7 @@ abbrev pub is_last : Option ErrorKey → ErrorKey → Bool
 is_last None key = false
 is_last (Some last) key = same_key last key
 
--- another kind than the last, or fewer than the max in a row
+-- another kind than the last, or fewer than the maximum in a row
 abbrev pub is_news : ErrorTracker → ErrorKey → Bool
 is_news tracker key = if is_last tracker.last key then nat_lt tracker.count tracker.max else true
 

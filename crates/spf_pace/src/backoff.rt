@@ -29,9 +29,8 @@ fn grown(current: u64, max: u64, word: u64) -> u64
     base - jitter + word % (jitter + 1)
 }
 
-/// The delay after `current`: twice as long, at most `max`, in
-/// whole milliseconds, less a part of its tenth that the random
-/// `word` chooses.
+/// Returns the delay after `current`: twice as long, at most `max`, in whole milliseconds, less a
+/// part of its tenth that the random `word` chooses.
 pub fn next_backoff(current: Duration, max: Duration, word: u64) -> Duration
     ensures { as_nanos result
         ≡ spec.grown (spec.millis (as_nanos current)) (spec.millis (as_nanos max)) word

@@ -16,7 +16,7 @@ pub enum ErrorKey {
     NoIdentityIssued,
 }
 
-/// Counts errors of one kind in a row, and says which of them are worth telling.
+/// Counts errors of one kind in a row, and says which of them are worth reporting.
 #[derive(Clone, Copy, Debug, PartialEq, Eq)]
 pub struct ErrorTracker {
     max: u32,
@@ -25,7 +25,7 @@ pub struct ErrorTracker {
 }
 
 impl ErrorTracker {
-    /// A tracker that takes the first `max` errors of a kind in a row as news.
+    /// Returns a tracker that takes the first `max` errors of a kind in a row as news.
     pub fn new(max: u32) -> ErrorTracker
         ensures { result ≡ record { max = max; count = 0; last = None } }
     {
@@ -36,8 +36,8 @@ impl ErrorTracker {
         }
     }
 
-    /// Whether the error is news: its kind differs from that of the
-    /// last one, or fewer than `max` of its kind came in a row.
+    /// Returns whether the error is news: its kind differs from that of the last one, or fewer than
+    /// `max` of its kind came in a row.
     pub fn record_error(&mut self, key: ErrorKey) -> bool
         ensures news { result ≡ is_news self.old key }
         ensures count { self.new ≡ tracked_after self.old key }
@@ -60,7 +60,7 @@ impl ErrorTracker {
         self.count = 0;
     }
 
-    /// How many errors of the last kind came in a row, at most `u32::MAX`.
+    /// Returns how many errors of the last kind came in a row, at most `u32::MAX`.
     pub fn consecutive_count(&self) -> u32
         ensures { result ≡ self.now.count }
     {

@@ -1,4 +1,4 @@
-//! Laws of the definitions that contracts cite. No law has a body: its statement is what it says.
+//! Laws of the definitions that contracts cite. No law has a body: its contract is its statement.
 
 ghost use Rattle.std.specs.Prelude.{◌≡◌, ℕ, ◌-◌, ◌*◌, ◌/◌, ◌≤◌, min};
 ghost use Rattle.spf_pace.specs.Backoff.{grown};

@@ -33,7 +33,7 @@ impl Pace {
         }
     }
 
-    /// The delays so far, oldest first.
+    /// Returns the delays so far, oldest first.
     pub fn delays(&self) -> &[Duration]
         ensures { result.now ≡ self.now.delays.items }
     {
@@ -49,7 +49,8 @@ impl Pace {
         self.pacer.synchronised();
     }
 
-    /// The delay after an attempt that ended so. A word is drawn exactly where the delay grows.
+    /// Returns the delay after an attempt that ended like this. A word is drawn exactly where the
+    /// delay grows.
     pub fn after<R: Rng>(
         &mut self,
         random: &mut R,

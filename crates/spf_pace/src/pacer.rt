@@ -58,7 +58,7 @@ pub struct Pacer {
 }
 
 impl Pacer {
-    /// A pacer whose delay is the least of the bounds, which are normalized first.
+    /// Returns a pacer whose delay is the least of the bounds, which are normalized first.
     pub fn new(bounds: ReconnectConfig) -> Pacer
         ensures { StandsAfter bounds [] result }
     {
@@ -79,7 +79,7 @@ impl Pacer {
         self.synchronised = true;
     }
 
-    /// Whether the delay grows at this end, and so a random word is used.
+    /// Returns whether the delay grows at this end, and so a random word is used.
     pub fn grows(&self, end: AttemptEnd) -> bool
         ensures { result ≡ does_grow self.now.synchronised end }
     {
@@ -101,7 +101,8 @@ impl Pacer {
         next_backoff(self.current, self.bounds.max_backoff, word)
     }
 
-    /// The pause after an attempt that ended so. The word is used exactly where the delay grows.
+    /// Returns the pause after an attempt that ended like this. The word is used exactly where the
+    /// delay grows.
     pub fn after(&mut self, end: AttemptEnd, word: u64) -> Duration
         ensures pause { (bounds : ReconnectConfig) (past : List PaceStep)
             → StandsAfter bounds past self.old

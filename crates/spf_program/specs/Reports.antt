@@ -70,7 +70,7 @@ abbrev pub help_status : ℕ → Result (Unit {0}) Failed → ℕ
 help_status failed (Ok done) = 0
 help_status failed (Err fault) = failed
 
--- A help is put; the status is 0, or another where the output failed.
+-- A help text is put; the status is 0, or another where the output failed.
 pub record IsHelpPut (before after : Side) (help : List ℕ) (failed status : ℕ) : Type 0 where
   pub put : Result (Unit {0}) Failed
   pub appends : PutAppends before.bytes after.bytes put help

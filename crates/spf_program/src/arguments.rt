@@ -40,7 +40,7 @@ impl<T: Drop> From<AllocFailed<T>> for ArgumentsError {
 }
 
 impl ArgumentsError {
-    /// The exit status.
+    /// Returns the exit status.
     pub fn status(self) -> u8
         ensures { result ≡ spec.arguments_status self }
     {
@@ -50,7 +50,7 @@ impl ArgumentsError {
         }
     }
 
-    /// The line of `report`.
+    /// Returns the line of `report`.
     pub fn message(self) -> &'static str
         ensures { result.now ≡ spec.arguments_message self }
     {
@@ -61,7 +61,7 @@ impl ArgumentsError {
     }
 }
 
-/// The arguments after the name of the program.
+/// Returns the arguments after the name of the program.
 pub fn program_arguments(rt: &(impl Env + AllocGlobal)) -> Result<Vec<String>, ArgumentsError> {
     let all = match env::args(rt) {
         Ok(all) => all,

@@ -5,7 +5,7 @@ ghost use Rattle.spf_program.specs.Reports as spec;
 
 use spf_feed::FollowError;
 
-/// The exit status.
+/// Returns the exit status.
 pub fn follow_status(error: &FollowError) -> u8
     ensures { result ≡ spec.follow_status error.now }
 {
@@ -23,7 +23,7 @@ pub fn follow_status(error: &FollowError) -> u8
     }
 }
 
-/// What is wrong, up to the number of a bad frame.
+/// Returns what is wrong, up to the number of a bad frame.
 pub fn follow_message(error: &FollowError) -> &'static str
     ensures { result.now ≡ spec.follow_message error.now }
 {
@@ -41,7 +41,7 @@ pub fn follow_message(error: &FollowError) -> &'static str
     }
 }
 
-/// The number of a bad frame.
+/// Returns the number of a bad frame.
 pub fn follow_number(error: &FollowError) -> Option<u64>
     ensures { result ≡ spec.follow_number error.now }
 {

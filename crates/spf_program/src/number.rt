@@ -6,7 +6,7 @@ ghost use Rattle.std.specs.List.{list_all};
 ghost use Rattle.std.specs.Option.{ForSome};
 ghost use Rattle.spf_program.specs.Numbers as spec;
 
-/// The max number that an argument may spell.
+/// The maximum number that an argument may spell.
 pub const MAX_NUMBER: u64 = i64::MAX as u64;
 
 /// Whether all bytes are decimal digits.
@@ -28,7 +28,7 @@ fn is_numeral(text: &[u8]) -> bool
     }
 }
 
-/// The number that a text spells, where it is at most `max`.
+/// Returns the number that a text spells, where it is at most `max`.
 pub fn number_up_to(max: u64, text: &str) -> Option<u64>
     ensures value { result ≡ spec.number_up_to max text.now }
     ensures bound { ForSome result (λ n. n ≤ max) }
@@ -42,7 +42,7 @@ pub fn number_up_to(max: u64, text: &str) -> Option<u64>
     }
 }
 
-/// The moment that a text spells, in Unix seconds.
+/// Returns the moment that a text spells, in Unix seconds.
 pub fn moment(text: &str) -> Option<i64>
     ensures value { result ≡ spec.moment_in text.now }
     ensures late { IfSome result (λ m. IsTrue (int_le (pos 0) m)) }

@@ -67,7 +67,7 @@ ended_unwritten left failures b before t end r other (keeps, inl both) h = other
 ended_unwritten left failures b before t end r other (keeps, inr (stop, is, reason)) h =
     stop_unwritten b.max t.allowed r stop is h
 
--- where an end is no failure of a write, no result of it is one
+-- where an end is not a failure of a write, no result of it is one
 write_is : {T : Type 0} (left : T → Option (List ℕ)) (failures : T → ℕ) (b : Beginning)
     (before : Option (List ℕ)) (t : Translating T) (end : FrameEnd) (r : Result ℕ ProtoError)
     → IsResultOf left failures b before t end r

@@ -20,7 +20,7 @@ pub none_left : {M : Type 0} (step : M → WireField → Option M) (message : M)
     → Left step message [] found → Some message ≡ found
 none_left step message found left = left.2
 
--- one field more
+-- one more field
 onto : {M : Type 0} (step : M → WireField → Option M) (message next : M) (f : WireField)
     (fs : Option (List WireField))
     → step message f ≡ Some next

@@ -1,7 +1,7 @@
 pub mod Contexts
 pub mod Entries
 pub mod Fields
-pub mod Latest
+pub mod LastOfEach
 pub mod OctetsLemmas
 pub mod TakingLemmas
 pub mod PayloadLemmas
@@ -12,6 +12,8 @@ pub mod EndLemmas
 pub mod BodyErrorLemmas
 pub mod LaidMessages
 pub mod BodySessions
+pub mod GivenLemmas
+pub mod AnswerLemmas
 pub mod FollowedLemmas
 pub mod WatchLemmas
 pub mod VarintLemmas

@@ -58,7 +58,7 @@ message_of got octets r whole says laid = record {
   laid = laid;
 }
 
--- what says nothing is no message
+-- what says nothing is not a message
 pub no_message : (got octets : List ℕ) (left : Option (List ℕ)) → IsWhole got octets
     → response_of octets ≡ None → IsNoMessage got left
 no_message got octets None whole says = tt

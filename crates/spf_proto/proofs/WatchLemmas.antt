@@ -26,7 +26,7 @@ use Rattle.spf_proto.specs.Watching.{message, number, Completes, Follows, Headli
 use Rattle.spf_proto.specs.Watching.{IsWholeBody, line_of_end, max_messages, PrintsBody}
 use Rattle.spf_program.specs.Streams.{Side, Streams}
 use Rattle.spf_proto.specs.Watching.{program_rules, Runs, shown, status, status_of_end}
-use Rattle.spf_proto.proofs.FollowedLemmas.{answer_synced, some_rest}
+use Rattle.spf_proto.proofs.AnswerLemmas.{answer_synced, some_rest}
 
 -- ---- reports
 

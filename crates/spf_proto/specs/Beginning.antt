@@ -4,8 +4,8 @@ use Rattle.spf_feed.specs.declared.ready.Ready.TheVariants as readiness
 use Rattle.spf_feed.specs.Items.{Rules, rules_with}
 use Rattle.spf_feed.specs.Limits.{default_limits}
 
--- which loan the source is, the bytes that it has left and how often it failed; by what items are
--- accepted, the moment of the session, and the most messages
+-- which loan the source is, the bytes that it has left and how often it failed; what decides
+-- whether items are accepted, the moment of the session, and the limit of messages
 pub record Beginning : Type 0 where
   pub loan : ℕ
   pub left : Option (List ℕ)

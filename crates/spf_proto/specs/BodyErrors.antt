@@ -19,7 +19,7 @@ pub record IsBadAt (max : ℕ) (bytes : List ℕ) (number : ℕ) : Type 0 where
   pub some : rest ≢ []
   pub none : message_at rest ≡ None
 
--- The bytes are the most messages that are allowed, and octets behind them.
+-- The bytes are as many messages as are allowed, and octets after them.
 pub record IsTooMany (max : ℕ) (bytes : List ℕ) : Type 0 where
   pub messages : List ContextResponse
   pub text : List ℕ

@@ -46,7 +46,7 @@ begun source ready allowed = record {
   failures = 0;
 }
 
--- how following a body ends, where following its frames ends so
+-- how following a body ends, where following its frames ends like this
 abbrev pub IsResultOf : {T : Type 0} → (T → Option (List ℕ)) → (T → ℕ) → Beginning
     → Option (List ℕ) → Translating T → FrameEnd → Result ℕ ProtoError → Type 0
 IsResultOf left failures b before t (ends.Whole count) r =

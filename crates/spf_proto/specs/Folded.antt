@@ -9,12 +9,12 @@ use Rattle.spf_proto.specs.Wire.{WireField}
 use Rattle.spf_proto.specs.Message.{fields_of, octets_of, has_number, is_delimited, is_svid_field}
 use Rattle.spf_proto.specs.Message.{svid_message, is_bundle_field, bundle_message}
 
--- what the fields make of a message, one after another; none where one may not stand
+-- what the fields make of a message, one after another; none where one is not allowed
 abbrev pub folded : {M : Type 0} → (M → WireField → Option M) → M → List WireField → Option M
 folded step message [] = Some message
 folded step message (f ∷ fs) = step message f >>= λ next. folded step next fs
 
--- a message, and the fields of which the bytes are the concatenation
+-- a message, and the fields whose concatenation the bytes are
 abbrev pub message_from : {M : Type 0} → (M → WireField → Option M) → M → List ℕ → Option M
 message_from step message bytes = fields_of bytes >>= folded step message
 
@@ -31,18 +31,18 @@ svid_and e f = record {
   hint = replaced 5 f e.hint;
 }
 
--- an SVID with one field more, where that may stand
+-- an SVID with one more field, where that is allowed
 unfoldable pub svid_with : SvidEntry → WireField → Option SvidEntry
 svid_with e f = if is_svid_field f then Some (svid_and e f) else None
 
 abbrev pub bundle_and : BundleEntry → WireField → BundleEntry
 bundle_and e f = record { name = replaced 1 f e.name; bundle = replaced 2 f e.bundle }
 
--- a bundle with one field more, where that may stand
+-- a bundle with one more field, where that is allowed
 unfoldable pub bundle_with : BundleEntry → WireField → Option BundleEntry
 bundle_with e f = if is_bundle_field f then Some (bundle_and e f) else None
 
--- a response with one member more, where the field is of a number that is named
+-- a response with one more member, where the field is of a number that is named
 abbrev pub context_and : ContextResponse → WireField → Option ContextResponse
 context_and r f =
     if f.number == 1
@@ -61,7 +61,7 @@ context_and r f =
     (bundle_message (octets_of f))
     else Some r))
 
--- a response with one field more, where that may stand
+-- a response with one more field, where that is allowed
 unfoldable pub context_with : ContextResponse → WireField → Option ContextResponse
 context_with r f = if is_delimited 3 f then context_and r f else None
 

@@ -32,7 +32,7 @@ is_free (Err (errors.Follow answers.ReadFault)) = true
 is_free (Err (errors.Follow answers.WriteFault)) = true
 is_free _ = false
 
--- the errors of a session that a body comes to
+-- the errors of a session with which following a body may end
 abbrev pub comes : FollowError → Bool
 comes answers.OutOfMemory = true
 comes answers.ReadFault = true

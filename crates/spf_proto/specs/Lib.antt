@@ -6,6 +6,7 @@ pub mod Ends
 pub mod Folded
 pub mod Following
 pub mod FrameEnds
+pub mod Latest
 pub mod Members
 pub mod Message
 pub mod Octets

@@ -12,7 +12,7 @@ use Rattle.spf_api.specs.declared.response.BundleEntry.{BundleEntry}
 use Rattle.spf_api.specs.declared.response.ContextResponse.{ContextResponse}
 use Rattle.spf_proto.specs.Wire.{WireField, field_at}
 
--- the fields, at most `max`, of which the bytes are the concatenation
+-- the fields, at most `max`, whose concatenation the bytes are
 abbrev pub fields_within : ℕ → List ℕ → Option (List WireField)
 fields_within max [] = Some []
 fields_within zero (b ∷ bytes) = None
@@ -21,7 +21,7 @@ fields_within (suc max) (b ∷ bytes) = do
   fs ← fields_within max f.1
   Some (f.0 ∷ fs)
 
--- the fields of which the bytes are the concatenation
+-- the fields whose concatenation the bytes are
 abbrev pub fields_of : List ℕ → Option (List WireField)
 fields_of bytes = fields_within (length bytes) bytes
 

@@ -51,7 +51,7 @@ line_of_end (Err e) = error_line e
 abbrev pub program_rules : Rules
 program_rules = rules_with default_limits None readiness.Usable None
 
--- the most messages that the program follows
+-- how many messages the program follows at most
 abbrev pub max_messages : ℕ
 max_messages = 1000000
 
@@ -59,7 +59,7 @@ max_messages = 1000000
 abbrev pub shown : Side → Held
 shown output = record { held = output.bytes; steps = None; records = None }
 
--- A body is followed from a moment on, and it ends so.
+-- A body is followed from a moment on, and it ends like this.
 pub record Follows (start : ℤ) (input input' output output' : Side)
     (end : Result ℕ ProtoError) : Type 0 where
   pub followed : BodyFollowed program_rules start max_messages input.bytes (shown output)

@@ -31,7 +31,7 @@ pub(crate) trait Message<'a>: Copy {
 
     ghost with_field: { Self.Entry → WireField → Option Self.Entry };
 
-    /// Returns the message with one field more, and None where that field may not stand.
+    /// Returns the message with one more field, and None where that field is not allowed.
     fn with(&self, field: &Field<'a>) -> Option<Self>
         ensures { option_map entry_of result
             ≡ with_field (entry_of self.now) (field_of field.now) };

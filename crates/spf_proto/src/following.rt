@@ -11,10 +11,10 @@ use crate::frame_end::FrameEnd;
 use crate::lent::LentSource;
 use crate::proto_error::ProtoError;
 use crate::translating::Acceptance;
-use crate::translator::{Origin, Translator};
+use crate::translator::{LastRead, Origin, Translator};
 use spf_feed::{
-    FollowError, MetricsRecorder, Publisher, Ready, ResourceLimits, SvidPicker, follow_x509,
-    frame_kind,
+    FollowError, MetricsRecorder, Publisher, Ready, ResourceLimits, SvidPicker,
+    follow_x509_sharing, frame_kind,
 };
 use spf_io::{OutOfMemory, Sink, Source};
 use std::alloc::Global;
@@ -44,7 +44,7 @@ fn frame_of(alloc: Global, seconds: u64) -> Result<Vec<u8>, OutOfMemory>
     Ok(frame)
 }
 
-/// What octets are read into.
+/// The buffer that octets are read into.
 fn chunk_of(alloc: Global) -> Result<Vec<u8>, OutOfMemory>
     ensures { IfOk result (λ v. 0 < vec_len v) }
 {
@@ -60,7 +60,7 @@ fn buffers(alloc: Global, seconds: u64) -> Result<(Vec<u8>, Vec<u8>), OutOfMemor
     Ok((chunk_of(alloc)?, frame_of(alloc, seconds)?))
 }
 
-/// Follows the messages of a source that is lent, and gives it back.
+/// Follows the messages of a source that is lent, and returns the source.
 fn follow_lent<N: Origin, T: LentSource, K: Sink, P: Publisher, M: MetricsRecorder, C: SvidPicker>(
     alloc: Global,
     source: T,
@@ -118,7 +118,7 @@ fn follow_lent<N: Origin, T: LentSource, K: Sink, P: Publisher, M: MetricsRecord
         chunk,
         frames,
     );
-    let followed = follow_x509(
+    let followed = follow_x509_sharing::<Translator<'_, T, C, N>, K, P, M, C, LastRead>(
         alloc,
         &mut translator,
         sink,
@@ -171,7 +171,7 @@ pub fn follow_proto<S: Source, K: Sink, P: Publisher, M: MetricsRecorder, C: Svi
     ensures cause { HasCauses (S.failures source.old) (S.failures source.new) (K.failures sink.old)
         (K.failures sink.new) result }
     // A message is refused where the bytes are whole messages up to it, and then none; too many are
-    // refused where octets stand behind the most messages that are allowed.
+    // refused where octets follow as many messages as are allowed.
     ensures refused { RefusedFor max_messages (S.left source.old) result }
     // Of the errors of a session only these come.
     ensures only { OnlyThese result }

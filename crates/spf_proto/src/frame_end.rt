@@ -7,7 +7,7 @@ use crate::proto_error::ProtoError;
 use spf_feed::FollowError;
 
 /// How following the frames ends. They bring nothing that another error could come from: one that
-/// came all the same counts as out of memory.
+/// came nevertheless counts as out of memory.
 #[derive(Clone, Copy, Debug, PartialEq, Eq)]
 pub(crate) enum FrameEnd {
     Whole(u64),

@@ -24,7 +24,7 @@ struct Members<'a> {
 }
 
 impl<'a> Members<'a> {
-    /// Adds what a field holds. Returns false where that field may not stand.
+    /// Adds what a field holds. Returns false where that field is not allowed.
     #[tactic(auto, unfolding(crate::specs::Folded::context_with))]
     fn add(&mut self, field: &Field<'a>) -> Result<bool, OutOfMemory>
         ensures { IfOk result
@@ -107,7 +107,7 @@ fn last_of_each<'a>(
     Ok(kept)
 }
 
-/// Reads a message. Returns None where the bytes are none.
+/// Reads a message. Returns None where the bytes are not one.
 #[tactic(auto, unfolding(crate::specs::Message::context_message))]
 pub fn read_message<'a>(
     alloc: Global,

@@ -1,4 +1,4 @@
-//! A publisher for a program that shows views and keeps no step.
+//! A publisher for a program that shows views and keeps no steps.
 
 use spf_feed::{Publisher, Step};
 use spf_io::OutOfMemory;

@@ -5,7 +5,7 @@ ghost use Rattle.std.specs.Option.{option_map};
 ghost use Rattle.spf_proto.specs.Body.{total};
 ghost use Rattle.spf_proto.specs.Octets.{IsNeed, number_at};
 
-/// The max length of a message.
+/// The maximum length of a message.
 const MAX_MESSAGE: usize = 1 << 24;
 
 /// What a message that has come in part still needs.

@@ -9,7 +9,7 @@ pub enum ProtoError {
     /// The session that it stands for is not followed to its end.
     #[error("{0}")]
     Follow(FollowError),
-    /// This message, counted from 1, is none.
+    /// The message of this number, counted from 1, is not a valid one.
     #[error("message {message} is bad")]
     BadMessage { message: u64 },
     /// More messages came than are allowed.

@@ -1,6 +1,7 @@
 //! The frames that a message stands for.
 
-ghost use Rattle.std.specs.Prelude.{◌≡◌, [], IfOk, OnOk, Some, None, is_some, if◌then◌else◌};
+ghost use Rattle.std.specs.Prelude.{◌≡◌, [], IfOk, OnOk, Some, None, false, is_some};
+ghost use Rattle.std.specs.Prelude.{if◌then◌else◌};
 ghost use Rattle.std.specs.Option.{ForSome, option_map};
 ghost use Rattle.spf_api.specs.Views.{context_of};
 ghost use Rattle.spf_feed.specs.Items.{IsReceived, context_in, rules_with};
@@ -9,18 +10,17 @@ ghost use Rattle.spf_feed.specs.Pick.{usable};
 ghost use Rattle.spf_feed.specs.Steps.{chosen_of};
 ghost use Rattle.spf_proto.specs.Translated.{is_accepted, standing_after};
 ghost use Rattle.spf_proto.specs.Translating.{standing, client_frames, item_frames};
-ghost use Rattle.spf_proto.specs.Translating.{IsMadeOrStopped, IsTranslated};
+ghost use Rattle.spf_proto.specs.Translating.{IsTranslated};
 
 use crate::message::read_message;
 use crate::payload::{put_bytes, put_context};
-use crate::taking::Stop;
 use spf_api::{ContextView, WorkloadApiError, context_from_view_sharing};
 use spf_feed::{Ready, ResourceLimits, SvidPicker, frame_kind, select_svid, validate_limits};
 use spf_io::OutOfMemory;
 use spf_x509::X509Context;
 use std::alloc::Global;
 
-/// The max length of a message, and of a payload.
+/// The maximum length of a message, and of a payload.
 const MAX_PAYLOAD: usize = 1 << 24;
 
 /// The frames of a client and its connection.
@@ -37,7 +37,7 @@ const CLIENT: [u8; 10] = [
     0,
 ];
 
-/// By what items are accepted.
+/// What decides whether an item is accepted.
 #[derive(Clone, Copy, Debug)]
 pub(crate) struct Acceptance {
     pub(crate) limits: ResourceLimits,
@@ -80,25 +80,20 @@ fn may_sync(context: &X509Context, choice: Option<usize>, acceptance: Acceptance
     }
 }
 
-/// Whether a context is accepted.
-fn accepts<C: SvidPicker>(
-    acceptance: Acceptance,
-    picker: Option<&C>,
-    synced: bool,
-    context: &X509Context,
-) -> bool
+/// Whether a context is accepted as the first one.
+fn accepts<C: SvidPicker>(acceptance: Acceptance, picker: Option<&C>, context: &X509Context) -> bool
     requires { ForSome picker (λ p. C.can_pick p.now) }
     ensures { result
         ≡ is_accepted
         (rules_with acceptance.limits None acceptance.ready
-        (option_map (λ p. C.picks p.now) picker.entry)) acceptance.start synced
+        (option_map (λ p. C.picks p.now) picker.entry)) acceptance.start false
         (Some context.now) }
 {
     if validate_limits(context, acceptance.limits).is_err() {
         return false;
     }
     let choice = select_svid(context, picker);
-    synced || may_sync(context, choice, acceptance)
+    may_sync(context, choice, acceptance)
 }
 
 /// The context of an update, None where it breaks a rule. What it has of the bytes of the held one
@@ -143,11 +138,11 @@ fn position_after<C: SvidPicker>(
     let synced = position.synced;
     match context {
         Some(context) => {
-            let accepted = accepts(acceptance, picker, synced, &context);
+            let accepted = synced || accepts(acceptance, picker, &context);
             *held = Some(context);
             Position {
                 is_open: synced,
-                synced: accepted || synced,
+                synced: accepted,
             }
         }
         None => Position {
@@ -177,9 +172,9 @@ fn put_frames(frames: &mut Vec<u8>, is_open: bool, payload: &[u8]) -> Result<(),
 }
 
 /// Puts the frames of a message in place of what the buffer held, and returns where the session
-/// stands after it. None where the octets are no message. What is held is the last context that
+/// stands after it. None where the octets are not a message. What is held is the last context that
 /// was read: with any other the result is the same.
-fn frames_of<C: SvidPicker>(
+pub(crate) fn frames_of<C: SvidPicker>(
     alloc: Global,
     acceptance: Acceptance,
     picker: Option<&C>,
@@ -209,30 +204,4 @@ fn frames_of<C: SvidPicker>(
     put_frames(frames, position.is_open, payload.as_slice())?;
     let context = read_context(alloc, &view, held.as_ref())?;
     Ok(Some(position_after(acceptance, picker, position, context, held)))
-}
-
-/// The same, with the reason where there is no message.
-pub(crate) fn translate<C: SvidPicker>(
-    alloc: Global,
-    acceptance: Acceptance,
-    picker: Option<&C>,
-    position: Position,
-    octets: &[u8],
-    held: &mut Option<X509Context>,
-    payload: &mut Vec<u8>,
-    frames: &mut Vec<u8>,
-) -> Result<Position, Stop>
-    requires { ForSome picker (λ p. C.can_pick p.now) }
-    ensures { IsMadeOrStopped
-        (rules_with acceptance.limits None acceptance.ready
-        (option_map (λ p. C.picks p.now) picker.entry)) acceptance.start position octets.now
-        frames.new.items result }
-{
-    match frames_of(
-        alloc, acceptance, picker, position, octets, held, payload, frames,
-    ) {
-        Ok(Some(position)) => Ok(position),
-        Ok(None) => Err(Stop::BadMessage),
-        Err(_) => Err(Stop::OutOfMemory),
-    }
 }

@@ -15,11 +15,12 @@ ghost use Rattle.std.specs.Option.{ForSome, option_map};
 ghost use Rattle.spf_feed.specs.Items.{rules_with};
 
 use crate::frame_end::FrameEnd;
+use crate::latest::{Latest, translate};
 use crate::lent::LentSource;
 use crate::proto_error::ProtoError;
 use crate::taking::{Progress, Stop, take_message};
-use crate::translating::{Acceptance, Position, translate};
-use spf_feed::{FollowError, SvidPicker};
+use crate::translating::{Acceptance, Position};
+use spf_feed::{FollowError, Sharing, SvidPicker};
 use spf_io::{Failed, OutOfMemory, Source};
 use spf_x509::X509Context;
 use std::alloc::Global;
@@ -39,8 +40,8 @@ impl Origin for Brand {
 /// How many octets are read at once.
 const CHUNK: usize = 1 << 16;
 
-/// The translating source. It fails where a message is bad, past the most messages, where memory
-/// runs out and where its own source failed, and keeps the reason.
+/// The translating source. It fails where a message is bad, where there are too many messages,
+/// where memory runs out and where its own source failed, and keeps the reason.
 #[derive(Drop)]
 pub(crate) struct Translator<'p, T: LentSource, C: SvidPicker, N: Origin> {
     source: T,
@@ -49,9 +50,7 @@ pub(crate) struct Translator<'p, T: LentSource, C: SvidPicker, N: Origin> {
     picker: Option<&'p C>,
     chunk: Vec<u8>,
     got: Vec<u8>,
-    held: Option<X509Context>,
-    payload: Vec<u8>,
-    frames: Vec<u8>,
+    latest: Latest,
     at: usize,
     allowed: u32,
     position: Position,
@@ -67,12 +66,13 @@ impl<'p, T: LentSource, C: SvidPicker, N: Origin> Model for Translator<'p, T, C,
     ghost use Rattle.spf_feed.specs.Items.{rules_with};
     ghost use Rattle.spf_proto.specs.Translating.{standing};
     ghost use Rattle.spf_proto.specs.Translator.{Translating, IsTranslator};
+    ghost use Rattle.spf_proto.specs.Latest.{IsLatest};
 
     ghost Value = { Translating T };
 
     ghost view = { λ s. record {
       source = s.source;
-      ready = drop s.at s.frames.items;
+      ready = drop s.at s.latest.frames.items;
       got = s.got.items;
       allowed = s.allowed;
       standing = standing s.position;
@@ -81,21 +81,23 @@ impl<'p, T: LentSource, C: SvidPicker, N: Origin> Model for Translator<'p, T, C,
       failures = s.failed;
     } };
 
-    ghost invariant = { λ s. (s.at ≤ vec_len s.frames) × (0 < vec_len s.chunk)
+    ghost invariant = { λ s. (s.at ≤ vec_len s.latest.frames) × (0 < vec_len s.chunk)
         × (ForSome s.picker (λ p. C.can_pick p.now))
         × (N.begin.rules ≡ rules_with s.acceptance.limits None s.acceptance.ready
         (option_map (λ p. C.picks p.now) s.picker))
         × (N.begin.start ≡ s.acceptance.start)
         × IsTranslator T.loan T.left T.failures N.begin (record {
           source = s.source;
-          ready = drop s.at s.frames.items;
+          ready = drop s.at s.latest.frames.items;
           got = s.got.items;
           allowed = s.allowed;
           standing = standing s.position;
           ended = s.ended;
           stop = s.stop;
           failures = s.failed;
-        }) };
+        })
+        × IsLatest (rules_with s.acceptance.limits None s.acceptance.ready
+        (option_map (λ p. C.picks p.now) s.picker)) s.acceptance.start s.latest };
 }
 
 impl<'p, T: LentSource, C: SvidPicker, N: Origin> Translator<'p, T, C, N> {
@@ -129,9 +131,7 @@ impl<'p, T: LentSource, C: SvidPicker, N: Origin> Translator<'p, T, C, N> {
             picker,
             chunk,
             got: Vec::new(alloc),
-            held: None,
-            payload: Vec::new(alloc),
-            frames,
+            latest: Latest::none(alloc, frames),
             at: 0,
             allowed,
             position: Position {
@@ -174,12 +174,10 @@ impl<'p, T: LentSource, C: SvidPicker, N: Origin> Translator<'p, T, C, N> {
             self.acceptance,
             self.picker,
             self.position,
-            &self.got[5..],
-            &mut self.held,
-            &mut self.payload,
-            &mut self.frames,
+            &mut self.got,
+            &mut self.latest,
         );
-        self.at = self.frames.len();
+        self.at = self.latest.frames.len();
         match made {
             Ok(position) => {
                 self.got.clear();
@@ -234,7 +232,7 @@ impl<'p, T: LentSource, C: SvidPicker, N: Origin> Translator<'p, T, C, N> {
             → IsAtEnd (left_of T.left N.begin.rules N.begin.start self.new)) }
         ensures stopped { OnErr result (self.new.stop ≢ None) }
     {
-        if self.at < self.frames.len() {
+        if self.at < self.latest.frames.len() {
             return Ok(());
         }
         if self.ended {
@@ -259,8 +257,8 @@ impl<'p, T: LentSource, C: SvidPicker, N: Origin> Translator<'p, T, C, N> {
         ensures room { result ≤ length buf.new }
         ensures given { GivesReady self.old self.new (take result buf.new) (length buf.new) }
     {
-        let n = buf.len().min(self.frames.len() - self.at);
-        buf[..n].copy_from_slice(&self.frames[self.at..self.at + n]);
+        let n = buf.len().min(self.latest.frames.len() - self.at);
+        buf[..n].copy_from_slice(&self.latest.frames[self.at..self.at + n]);
         self.at += n;
         n
     }
@@ -275,7 +273,7 @@ impl<'p, T: LentSource, C: SvidPicker, N: Origin> Translator<'p, T, C, N> {
         }
     }
 
-    /// The error of a reason: a bad message has the number behind those that were translated.
+    /// The error of a reason: a bad message has the number after those that were translated.
     fn error(&self, stop: Stop, max: u32) -> ProtoError
         requires max { max ≡ N.begin.max }
         ensures { result ≡ error_of max self.now.allowed stop }
@@ -303,7 +301,7 @@ impl<'p, T: LentSource, C: SvidPicker, N: Origin> Translator<'p, T, C, N> {
         }
     }
 
-    /// How following the body ended, where following the frames ended so.
+    /// How following the body ended, where following the frames ended like this.
     pub(crate) fn result_of(&mut self, end: FrameEnd, max: u32) -> Result<u64, ProtoError>
         requires max { max ≡ N.begin.max }
         ensures { IsResultOf T.left T.failures N.begin
@@ -329,5 +327,15 @@ impl<'p, T: LentSource, C: SvidPicker, N: Origin> Source for Translator<'p, T, C
     fn read(&mut self, buf: &mut [u8]) -> Result<usize, Failed> {
         self.prepare()?;
         Ok(self.give(buf))
+    }
+}
+
+/// What a translator lends to whoever reads its frames: the context that it read last, which most
+/// often is that of the update whose frames come next.
+pub(crate) struct LastRead;
+
+impl<'p, T: LentSource, C: SvidPicker, N: Origin> Sharing<Translator<'p, T, C, N>> for LastRead {
+    fn context<'a>(source: &'a Translator<'p, T, C, N>) -> Option<&'a X509Context> {
+        source.latest.held.as_ref()
     }
 }

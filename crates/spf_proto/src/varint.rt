@@ -4,7 +4,7 @@ ghost use Rattle.std.specs.Prelude.{◌≡◌, ◌<◌, length, IfSome};
 ghost use Rattle.std.specs.Option.{option_map};
 ghost use Rattle.spf_proto.specs.Wire.{varint_within, varint_at};
 
-/// The max number of octets of a varint.
+/// The maximum number of octets of a varint.
 const MAX_VARINT: u32 = 10;
 
 /// Reads a varint of at most `max` octets.

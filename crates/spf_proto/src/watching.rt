@@ -15,7 +15,7 @@ use spf_feed::{NoPicker, NoRecorder, Ready, ResourceLimits};
 use spf_io::{Sink, Source};
 use std::alloc::Global;
 
-/// The max number of messages.
+/// The maximum number of messages.
 const MAX_MESSAGES: u32 = 1_000_000;
 
 /// Follows the body of `source` from a moment on, and writes a line

@@ -91,9 +91,9 @@ fn bodies(rt: HostRuntime) -> Result<(), Fail> {
     Ok(())
 }
 
-/// Messages that are none, and what is stated to be one and does not come.
+/// Bodies that are not messages, and messages that are announced and do not come.
 static BAD_BODIES: [&str; 22] = [
-    // Compressed, and with a flag that is none.
+    // Compressed, and with an unknown flag.
     "0100000000",
     "0200000000",
     // Cut in the flag and the length, and in the octets.
@@ -102,7 +102,7 @@ static BAD_BODIES: [&str; 22] = [
     "00000000",
     "0000000002 0a",
     "0001000000",
-    // More than 2^24 octets, more than 2^31 and 4 GiB less one are stated.
+    // More than 2^24 octets, more than 2^31 and 4 GiB less one are announced.
     "0001000001",
     "0080000001",
     "00ffffffff",

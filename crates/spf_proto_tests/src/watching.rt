@@ -17,7 +17,7 @@ type Row = (
     &'static str,
 );
 
-static ROWS: [Row; 13] = [
+static ROWS: [Row; 15] = [
     (
         &["999"],
         &[Q],
@@ -30,6 +30,26 @@ static ROWS: [Row; 13] = [
         &[Q, Q, Q],
         "1 waiting\n2 waiting\n3 waiting\n4 0 permitted P1\n5 0 permitted P1\n\
          6 0 permitted P1\n7 0 permitted P1\n8 0 permitted P1\n",
+        0,
+        "",
+    ),
+    // The same message again and again, on an open stream.
+    (
+        &["999"],
+        &[Q, Q, Q, Q, Q],
+        "1 waiting\n2 waiting\n3 waiting\n4 0 permitted P1\n5 0 permitted P1\n\
+         6 0 permitted P1\n7 0 permitted P1\n8 0 permitted P1\n9 0 permitted P1\n\
+         10 0 permitted P1\n",
+        0,
+        "",
+    ),
+    // The same, where each breaks a rule and so ends its stream.
+    (
+        &["999"],
+        &[Q, "0000000000", "0000000000", Q],
+        "1 waiting\n2 waiting\n3 waiting\n4 0 permitted P1\n5 0 permitted P1\n\
+         6 0 permitted P1\n7 0 permitted P1\n8 0 permitted P1\n9 0 permitted P1\n\
+         10 0 permitted P1\n11 0 permitted P1\n12 0 permitted P1\n13 0 permitted P1\n",
         0,
         "",
     ),

@@ -11,6 +11,5 @@ START is the moment at which the session begins, in Unix seconds: $(date +%s).
 One line is printed for each event: what a workload then holds.
 
 Status: 0 ended well, 1 bad words, 2 out of memory, 3 read failed,
-4 write failed, 5 too many messages, 6 bad message, 7 request rejected,
-8 required RPC unsupported, 11 no update accepted.
+4 write failed, 5 too many messages, 6 bad message, 11 no update accepted.
 ";

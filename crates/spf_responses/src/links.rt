@@ -1,4 +1,4 @@
-//! Links of memory that tests of live sources ask, and their connectors.
+//! In-memory links for tests of live sources, and their connectors.
 
 use crate::responses::first_item;
 use spf_api::{GrpcStatusCode, GrpcStatusError, LinkFault, Response};
@@ -7,7 +7,7 @@ use spf_link::{Answer, MemConnector, MemLink};
 use std::alloc::Global;
 use std::test::Fail;
 
-/// A link that gives the item I1.
+/// Returns a link that gives the item I1.
 pub fn good_link(alloc: Global) -> Result<MemLink, Fail> {
     let item = Answer::Item(Response::Context(first_item(alloc)?));
     Ok(MemLink::new(alloc, vec![in alloc; Answer::Started, item]?))
@@ -18,13 +18,13 @@ fn refusal(alloc: Global, code: GrpcStatusCode) -> Result<LinkFault, OutOfMemory
     Ok(LinkFault::Status(GrpcStatusError::new(code, message)))
 }
 
-/// A link that refuses its start with this status.
+/// Returns a link that refuses its start with this status.
 pub fn refusing_link(alloc: Global, code: GrpcStatusCode) -> Result<MemLink, Fail> {
     let fault = refusal(alloc, code)?;
     Ok(MemLink::new(alloc, vec![in alloc; Answer::Refused(fault)]?))
 }
 
-/// A connector with one link.
+/// Returns a connector with one link.
 pub fn connector(alloc: Global, link: MemLink) -> Result<MemConnector, Fail> {
     Ok(MemConnector::new(alloc, vec![in alloc; Ok(link)]?))
 }

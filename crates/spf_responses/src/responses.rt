@@ -67,7 +67,7 @@ pub fn bundle_entries(alloc: Global, rows: &[(&str, &str)]) -> Result<List<Bundl
     Ok(List::new(entries))
 }
 
-/// A response of SVID entries and of federated bundles, with no revocation lists.
+/// Returns a response of SVID entries and of federated bundles, with no revocation lists.
 pub fn context(
     alloc: Global,
     svids: &[SvidRow<'_>],
@@ -80,7 +80,7 @@ pub fn context(
     })
 }
 
-/// The response that the item I1 lays out.
+/// Returns the response that the item I1 lays out.
 pub fn first_item(alloc: Global) -> Result<ContextResponse, Fail> {
     context(alloc, &[FIRST], &[])
 }

@@ -1,4 +1,4 @@
-//! Sources that are built over doubles: the row build-causes.
+//! Sources that are built over doubles: what a build gives, by the answers of its link.
 
 use crate::building::{Builder, NoPause, Outcome, connector_at_last, try_build};
 use spf_api::{ClientFault, GrpcStatusCode};
@@ -50,7 +50,7 @@ fn build_causes(rt: HostRuntime) -> Result<(), Fail> {
     Ok(())
 }
 
-/// Where no place and where no supervisor is given.
+/// What a build gives without a place, and without a supervisor.
 #[test]
 fn refused_builds(rt: HostRuntime) -> Result<(), Fail> {
     let alloc = rt.alloc();
@@ -134,7 +134,7 @@ fn one_pause(rt: HostRuntime) -> Result<(), Fail> {
     Ok(())
 }
 
-/// An endpoint that is none.
+/// An invalid endpoint.
 #[test]
 fn no_endpoint(rt: HostRuntime) -> Result<(), Fail> {
     let alloc = rt.alloc();

@@ -47,7 +47,8 @@ impl Pause for NoPause {
     fn pause(&mut self, _delay: Duration) {}
 }
 
-/// A connector whose first attempt gives this, and whose second a link that gives the item I1.
+/// Returns a connector whose first attempt gives this, and whose second a link that gives the item
+/// I1.
 pub fn connector_at_last(
     alloc: Global,
     first: Result<MemLink, ClientFault>,
@@ -94,7 +95,7 @@ fn revision(source: &X509Source, pass: &mut Pass) -> Outcome
     }
 }
 
-/// What a build gives, at the fixed moment.
+/// Returns what a build gives, at the fixed moment.
 pub fn try_build<R, C, W, S, L>(
     rt: R,
     alloc: Global,

@@ -45,7 +45,7 @@ impl<R: Wait + Drop> Model for LateAsk<R> {
 }
 
 impl<R: Wait + Drop> LateAsk<R> {
-    /// Publishes a denial, and reads it by the other pass. It says whether that was done.
+    /// Publishes a denial, and reads it by the other pass. It returns whether that was done.
     fn deny(&mut self) -> bool
         ensures { self.new ≡ self.old }
     {

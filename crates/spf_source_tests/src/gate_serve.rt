@@ -29,7 +29,7 @@ fn source_of(alloc: Global, input: &[u8]) -> Result<MemSource, Fail> {
     Ok(MemSource::new(bytes, Vec::new(alloc), Vec::new(alloc)))
 }
 
-/// Whether these lines are written for the input, and its answering ends so.
+/// Whether these lines are written for the input, and its answering ends like this.
 fn is_served<R: Wait + Drop>(
     rt: R,
     alloc: Global,
@@ -42,7 +42,7 @@ fn is_served<R: Wait + Drop>(
     Ok(out.bytes() == lines.as_bytes() && end == wanted)
 }
 
-/// An input, the max number of its lines, what is written, and the end.
+/// An input, the maximum number of its lines, what is written, and the end.
 type Case = (&'static [u8], u64, &'static str, Result<u64, GateError>);
 
 static INPUTS: [Case; 14] = [

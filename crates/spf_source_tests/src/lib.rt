@@ -12,4 +12,6 @@ mod gate_late;
 #[cfg(test)]
 mod gate_serve;
 #[cfg(test)]
+mod record;
+#[cfg(test)]
 mod source;

@@ -85,7 +85,7 @@ fn tries(source: &X509Source, pass: &mut Pass, trust_domain: &TrustDomain) -> (b
     (svid, matches!(bundle, Ok(Some(_))))
 }
 
-/// An open source, with what sets its mark and a pass of its board.
+/// An open source, with the closer that sets its mark, and a pass of its board.
 pub(crate) fn opened<R: Wait + Drop>(
     rt: R,
     alloc: Global,
@@ -114,7 +114,7 @@ fn gives_values(source: &X509Source, pass: &mut Pass, domain: &TrustDomain) -> b
         && !source.is_healthy(pass, Some(1000))
 }
 
-/// Whether a source gives nothing since it is closed.
+/// Whether a source gives nothing because it is closed.
 fn gives_nothing(source: &X509Source, pass: &mut Pass, domain: &TrustDomain) -> bool
     requires { pass.old.book ≡ source.now.board }
     ensures { pass.new.book ≡ pass.old.book }
@@ -124,7 +124,7 @@ fn gives_nothing(source: &X509Source, pass: &mut Pass, domain: &TrustDomain) -> 
         && !source.is_healthy(pass, Some(999))
 }
 
-/// The row after-shutdown, as far as it is about the getters.
+/// What the getters return before and after a shutdown.
 #[test]
 fn after_shutdown(rt: HostRuntime) -> Result<(), Fail> {
     let domain = TrustDomain::new(rt.alloc(), "example.org")?;
@@ -148,7 +148,7 @@ fn followed(source: &X509Source, pass: &mut Pass) -> Result<(u64, u64, bool), X5
     Ok((last, state.revision(), state.is_closed()))
 }
 
-/// Whether updates follow revision 0, and say so that the source is closed.
+/// Whether updates follow revision 0, and say accordingly whether the source is closed.
 fn follows_first(source: &X509Source, pass: &mut Pass, is_closed: bool) -> bool
     requires { pass.old.book ≡ source.now.board }
     ensures { pass.new.book ≡ pass.old.book }
@@ -159,7 +159,7 @@ fn follows_first(source: &X509Source, pass: &mut Pass, is_closed: bool) -> bool
     }
 }
 
-/// Whether no further pass is given where no place is.
+/// Whether there is no further pass where there is no place.
 fn lacks_place(source: &X509Source, pass: &mut Pass) -> bool
     requires { pass.old.book ≡ source.now.board }
 {
@@ -169,7 +169,7 @@ fn lacks_place(source: &X509Source, pass: &mut Pass) -> bool
     }
 }
 
-/// Updates go on after the source is closed. Where no place is given there are none.
+/// Updates go on after the source is closed. Where there is no place there are none.
 #[test]
 fn updates_of_a_source(rt: HostRuntime) -> Result<(), Fail> {
     let (mut source, mut pass, _desk, _stop) = opened(rt, rt.alloc())?;
@@ -225,7 +225,7 @@ fn waits_for_a_change(rt: HostRuntime) -> Result<(), Fail> {
     Ok(())
 }
 
-/// The source is closed when its last handle is let go, and not before.
+/// The source is closed when its last handle is dropped, and not before.
 #[test]
 fn last_handle_closes(rt: HostRuntime) -> Result<(), Fail> {
     let (mut source, _pass, _desk, stop) = opened(rt, rt.alloc())?;

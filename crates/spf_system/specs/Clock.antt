@@ -2,7 +2,7 @@
 use Rattle.std.specs.Prelude.{◌≡◌, ℤ, pos, int_le, List, [], ◌∷◌, map, Option, None, Some}
 use Rattle.std.specs.Prelude.{if◌then◌else◌}
 
--- a moment from 0 on; a negative one is none
+-- a moment from 0 on; a negative one counts as none
 abbrev pub moment_of : Option ℤ → Option ℤ
 moment_of None = None
 moment_of (Some seconds) = if int_le (pos 0) seconds then Some seconds else None

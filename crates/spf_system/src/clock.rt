@@ -7,9 +7,9 @@ ghost use Rattle.spf_system.specs.Clock as spec;
 use std::marker::Model;
 use std::time;
 
-/// A clock that gives Unix seconds, or none where it is not to be had.
+/// A clock that gives Unix seconds, or none where the time is not available.
 pub trait Clock {
-    // What the clock gives from here on, where it is known: then none for good.
+    // What the clock gives from here on, where it is known; after that, it gives none for good.
     ghost moments: { Self → Option (List (Option ℤ)) };
 
     /// Unix seconds, from 0 on.
@@ -18,7 +18,7 @@ pub trait Clock {
         ensures range { IfSome result (λ moment. pos 0 ≤ℤ moment) };
 }
 
-/// A clock that gives these moments in turn, and then none. A negative one is none.
+/// A clock that gives these moments in turn, and then none. A negative one counts as none.
 #[derive(Debug, Drop)]
 pub struct MemClock {
     moments: Vec<Option<i64>>,

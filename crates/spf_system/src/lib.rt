@@ -1,6 +1,6 @@
-//! What a live source asks of its system besides input and output: the clock,
-//! pauses, the environment, and a mark that ends waits. Each trait has a
-//! double in memory, which contracts see whole, and an adapter over std.
+//! What a live source asks of its system besides input and output: the clock, pauses, the
+//! environment, and a flag that ends waits. Each trait has a double in memory, which contracts see
+//! whole, and an adapter over std.
 #![tactic(auto)]
 
 mod clock;

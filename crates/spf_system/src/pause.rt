@@ -10,7 +10,7 @@ use std::marker::Model;
 use std::thread;
 use std::time::{self, Duration};
 
-/// What waits for a while.
+/// Waits for a given time.
 pub trait Pause {
     ghost use Rattle.std.specs.declared.time.Duration.{Duration};
 
@@ -23,7 +23,7 @@ pub trait Pause {
         ensures delays { Pauses (room self.old) (delays self.old) (delays self.new) delay }
         ensures room { room self.new ≡ room self.old };
 
-    /// From here on a pause ends soon once the mark is set, where it can.
+    /// From here on a pause ends soon once the flag is set, where it can.
     fn heed(&mut self, stop: StopFlag)
         ensures delays { delays self.new ≡ delays self.old }
         ensures room { room self.new ≡ room self.old }
@@ -49,7 +49,7 @@ impl Model for MemPause {
 }
 
 impl MemPause {
-    /// Room for that many delays, which is taken at once.
+    /// Returns a pause with room for that many delays, which is allocated at once.
     pub fn new(alloc: Global, room: usize) -> Result<MemPause, OutOfMemory>
         ensures { IfOk result (λ p. p ≡ record { delays = []; room = room }) }
     {
@@ -59,7 +59,7 @@ impl MemPause {
         })
     }
 
-    /// The first delays.
+    /// Returns the first delays.
     pub fn delays(&self) -> &[Duration]
         ensures { result.now ≡ self.now.delays }
     {
@@ -84,10 +84,10 @@ impl Pause for MemPause {
     }
 }
 
-/// How many nanoseconds the system sleeps at once, at most, before it looks at the mark again.
+/// How many nanoseconds the system sleeps at once, at most, before it looks at the flag again.
 const PIECE_NANOS: u128 = 50_000_000;
 
-/// A pause of the system. Once its mark is set it ends within a quarter of a second.
+/// A pause of the system. Once its flag is set it ends within a quarter of a second.
 #[derive(Drop)]
 pub struct StdPause<R> {
     system: R,
@@ -95,7 +95,7 @@ pub struct StdPause<R> {
 }
 
 impl<R: time::Clock> StdPause<R> {
-    /// A pause that heeds no mark yet.
+    /// Returns a pause that heeds no flag yet.
     pub fn new(system: R) -> StdPause<R>
         ensures { result ≡ record { system = system; stop = None } }
     {

@@ -1,4 +1,4 @@
-//! A shared mark that ends waits, and the limit of a single wait.
+//! A shared flag that ends waits, and the limit of a single wait.
 
 use spf_io::OutOfMemory;
 use std::alloc::Global;
@@ -16,14 +16,14 @@ struct Marks {
     limit: AtomicU64,
 }
 
-/// A mark that whoever waits looks at: once it is set, waits end soon. Clones share it.
+/// A flag that all waits look at: once it is set, they end soon. Clones share it.
 #[derive(Drop)]
 pub struct StopFlag {
     marks: Arc<Marks, Global>,
 }
 
 impl StopFlag {
-    /// A mark that is not set, and no limit.
+    /// Returns a flag that is not set, without a limit.
     pub fn new(alloc: Global) -> Result<StopFlag, OutOfMemory> {
         let marks = Marks {
             stopped: AtomicBool::new(false),
@@ -34,7 +34,7 @@ impl StopFlag {
         })
     }
 
-    /// Sets the mark, for good.
+    /// Sets the flag, for good.
     pub fn set(&self) {
         self.marks.stopped.store(true, Ordering::SeqCst);
     }
@@ -52,7 +52,7 @@ impl StopFlag {
         self.marks.limit.store(nanos, Ordering::SeqCst);
     }
 
-    /// The bound of a single wait, where one is set.
+    /// Returns the bound of a single wait, where one is set.
     pub fn wait_limit(&self) -> Option<Duration> {
         match self.marks.limit.load(Ordering::SeqCst) {
             NO_LIMIT => None,
@@ -60,7 +60,7 @@ impl StopFlag {
         }
     }
 
-    /// The same mark.
+    /// Returns another handle of the same flag.
     pub fn try_clone(&self) -> Result<StopFlag, OutOfMemory> {
         Ok(StopFlag {
             marks: Arc::try_clone(&self.marks)?,

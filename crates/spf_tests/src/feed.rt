@@ -249,7 +249,7 @@ fn refusing_publisher(rt: HostRuntime) -> Result<(), Fail> {
     Ok(())
 }
 
-/// Picks the only SVID, and else one that is not there.
+/// Picks the only SVID, and otherwise one that is not there.
 struct OnlyOne;
 
 impl PickFunction for OnlyOne {

@@ -15,7 +15,7 @@ static READ: [(&str, &str); 8] = [
         "00000001 FIRST 00000048 ROOT1 00000000 00000000 00000000",
     ),
     ("", "00000000 00000000 00000000"),
-    // The last of a field that stands once.
+    // Of a field that counts once, the last.
     (
         "0a06 1201aa 1201bb",
         "00000001 00000000 00000001 bb 00000000 00000000 00000000 00000000 00000000",
@@ -30,7 +30,7 @@ static READ: [(&str, &str); 8] = [
         "8a00 8000",
         "00000001 00000000 00000000 00000000 00000000 00000000 00000000 00000000",
     ),
-    // Of two bundles of one trust domain the last stands, in its own place.
+    // Of two bundles of one trust domain the last one counts, in its own place.
     (
         "1a06 0a0161 120101 1a06 0a0162 120102 1a06 0a0161 120103",
         "00000000 00000002 00000001 62 00000001 02 00000001 61 00000001 03 00000000",
@@ -42,7 +42,7 @@ static READ: [(&str, &str); 8] = [
     ("1a00", "00000000 00000001 00000000 00000000 00000000"),
 ];
 
-/// What is no message.
+/// What is not a message.
 static REFUSED: [&str; 24] = [
     // Ends inside a tag, a value, a length and a nested message.
     "8a",
@@ -53,7 +53,7 @@ static REFUSED: [&str; 24] = [
     "0a02 0a",
     "0a05 1202aa",
     "12ff",
-    // A length past the end, and one past what is addressed.
+    // A length past the end, and one past what can be addressed.
     "0affffffff07",
     "0affffffffffffffffff01",
     // The number 0; the types 3, 4, 6 and 7, of numbers that are named and of others.
@@ -76,7 +76,7 @@ static REFUSED: [&str; 24] = [
     "1a07 0a02c328 0a0161",
 ];
 
-/// Whether two responses are there and the same.
+/// Whether both responses are there and are the same.
 fn is_same(read: Option<ContextView<'_>>, wanted: Option<ContextView<'_>>) -> bool {
     match (read, wanted) {
         (Some(read), Some(wanted)) => read == wanted,
@@ -106,7 +106,7 @@ fn messages(rt: HostRuntime) -> Result<(), Fail> {
     Ok(())
 }
 
-/// Whether the bytes are no message.
+/// Whether the bytes are not a message.
 fn is_refused(alloc: Global, message: &str) -> Result<bool, Fail> {
     let message = octets(alloc, message)?;
     Ok(read_message(alloc, message.as_slice())?.is_none())
@@ -120,7 +120,7 @@ fn no_messages(rt: HostRuntime) -> Result<(), Fail> {
     Ok(())
 }
 
-/// Whether the first octets of the message of I1 are no message.
+/// Whether the first octets of the message of I1 are not a message.
 fn is_refused_at(alloc: Global, length: usize) -> Result<bool, Fail> {
     let mut message = octets(alloc, READ[0].0)?;
     message.truncate(length);

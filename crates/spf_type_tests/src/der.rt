@@ -24,7 +24,7 @@ fn read(alloc: Global, der: &[u8]) -> Option<(i64, usize, usize)> {
     }
 }
 
-/// The same of octets that are spelled by name.
+/// The same of octets that are given by name.
 fn read_of(alloc: Global, text: &str) -> Result<Option<(i64, usize, usize)>, Fail> {
     let der = octets(alloc, text)?;
     Ok(read(alloc, der.as_slice()))
@@ -37,7 +37,7 @@ fn index_of(alloc: Global, der: &[u8], oid: &[u8]) -> Result<Option<usize>, Cert
     Ok(extension_unique(&parts, oid)?)
 }
 
-/// The same of octets that are spelled by name.
+/// The same of octets that are given by name.
 fn is_index(alloc: Global, text: &str, oid: &[u8], index: Option<usize>) -> Result<bool, Fail> {
     let der = octets(alloc, text)?;
     Ok(index_of(alloc, der.as_slice(), oid) == Ok(index))
@@ -256,7 +256,7 @@ fn views(rt: HostRuntime) -> Result<(), Fail> {
     Ok(())
 }
 
-/// Pieces of ROOT1, each with another that makes of it what is no certificate.
+/// Pieces of ROOT1, each with another piece that makes it something other than a certificate.
 const BROKEN: &[(&str, &str)] = &[
     ("3046", "308146"),
     ("3046", "3080"),
@@ -267,7 +267,7 @@ const BROKEN: &[(&str, &str)] = &[
     ("3730303130313030313634305a", "3730303130313030313636305a"),
 ];
 
-/// Whether ROOT1 with one piece replaced by another is no certificate.
+/// Whether ROOT1 with one piece replaced by another is not a certificate.
 fn is_broken(alloc: Global, old: &str, new: &str) -> Result<bool, Fail> {
     let der = edited(alloc, "ROOT1", old, new)?;
     Ok(is_refused(alloc, der.as_slice()))

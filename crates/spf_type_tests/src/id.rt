@@ -13,7 +13,7 @@ fn is_refused(alloc: Global, text: &str, error: SpiffeIdError) -> bool {
     SpiffeId::new(alloc, text).err() == Some(error)
 }
 
-/// Texts that are no IDs, and the first rule that each breaks.
+/// Texts that are not IDs, and the first rule that each breaks.
 const BROKEN_IDS: &[(&str, SpiffeIdError)] = &[
     ("", SpiffeIdError::Empty),
     ("spiffe://example.org/", SpiffeIdError::TrailingSlash),
@@ -46,7 +46,7 @@ fn id_refusal(alloc: Global, length: usize) -> Result<Option<SpiffeIdError>, Fai
     Ok(SpiffeId::new(alloc, text.as_str()).err())
 }
 
-/// The longest ID is taken, and one octet more is refused.
+/// The longest ID is taken, and one more octet is refused.
 #[test]
 fn id_lengths(rt: HostRuntime) -> Result<(), Fail> {
     assert!(rt; id_refusal(rt.alloc(), 2048)?.is_none());
@@ -60,7 +60,7 @@ fn domain_refusal(alloc: Global, length: usize) -> Result<Option<SpiffeIdError>,
     Ok(TrustDomain::new(alloc, text.as_str()).err())
 }
 
-/// The longest trust domain is taken, and one octet more is refused.
+/// The longest trust domain is taken, and one more octet is refused.
 #[test]
 fn trust_domain_lengths(rt: HostRuntime) -> Result<(), Fail> {
     assert!(rt; domain_refusal(rt.alloc(), 255)?.is_none());

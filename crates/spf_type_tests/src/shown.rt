@@ -3,7 +3,7 @@
 use std::alloc::Global;
 use std::fmt::{Debug, Display};
 
-/// Whether that is the text of the value.
+/// Returns whether that is the text of the value.
 pub fn has_text<T: Display>(alloc: Global, value: &T, text: &str) -> bool {
     match format!(in alloc; "{value}") {
         Ok(shown) => shown.as_str() == text,
@@ -11,7 +11,7 @@ pub fn has_text<T: Display>(alloc: Global, value: &T, text: &str) -> bool {
     }
 }
 
-/// Whether that is the text of the value for debugging.
+/// Returns whether that is the text of the value for debugging.
 pub fn has_debug_text<T: Debug>(alloc: Global, value: &T, text: &str) -> bool {
     match format!(in alloc; "{value:?}") {
         Ok(shown) => shown.as_str() == text,
@@ -19,7 +19,7 @@ pub fn has_debug_text<T: Debug>(alloc: Global, value: &T, text: &str) -> bool {
     }
 }
 
-/// Whether both are there and equal.
+/// Returns whether both are there and equal.
 pub fn is_same<T: PartialEq + Drop, E: Drop>(found: Result<T, E>, wanted: &T) -> bool {
     match found {
         Ok(found) => found == *wanted,

@@ -57,7 +57,7 @@ fn texts(alloc: Global, names: &[&str]) -> Result<Vec<Text>, OutOfMemory> {
     Ok(texts)
 }
 
-/// The certificate of that kind with that expiry and those URI names.
+/// Returns the certificate of that kind with that expiry and those URI names.
 pub fn written(
     alloc: Global,
     kind: Kind,
@@ -74,7 +74,8 @@ pub fn written(
     write_certificate(alloc, &spec)
 }
 
-/// The octets that the text spells, with one piece replaced by another, both in hexadecimal.
+/// Returns the octets that the text spells, with one piece replaced by another, both in
+/// hexadecimal.
 pub fn edited(alloc: Global, text: &str, old: &str, new: &str) -> Result<Vec<u8>, Fail> {
     let digits = written_out(alloc, text)?.replace(alloc, old, new)?;
     octets(alloc, digits.as_str())

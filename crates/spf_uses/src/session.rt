@@ -62,8 +62,8 @@ pub fn follow<S: Source, K: Sink>(
     steps: &mut StepCounter,
     limits: ResourceLimits,
 ) -> Result<u64, FollowError>
-    // What is read and written belongs to one list of
-    // events, of which the picker chooses by `last_index`.
+    // What is read and written belongs to one list of events, whose SVIDs the picker chooses by
+    // `last_index`.
     ensures { let rules = rules_with limits None Usable (Some last_index) in
         Followed (stream rules) (outputs rules) 1000
         (record { left = S.left source.old; held = K.held out.old; steps = None; records = None })

@@ -9,7 +9,7 @@ use spf_feed::{Prepared, Snapshot};
 use spf_io::OutOfMemory;
 use std::alloc::Global;
 
-/// What a session holds after an accepted context and the steps that follow it.
+/// Returns what a session holds after an accepted context and the steps that follow it.
 pub fn replay(first: Prepared, later: Vec<Prepared>) -> Snapshot
     requires { IsTrue (is_accept first) }
     ensures { Stands same_material (first ∷ later.items) result }
@@ -21,7 +21,7 @@ pub fn replay(first: Prepared, later: Vec<Prepared>) -> Snapshot
     snapshot
 }
 
-/// How often these steps change what is visible.
+/// Returns how often these steps change what is visible.
 pub fn revision_after(
     alloc: Global,
     first: Prepared,

@@ -7,8 +7,8 @@ ghost use Rattle.spf_uses.specs.Rules.{validity_rule};
 use spf_x509::{X509Svid, X509SvidError};
 use std::alloc::Global;
 
-/// Whether an SVID, a chain of certificates in DER and
-/// a PKCS#8 key, expires after `now`, in Unix seconds.
+/// Returns whether an SVID, a chain of certificates in DER and a PKCS#8 key, expires after `now`,
+/// in Unix seconds.
 pub fn is_valid_at(alloc: Global, chain: &[u8], key: &[u8], now: i64) -> Result<bool, X509SvidError>
     ensures { Gives is_memory_svid (λ is. is) result (validity_rule chain.now key.now now) }
 {

@@ -65,7 +65,7 @@ framed s past kind bytes front rest e f same =
       lays_out = (λ i. s.event_at (kinds i) (payload i)) ∙ f.lays_out;
     }
 
--- one event more, or no frame
+-- one more event, or no frame
 pub record IsMore {E A : Type 0} (s : Stream E A) (past : List E) (bytes : List ℕ) : Type 0 where
   pub event : E
   pub front : List ℕ
@@ -124,7 +124,7 @@ pub record HasReading {E A : Type 0} (s : Stream E A) (max_frames : ℕ)
   pub rest : List ℕ
   pub reading : IsReading s max_frames bytes es rest
 
--- after one event more, where it lets the session go on
+-- after one more event, where it lets the session go on
 step : {E A : Type 0} (s : Stream E A) (max_frames room : ℕ) (text bytes : List ℕ) (es : List E)
     → IsOpen s [] text es → length es + suc room ≡ max_frames
     → IsMore s (onto [] es) bytes ⊎ NoFrameAt s (onto [] es) bytes

@@ -255,7 +255,7 @@ followed_before s o max_frames old cur new past count extra r f same took taken 
   end = end;
 }
 
--- a session that is read to its end takes nothing more, and is no fault
+-- a session that is read to its end takes nothing more, and is not a fault
 none_more : {E A : Type 0} (s : Stream E A) (max_frames : ℕ) (left : Option (List ℕ))
     (text : List ℕ) (es : List E) (b : Bool) (n : ℕ) (r : End A) → n ≡ length es
     → r ≡ cond b (Whole n) NeverSynced → TakenAtEnd s max_frames left text es [] r
@@ -400,7 +400,7 @@ followed_early s o max_frames old =
 
 -- ---- the exits after an event
 
--- one event more, whose frame was taken
+-- one more event, whose frame was taken
 pub record IsNext {E A : Type 0} (s : Stream E A) (max_frames : ℕ) (now after : Option (List ℕ))
     (past : List E) (count : ℕ) (e : E) : Type 0 where
   pub room : count < max_frames

@@ -37,7 +37,7 @@ pub outcome_at : {E M L D : Type 0} (s : Subject E M L D) (past : List E) (now :
 outcome_at s past now kept e h =
     λ i. outcome_with s (synced_at s past now kept h i) (moment_at s past now kept h i) e
 
--- ---- one event more
+-- ---- one more event
 
 opened : {M L D : Type 0} (E : M → M → Bool) (t : Step M L D) → BeginsWithAccept (t ∷ [])
     → StandsIf E (t ∷ []) (Some (record { revision = 0; view = shown_by t }))

@@ -11,7 +11,7 @@ use Rattle.spf_view.proofs.HeldLemmas.{held_next, held_more, held_denied, held_v
 use Rattle.spf_view.proofs.RevisionLemmas.{revision_more, view_more, reason_view, denied_view}
 use Rattle.spf_view.proofs.RevisionLemmas.{denied_again}
 
--- steps that are withdrawn are some
+-- steps that leave the view withdrawn are not empty
 withdrawn_some : {M L D : Type 0} (steps : List (Step M L D)) (d : D)
     → Some d ≡ reason_of (replay_view steps) → reverse steps ≡ [] → ⊥
 withdrawn_some steps d e none = let was : Some d ≡ None =

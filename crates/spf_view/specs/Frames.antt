@@ -7,7 +7,7 @@ use Rattle.std.specs.Int.{w32, to_be_bytes, from_be_bytes}
 unfoldable pub sized : List ℕ → List ℕ
 sized payload = to_be_bytes w32 (length payload) ++ payload
 
--- the payload is no longer than a frame may have it
+-- the payload is not too long for a frame
 abbrev pub FitsFrame : List ℕ → Type 0
 FitsFrame payload = length payload ≤ 2 ^ 24
 

@@ -108,7 +108,7 @@ end_by r = option_map_or Refused r.refusal
     else BadFrame (r.count + 1))
 
 -- The end that a reading fixes: a refusal; otherwise a whole session by whether something is
--- accepted; otherwise the bound, or the frame that is none.
+-- accepted; otherwise the bound, or the bad frame.
 abbrev pub end_of : {E A : Type 0} → Stream E A → ℕ → List E → List ℕ → End A
 end_of s max_frames es rest = end_by (record {
   refusal = refusal_of s [] es;

@@ -40,7 +40,7 @@ abbrev pub StandsIf : {M L D : Type 0} → (M → M → Bool) → List (Step M L
 StandsIf E steps None = steps ≡ []
 StandsIf E steps (Some kept) = Stands E steps kept
 
--- one more step makes a change
+-- whether one more step makes a change
 abbrev pub is_change : {M L D : Type 0} → (M → M → Bool) → View M D → Step M L D → Bool
 is_change E (Permitted h) (Accept m l) = not (E h m)
 is_change E (Permitted h) (Deny d) = true

@@ -15,7 +15,7 @@ pub record Subject (E M L D : Type 0) : Type 0 where
   -- the limits of the setting
   pub limits : L
   pub is_within : L → M → Bool
-  -- may be the first accepted one, where this is the last moment before it
+  -- whether it may be the first accepted one, where this is the last moment before it
   pub may_sync : M → Option ℤ → Bool
   -- the reason of a status that denies
   pub denial : E → Option D
@@ -49,7 +49,7 @@ abbrev pub brings : {E M L D : Type 0} → Subject E M L D → Bool → Option �
 brings s synced now e =
     keep_if (λ m. synced || s.may_sync m now) (keep_if (s.is_within s.limits) (s.parsed e))
 
--- one of these is accepted
+-- whether one of these is accepted
 abbrev pub has_synced : {E M L D : Type 0} → Subject E M L D → List E → Bool
 has_synced s [] = false
 has_synced s (e ∷ past) =
@@ -81,7 +81,7 @@ last_accepted (Accepted m ∷ past) = Some m
 last_accepted (Denied d ∷ past) = last_accepted past
 last_accepted (Passed ∷ past) = last_accepted past
 
--- the reason of the first denial after it
+-- the reason of the first denial after the last accepted material
 abbrev pub first_denial : {M D : Type 0} → List (Outcome M D) → Option D
 first_denial [] = None
 first_denial (Accepted m ∷ past) = None
@@ -116,13 +116,13 @@ same_view E Waiting v = false
 same_view E (Withdrawn d) Waiting = false
 same_view E (Permitted m) Waiting = false
 
--- how many neighbours are not the same
+-- how many views differ from the one before
 abbrev pub changes : {V : Type 0} → (V → V → Bool) → List V → ℕ
 changes E [] = 0
 changes E (v ∷ []) = 0
 changes E (w ∷ (v ∷ vs)) = (if E v w then 0 else 1) + changes E (v ∷ vs)
 
--- it stops at the end of its type
+-- the number of changes, which stops at the end of its type
 abbrev pub revision_of : {M D : Type 0} → (M → M → Bool) → List (Outcome M D) → ℕ
 revision_of E past = min (changes (same_view E) (views_of past)) (2 ^ 64 - 1)
 

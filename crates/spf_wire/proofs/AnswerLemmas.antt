@@ -14,7 +14,7 @@ use Rattle.spf_frame.specs.Frames.{NoFrame, IsRead, IsUnread, Unread}
 use Rattle.spf_frame.proofs.Parts.{none_from_front, unread_as}
 use Rattle.spf_wire.specs.Answers.{said_text, IsSaid, IsAnswered, IsMissed}
 
--- what a frame says, it says only by a kind that may stand
+-- what a frame says, it says only by an allowed kind
 abbrev pub Covers : {A : Type 0} → (ℕ → List ℕ → A → Type 0) → (ℕ → Bool) → Type 0
 Covers {A} Says kinds = (kind : ℕ) (payload : List ℕ) (answer : A) → Says kind payload answer
     → IsTrue (kinds kind)

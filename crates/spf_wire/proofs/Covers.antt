@@ -1,5 +1,4 @@
--- Answers are said by the kinds that may stand, and a
--- payload of a kind lays out responses of that kind.
+-- Only allowed kinds say answers, and a payload of a kind lays out responses of that kind.
 use Rattle.std.proofs.Common.{◌≡◌, ℕ, Bool, true, false, List, Option, None, Some, refl, sym, ap}
 use Rattle.std.proofs.Common.{subst}
 use Rattle.std.specs.Prelude.{IsTrue, Result, Ok, Err, IfOk, IfSome, ◌||◌, ◌&&◌}

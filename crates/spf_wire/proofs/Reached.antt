@@ -10,7 +10,7 @@ pub unreached : {E : Type 0} (rule : Result (Unit {0}) E) (f : ClientFault) → 
 unreached (Ok x) f h = tt
 unreached (Err e) f h = h
 
--- where nobody was reached, the fault is no status
+-- where nobody was reached, the fault is not a status
 pub unnamed_reaches : (L : Type 0) (v : Option EnvValue) (f : ClientFault) → IsNoStatus f
     → ReachesNamed {L = L} v (Err f)
 unnamed_reaches L None f silent = tt

@@ -25,13 +25,13 @@ starts kind = kind == CONNECTED || kind == CONNECT_STATUS
 abbrev pub streams : ℕ → Bool
 streams kind = kind == ITEM || kind == ITEM_STATUS || kind == STREAM_END
 
--- the kinds that may stand at a start: after an
--- earlier request frames of its stream may stand first
+-- the kinds that are allowed at a start: after an earlier request, frames of its stream may come
+-- first
 abbrev pub may_start : Bool → ℕ → Bool
 may_start again kind = starts kind || (again && streams kind)
 
--- what a frame says at a start: the request is started, or refused with a status; None is said by a
--- frame of an earlier stream, whatever its payload
+-- what a frame says at a start: the request is started, or refused with a status; a frame of an
+-- earlier stream says None, whatever its payload
 abbrev pub SaysAtStart : Bool → ℕ → List ℕ → Option (Result (Unit {0}) Refused) → Type 0
 SaysAtStart again kind payload None = IsTrue again × IsTrue (streams kind)
 SaysAtStart again kind payload (Some (Ok _)) = (kind ≡ CONNECTED) × (payload ≡ [])
@@ -71,7 +71,7 @@ pub record IsAnswered {A : Type 0} (Says : ℕ → List ℕ → A → Type 0) (o
 
 -- Why no answer was read, and what was taken: no whole answer begins what is left (`BadFrame`), a
 -- read failed, or memory ran out. It is never more than shows that there is none: the kind, where
--- it may not stand; kind and length, where the length is too great; the whole frame, where its
+-- it is not allowed; kind and length, where the length is too great; the whole frame, where its
 -- payload lays out nothing; and all, where the source ends inside.
 abbrev pub IsMissed : {A : Type 0} → (ℕ → List ℕ → A → Type 0) → (ℕ → Bool) → Option (List ℕ)
     → Option (List ℕ) → FrameError → Type 0
@@ -106,7 +106,7 @@ pub record StartRead (again : Bool) (old new : Option (List ℕ))
   pub over : Consumes old middle (passed_text passed)
   pub read : AnswerRead (SaysAtStart again) (may_start again) middle new (answering r)
 
--- the answer in a stream; before the first start no kind may stand
+-- the answer in a stream; before the first start no kind is allowed
 abbrev pub StreamRead : Option ResponseKind → Option (List ℕ) → Option (List ℕ)
     → Result (Result (Option Response) Refused) FrameError → Type 0
 StreamRead None old new r = (r ≡ Err errors.BadFrame) × Consumes old new []

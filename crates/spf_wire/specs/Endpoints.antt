@@ -10,7 +10,7 @@ use Rattle.spf_system.specs.declared.environment.EnvValue.{EnvValue}
 use Rattle.spf_wire.specs.declared.endpoint_connector.Target.{Target}
 use Rattle.spf_wire.specs.declared.endpoint_connector.Target.TheVariants as target
 
--- no more than whether the rules are kept
+-- only whether the rules are kept
 abbrev pub kept : {A E : Type 0} → Result A E → Result (Unit {0}) E
 kept (Ok x) = Ok tt
 kept (Err e) = Err e
@@ -33,7 +33,7 @@ abbrev pub IsOwnFault : {E : Type 0} → Result (Unit {0}) E → ClientFault →
 IsOwnFault (Ok _) f = Unit {0}
 IsOwnFault (Err e) f = IsNoStatus f
 
--- nobody is reached by a text that breaks a rule
+-- nobody is reached by a text that breaks a rule, and no status is then returned
 abbrev pub IsUnreached : {E L : Type 0} → Result (Unit {0}) E → Result L ClientFault → Type 0
 IsUnreached rule (Ok link) = rule ≡ Ok tt
 IsUnreached rule (Err f) = IsOwnFault rule f

@@ -34,7 +34,7 @@ request_payload headers request = list_text header_text headers ++ asked_text re
 abbrev pub request_text : List Header → Request → List ℕ
 request_text headers request = raw_text (request_kind request) (request_payload headers request)
 
--- the frame of a request, where its payload is no longer than a frame may have it
+-- the frame of a request, where its payload is not too long for a frame
 abbrev pub framed : List Header → Request → Option (List ℕ)
 framed headers request =
     if nat_lt (2 ^ 24) (length (request_payload headers request)) then None

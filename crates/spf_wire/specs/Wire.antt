@@ -35,9 +35,9 @@ pub record Ports : Type 0 where
 abbrev pub refusal : GrpcStatusCode → LinkFault
 refusal c = fault.Status (record { code = c; message = []; source = None })
 
--- The refusal by what stood in the way: RESOURCE_EXHAUSTED for a
--- request that is too long, UNAVAILABLE for a put or a read that
--- failed, INTERNAL where no whole answer came that may stand there.
+-- The refusal by what stood in the way: RESOURCE_EXHAUSTED for a request that is too long,
+-- UNAVAILABLE for a put or a read that failed, INTERNAL where no whole answer came that is allowed
+-- there.
 abbrev pub fault_of : WireFault → LinkFault
 fault_of wire.RequestTooLong = refusal code.ResourceExhausted
 fault_of wire.PutFault = refusal code.Unavailable

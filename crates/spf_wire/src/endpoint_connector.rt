@@ -54,7 +54,8 @@ fn unreachable(alloc: Global, e: &EndpointError) -> ClientFault
 }
 
 impl<R: Net<Stream = TcpStream> + Drop> EndpointConnector<R> {
-    /// A connector to what the text names, as `unix:///run/agent.sock` or `tcp://127.0.0.1:8081`.
+    /// Returns a connector to what the text names, such as `unix:///run/agent.sock` or
+    /// `tcp://127.0.0.1:8081`.
     pub fn new(net: R, alloc: Global, endpoint: &str) -> Result<EndpointConnector<R>, OutOfMemory>
         ensures { IfOk result
             (λ c. ⟦<EndpointConnector<R> as Connector>⟧.validates c
@@ -69,7 +70,7 @@ impl<R: Net<Stream = TcpStream> + Drop> EndpointConnector<R> {
         })
     }
 
-    /// A connector to the endpoint.
+    /// Returns a connector to the endpoint.
     pub fn to(net: R, alloc: Global, endpoint: Endpoint) -> EndpointConnector<R>
         ensures { ⟦<EndpointConnector<R> as Connector>⟧.validates result ≡ Ok tt }
     {

@@ -25,7 +25,7 @@ pub struct EnvConnector<R, E> {
     refused: u64,
 }
 
-/// The text of why the environment names no endpoint.
+/// The text that says why the environment names no endpoint.
 fn unnamed(alloc: Global, e: &WorkloadApiError) -> ClientFault
     ensures { IsNoStatus result }
 {
@@ -39,7 +39,7 @@ fn unnamed(alloc: Global, e: &WorkloadApiError) -> ClientFault
 }
 
 impl<R: Net<Stream = TcpStream> + Drop, E: Environment + Drop> EnvConnector<R, E> {
-    /// A connector that has not refused yet.
+    /// Returns a connector that has not refused yet.
     pub fn new(net: R, alloc: Global, environment: E) -> EnvConnector<R, E>
         ensures environment { result.environment ≡ environment }
         ensures refused { result.refused ≡ 0 }

@@ -1,4 +1,4 @@
-//! The kinds of frames that may stand in answer to a call.
+//! The kinds of frames that are allowed in answer to a call.
 
 ghost use Rattle.std.specs.Prelude.{◌≡◌};
 ghost use Rattle.spf_wire.specs.Answers.{streams};
@@ -13,7 +13,7 @@ pub(crate) fn is_of_stream(kind: u8) -> bool
     kind == ITEM || kind == ITEM_STATUS || kind == STREAM_END
 }
 
-/// What may stand at a start, which may be one after another.
+/// The kinds that are allowed at a start, be it the first or a later one.
 #[derive(Clone, Copy)]
 pub(crate) struct AtStart {
     pub(crate) again: bool,
@@ -29,7 +29,7 @@ impl Kinds for AtStart {
     }
 }
 
-/// What may stand in a stream.
+/// The kinds that are allowed in a stream.
 #[derive(Clone, Copy)]
 pub(crate) struct InStream;
 

@@ -23,7 +23,7 @@ pub const JWT_BUNDLES: u8 = 0x14;
 
 pub const VALIDATE_JWT: u8 = 0x15;
 
-/// The max length of a payload.
+/// The maximum length of a payload.
 const MAX_PAYLOAD: usize = 1 << 24;
 
 /// Appends a length or a count. One that four octets cannot hold counts as out of memory.

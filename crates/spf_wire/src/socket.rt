@@ -1,4 +1,4 @@
-//! Sockets as readers and writers, whose waits end soon once a mark is set.
+//! Sockets as readers and writers, whose waits end soon once a flag is set.
 
 ghost use Rattle.std.specs.Io.{ReadsAtMost, WritesAtMost};
 
@@ -8,10 +8,10 @@ use std::net::TcpStream;
 use std::os::unix::net::UnixStream;
 use std::time::Duration;
 
-/// How many milliseconds the system waits at once, at most, before the mark is looked at again.
+/// How many milliseconds the system waits at once, at most, before the flag is looked at again.
 const PIECE_MILLIS: u64 = 100;
 
-/// Whether a wait that has lasted for so many milliseconds is to end.
+/// Whether a wait that has lasted for this many milliseconds is to end.
 pub(crate) fn is_over(stop: &Option<StopFlag>, waited_millis: u64) -> bool {
     match stop {
         None => false,
@@ -41,7 +41,7 @@ pub(crate) enum Socket {
 }
 
 impl Socket {
-    /// Lets no read and no write of the system wait for longer than a piece.
+    /// Limits each read and each write of the system to a wait of one piece.
     pub(crate) fn wait_in_pieces(&self) -> io::Result<()> {
         let piece = Some(Duration::from_millis(PIECE_MILLIS));
         match self {

@@ -12,7 +12,7 @@ use std::net::{IpAddr, Ipv4Addr, Ipv6Addr, Net, SocketAddr, TcpStream};
 use std::os::unix::net::UnixStream;
 use std::time::Duration;
 
-/// For how many milliseconds the system tries to connect, at most, before the mark is looked at.
+/// For how many milliseconds the system tries to connect, at most, before the flag is looked at.
 const TRY_MILLIS: u64 = 200;
 
 /// A link over the wire of a Unix or TCP socket.
@@ -26,7 +26,7 @@ fn address_of(host: EndpointHost, port: u16) -> SocketAddr {
     SocketAddr::new(ip, port)
 }
 
-/// Connects as the system does; with a mark in tries of at most `TRY_MILLIS` each.
+/// Connects as the system does; with a flag, in tries of at most `TRY_MILLIS` each.
 fn connect_tcp<R: Net<Stream = TcpStream>>(
     net: &R,
     address: SocketAddr,

@@ -77,7 +77,7 @@ fn refusals_after<T>(refused: u64, outcome: &Result<T, LinkFault>) -> u64
 }
 
 impl<S: Source, K: Sink> WireLink<S, K> {
-    /// A link over which nothing was asked yet.
+    /// Returns a link over which nothing was asked yet.
     pub fn new(alloc: Global, source: S, sink: K) -> WireLink<S, K>
         ensures source { result.source ≡ source }
         ensures sink { result.sink ≡ sink }
@@ -132,7 +132,7 @@ impl<S: Source, K: Sink> WireLink<S, K> {
         }
     }
 
-    /// Reads the next answer in the stream. Before the first start none may stand.
+    /// Reads the next answer in the stream. Before the first start none is allowed.
     fn read_next(&mut self) -> Result<Streamed, FrameError>
         ensures read { IsStreamRead self.old.asked
             (record {

@@ -208,7 +208,7 @@ authorities_cut spent (suc n) (c ∷ b) xs all is =
       rest,
     )
 
--- a chain of at most so many
+-- a chain of at most that many
 abbrev pub Within : ℕ → List ℕ → List (Parts × List ℕ) → Type 0
 Within n b parts = CertsOf b (texts parts) × (length parts ≤ n)
 

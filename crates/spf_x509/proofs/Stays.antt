@@ -31,7 +31,7 @@ one_of {V} P (e ∷ es) k v all is =
     at true same more found = subst P (sym ((bytes_exact k e.0).0 same)) all.0
     at false other more found = more found
 
--- to put it there changes nothing
+-- putting it there again changes nothing
 pub put_again : {V : Type 0} (es : List (List ℕ × V)) (k : List ℕ) (v : V) → Rises es
     → find_entry k es ≡ Some v → with_entry es k v ≡ es
 put_again [] k v rises is = absurd (cc)

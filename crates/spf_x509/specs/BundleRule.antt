@@ -21,7 +21,7 @@ added_to bundle read =
     >>= λ authority.
     Ok (record { domain = bundle.domain; authorities = bundle.authorities ++ authority ∷ [] })
 
--- the bundle of a trust domain that the bytes are is in a set: to add it changes nothing
+-- the bundle of a trust domain that the bytes are is in a set: adding it changes nothing
 pub record IsIn (set : List (List ℕ × Bundle)) (domain der : List ℕ) : Type 0 where
   pub bundle : Bundle
   pub read : bundle_of domain (authorities_rule der) ≡ Ok bundle

@@ -40,7 +40,7 @@ authorities_rule der = many authority_at (ParseX509Certificate InvalidCertificat
 abbrev pub texts : List (Parts × List ℕ) → List (List ℕ)
 texts parts = map (λ (p : Parts × List ℕ). p.1) parts
 
--- SignRule of each intermediate, in order: the first that breaks it decides
+-- the rule of each intermediate, in order: the first that breaks it decides
 abbrev pub intermediates_rule : List (Parts × List ℕ) → Result (Unit {0}) X509SvidError
 intermediates_rule intermediates =
     each (λ (p : Parts × List ℕ). intermediate_rule p.0) intermediates >>= λ _. Ok tt
@@ -67,8 +67,7 @@ svid_of chain key hint = do
   parts ← broken_as svid_of_certificate (chain_rule chain)
   svid_of_parts key hint parts
 
--- certificates that may stand after a leaf: they are read, and each keeps
--- the rule of an intermediate
+-- certificates that may follow a leaf: they are read, and each keeps the rule of an intermediate
 pub record MayFollowLeaf (certificates : List (List ℕ)) : Type 0 where
   pub parts : List (Parts × List ℕ)
   pub are : texts parts ≡ certificates

@@ -33,7 +33,7 @@ impl Model for X509Bundle {
 }
 
 impl X509Bundle {
-    /// A bundle without authorities.
+    /// Returns a bundle without authorities.
     pub fn new(alloc: Global, trust_domain: TrustDomain) -> X509Bundle
         ensures { result ≡ record { domain = trust_domain; authorities = [] } }
     {
@@ -59,7 +59,7 @@ impl X509Bundle {
         })
     }
 
-    /// The authorities whose concatenation the bytes are: none for empty bytes.
+    /// Returns the authorities whose concatenation the bytes are: none for empty bytes.
     pub fn parse_from_der(
         alloc: Global,
         trust_domain: TrustDomain,
@@ -75,7 +75,7 @@ impl X509Bundle {
         })
     }
 
-    /// Appends one authority. A refusal leaves the bundle as it was.
+    /// Appends one authority. An error leaves the bundle as it was.
     pub fn add_authority(&mut self, der: &[u8]) -> Result<(), X509BundleError>
         ensures ok { OnOk result
             (self.new ≡ record {
@@ -92,7 +92,7 @@ impl X509Bundle {
         Ok(())
     }
 
-    /// A copy of the bundle.
+    /// Returns a copy of the bundle.
     pub fn try_clone(&self, alloc: Global) -> Result<X509Bundle, OutOfMemory>
         ensures { IfOk result (λ b. b ≡ self.now) }
     {
@@ -102,7 +102,8 @@ impl X509Bundle {
         })
     }
 
-    /// Whether this is the bundle of exactly that trust domain and those bytes. It takes no memory.
+    /// Returns whether this is the bundle of exactly that trust domain and those bytes. It
+    /// allocates nothing.
     pub fn is_parsed_from(&self, trust_domain: &TrustDomain, der: &[u8]) -> bool
         ensures { IsTrue result
             ↔ (bundle_of trust_domain.now (authorities_rule der.now) ≡ Ok self.now) }

@@ -43,7 +43,7 @@ impl X509BundleSet {
         }
     }
 
-    /// Replaces the bundle of its trust domain.
+    /// Adds a bundle, which replaces the one of its trust domain.
     pub fn add_bundle(&mut self, bundle: X509Bundle) -> Result<(), OutOfMemory>
         ensures ok { OnOk result (self.new ≡ with_entry self.old bundle.domain bundle) }
         ensures found { OnOk result (find_entry bundle.domain self.new ≡ Some bundle) }
@@ -54,7 +54,7 @@ impl X509BundleSet {
         self.add_shared(bundle)
     }
 
-    /// The same with a share of a bundle.
+    /// The same for a shared bundle.
     pub fn add_shared(&mut self, bundle: Arc<X509Bundle>) -> Result<(), OutOfMemory>
         ensures ok { OnOk result
             (self.new ≡ with_entry self.old (arc_value bundle).domain (arc_value bundle)) }
@@ -68,8 +68,8 @@ impl X509BundleSet {
         Ok(())
     }
 
-    /// Whether the bundle of that trust domain and those bytes stands in the set already. Then to
-    /// add it would change nothing. It takes no memory.
+    /// Returns whether the bundle of that trust domain and those bytes stands in the set already.
+    /// Adding it would then change nothing. It allocates nothing.
     pub fn holds_parsed(&self, trust_domain: &TrustDomain, der: &[u8]) -> bool
         ensures { IsTrue result → IsIn self.now trust_domain.now der.now }
     {
@@ -83,7 +83,7 @@ impl X509BundleSet {
         }
     }
 
-    /// Adds each bundle in order. After a refusal the set holds those before the refused one.
+    /// Adds each bundle in order. After an error the set holds those before the one that failed.
     pub fn extend(&mut self, bundles: Vec<X509Bundle>) -> Result<(), OutOfMemory>
         ensures ok { OnOk result (self.new ≡ with_bundles self.old bundles.items) }
         ensures err { OnErr result (HoldsFront self.old bundles.items self.new) }
@@ -94,7 +94,7 @@ impl X509BundleSet {
         Ok(())
     }
 
-    /// The set of the bundles, of which the last of a trust domain stands.
+    /// Returns the set of the bundles, where the last one of a trust domain counts.
     pub fn from_iter(alloc: Global, bundles: Vec<X509Bundle>) -> Result<X509BundleSet, OutOfMemory>
         ensures { IfOk result (λ s. s ≡ with_bundles [] bundles.items) }
     {
@@ -103,7 +103,7 @@ impl X509BundleSet {
         Ok(set)
     }
 
-    /// A copy of the set, which shares its bundles.
+    /// Returns a copy of the set, which shares its bundles.
     pub fn try_clone(&self, alloc: Global) -> Result<X509BundleSet, OutOfMemory>
         ensures { IfOk result (λ s. s ≡ self.now) }
     {
@@ -114,7 +114,7 @@ impl X509BundleSet {
         Ok(X509BundleSet { bundles, alloc })
     }
 
-    /// A share of the bundle of that trust domain.
+    /// Returns a share of the bundle of that trust domain.
     pub fn get(&self, trust_domain: &TrustDomain) -> Result<Option<Arc<X509Bundle>>, OutOfMemory>
         ensures { IfOk result (λ o. option_map arc_value o ≡ find_entry trust_domain.now self.now) }
     {
@@ -136,7 +136,7 @@ impl X509BundleSet {
         self.get_ref(trust_domain)
     }
 
-    /// The pairs of trust domain and bundle, in the order of the trust domains.
+    /// Returns the pairs of trust domain and bundle, in the order of the trust domains.
     pub fn iter(&self) -> X509BundleIter<'_>
         ensures pairs { result ≡ self.now }
         ensures order { IsInDomainOrder self.now }

@@ -46,7 +46,7 @@ impl Model for Certificate {
 }
 
 impl Certificate {
-    /// The certificate that the bytes are, whole.
+    /// Returns the certificate that the bytes are, whole.
     #[tactic(auto, unfolding(crate::specs::Certificate::certificate_of))]
     pub fn try_from(alloc: Global, der: &[u8]) -> Result<Certificate, CertificateError>
         ensures text { IfOk result (λ c. c ≡ der.now) }
@@ -85,7 +85,7 @@ impl Certificate {
         self.der.as_slice()
     }
 
-    /// A copy of the certificate.
+    /// Returns a copy of the certificate.
     pub fn try_clone(&self, alloc: Global) -> Result<Certificate, OutOfMemory>
         ensures { IfOk result (λ c. c ≡ self.now) }
     {
@@ -94,7 +94,7 @@ impl Certificate {
         })
     }
 
-    /// The one SPIFFE ID of its subject alternative name.
+    /// Returns the one SPIFFE ID of its subject alternative name.
     pub fn spiffe_id(&self, alloc: Global) -> Result<SpiffeId, CertificateError>
         ensures gives { Gives is_memory_certificate (λ id. id) result (spiffe_id_rule self.now) }
         ensures san { (parts : Parts) → CertText self.now parts
@@ -115,7 +115,7 @@ pub(crate) fn copies(alloc: Global, chain: &[Certificate]) -> Result<Vec<Certifi
     Ok(certificates)
 }
 
-/// The one SPIFFE ID of the certificate that the bytes are, whole.
+/// Returns the one SPIFFE ID of the certificate that the bytes are, whole.
 #[tactic(auto, unfolding(crate::specs::Certificate::spiffe_id_rule))]
 pub fn spiffe_id_from_der(alloc: Global, der: &[u8]) -> Result<SpiffeId, CertificateError>
     ensures { Gives is_memory_certificate (λ id. id) result (spiffe_id_rule der.now) }

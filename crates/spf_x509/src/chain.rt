@@ -97,7 +97,7 @@ pub(crate) fn is_concatenation(certificates: &[Certificate], der: &[u8]) -> bool
     rest.is_empty()
 }
 
-/// The octets of the certificates, as many as there can be.
+/// The number of octets of the certificates, stopping at `usize::MAX`.
 fn length_of(certificates: &[Certificate]) -> usize {
     let mut length = 0_usize;
     for certificate in certificates {

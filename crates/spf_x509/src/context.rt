@@ -75,7 +75,7 @@ impl X509Context {
         }
     }
 
-    /// A copy of the context, which shares its SVIDs and bundles.
+    /// Returns a copy of the context, which shares its SVIDs and bundles.
     pub fn try_clone(&self, alloc: Global) -> Result<X509Context, OutOfMemory>
         ensures { IfOk result (λ c. c ≡ self.now) }
     {
@@ -86,7 +86,7 @@ impl X509Context {
         })
     }
 
-    /// The first SVID.
+    /// Returns the first SVID.
     pub fn default_svid(&self) -> Option<&Arc<X509Svid>>
         ensures { option_map (λ a. arc_value a.now) result ≡ slice_get self.now.svids 0 }
     {

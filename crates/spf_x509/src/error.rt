@@ -13,10 +13,10 @@ pub enum CertificateError {
     /// A required extension is missing.
     #[error("X.509 extension is missing: {0}")]
     MissingX509Extension(X509ExtensionId),
-    /// An extension cannot be read: the names of a subject alternative name.
+    /// An extension cannot be read: the subject alternative name.
     #[error("unexpected X.509 extension: {0}")]
     UnexpectedExtension(Text),
-    /// The bytes are no certificate, or an extension stands twice.
+    /// The bytes are not a certificate, or it has an extension twice.
     #[error("failed parsing X.509 certificate")]
     ParseX509Certificate(X509ParseError),
     /// No URI of the subject alternative name is a SPIFFE ID.
@@ -120,7 +120,7 @@ impl From<SpiffeIdError> for CertificateError {
 /// Why a private key is refused.
 #[derive(Debug, PartialEq, Eq, Drop, Error)]
 pub enum PrivateKeyError {
-    /// The bytes are no private key in PKCS#8.
+    /// The bytes are not a private key in PKCS#8.
     #[error("failed decoding PKCS#8 private key")]
     DecodePkcs8(Pkcs8DecodeError),
     /// Memory ran out.

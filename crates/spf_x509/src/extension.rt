@@ -14,7 +14,7 @@ pub enum X509ExtensionId {
 }
 
 impl X509ExtensionId {
-    /// The identifier in dotted decimals.
+    /// Returns the identifier in dotted decimals.
     pub fn as_str(&self) -> &str
         ensures { result.now ≡ dotted self.now }
     {

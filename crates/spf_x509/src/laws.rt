@@ -25,8 +25,8 @@ pub fn certificate_is_text()
         ↔ (IsCertificate der → ⊥) }
 {}
 
-/// The authorities of a bundle are exactly the certificates of which the bytes are the
-/// concatenation, and the bytes are refused exactly where there are no such certificates.
+/// The authorities of a bundle are exactly the certificates whose concatenation the bytes are, and
+/// the bytes are refused exactly where there are no such certificates.
 pub fn authorities_are_certificates()
     ensures read { (der : List ℕ) (certificates : List (List ℕ)) → IsBytes der
         → (authorities_rule der ≡ Ok certificates) ↔ CertsOf der certificates }
@@ -35,8 +35,8 @@ pub fn authorities_are_certificates()
         ↔ ((certificates : List (List ℕ)) → CertsOf der certificates → ⊥) }
 {}
 
-/// A chain is exactly the certificates of which it is the concatenation, at most 16. It has too
-/// many exactly where 16 certificates stand at its start and an octet follows.
+/// A chain is exactly the certificates whose concatenation it is, at most 16. It has too many
+/// exactly where 16 certificates stand at its start and an octet follows.
 pub fn chain_is_certificates()
     ensures read { (chain : List ℕ) (certificates : List (List ℕ)) → IsBytes chain
         → ReadAs (chain_rule chain) certificates

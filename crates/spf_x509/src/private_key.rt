@@ -29,7 +29,7 @@ impl Model for PrivateKey {
 }
 
 impl PrivateKey {
-    /// The key that the bytes are, whole.
+    /// Returns the key that the bytes are, whole.
     #[tactic(auto, unfolding(crate::specs::Key::key_rule))]
     pub fn try_from(alloc: Global, der: &[u8]) -> Result<PrivateKey, PrivateKeyError>
         ensures text { IfOk result (λ k. k ≡ der.now) }
@@ -41,7 +41,7 @@ impl PrivateKey {
         })
     }
 
-    /// The same, keeping the bytes. The allocator plays no part.
+    /// The same, keeping the bytes. The allocator is not used.
     #[tactic(auto, unfolding(crate::specs::Key::key_rule))]
     pub fn try_from_owned(_alloc: Global, der: Vec<u8>) -> Result<PrivateKey, PrivateKeyError>
         ensures text { IfOk result (λ k. k ≡ der.items) }
@@ -59,7 +59,7 @@ impl PrivateKey {
         self.der.as_slice()
     }
 
-    /// A copy of the key.
+    /// Returns a copy of the key.
     pub fn try_clone(&self, alloc: Global) -> Result<PrivateKey, OutOfMemory>
         ensures { IfOk result (λ k. k ≡ self.now) }
     {

@@ -1,4 +1,4 @@
-//! Where others take identities and bundles from.
+//! Sources of identities and bundles.
 
 ghost use Rattle.std.specs.Prelude.{ℕ, ℤ, List, Option, IfOk};
 ghost use Rattle.std.specs.Option.{option_map};
@@ -7,7 +7,7 @@ ghost use Rattle.std.specs.Arc.{arc_value};
 use spf_id::TrustDomain;
 use std::sync::Arc;
 
-/// A source of bundles, which is lent what its reader has seen of it.
+/// A source of bundles. Each call is lent what the reader has seen of the source.
 pub trait BundleSource {
     type Item;
 
@@ -21,7 +21,7 @@ pub trait BundleSource {
     // domain to a reader that has seen this much of it.
     ghost answers: { Self → Self.Seen → List ℕ → Option Self.Item → Type 0 };
 
-    /// A share of the bundle of that trust domain.
+    /// Returns a share of the bundle of that trust domain.
     fn bundle_for_trust_domain(
         &self,
         seen: &mut Self::Seen,
@@ -33,7 +33,7 @@ pub trait BundleSource {
             (λ o. answers self.now seen.new trust_domain.now (option_map arc_value o)) };
 }
 
-/// A source of the current SVID, which is lent what its reader has seen of it.
+/// A source of the current SVID. Each call is lent what the reader has seen of the source.
 pub trait SvidSource {
     type Item;
 
@@ -46,7 +46,7 @@ pub trait SvidSource {
     // What the source returns for a moment to a reader that has seen this much of it.
     ghost answers: { Self → Self.Seen → Option ℤ → Self.Item → Type 0 };
 
-    /// A share of the SVID that is current at that moment, in Unix seconds.
+    /// Returns a share of the SVID that is current at that moment, in Unix seconds.
     fn svid(&self, seen: &mut Self::Seen, now: Option<i64>) -> Result<Arc<Self::Item>, Self::Error>
         requires { fits self.now seen.old }
         ensures fits { fits self.now seen.new }

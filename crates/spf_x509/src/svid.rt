@@ -97,8 +97,8 @@ fn is_same_hint(a: Option<&str>, b: Option<&str>) -> bool
 }
 
 impl X509Svid {
-    /// The SVID of a chain of concatenated certificates,
-    /// leaf first, and a PKCS#8 key, without a hint.
+    /// Returns the SVID of a chain of concatenated certificates, leaf first, and a PKCS#8 key,
+    /// without a hint.
     pub fn parse_from_der(
         alloc: Global,
         chain: &[u8],
@@ -183,7 +183,8 @@ impl X509Svid {
         Ok(Arc::new(alloc, svid)?)
     }
 
-    /// The SVID of a chain which may have the certificates after its leaf from this one.
+    /// The SVID of a chain, whose certificates after the leaf are copied from this SVID where they
+    /// are the same.
     fn parse_beside(
         &self,
         alloc: Global,
@@ -243,7 +244,7 @@ impl X509Svid {
         }
     }
 
-    /// A copy of the SVID.
+    /// Returns a copy of the SVID.
     pub fn try_clone(&self, alloc: Global) -> Result<X509Svid, OutOfMemory>
         ensures { IfOk result (λ s. s ≡ self.now) }
     {
@@ -260,7 +261,7 @@ impl X509Svid {
         })
     }
 
-    /// Whether this is the SVID of exactly that chain, key and hint. It takes no memory.
+    /// Returns whether this is the SVID of exactly that chain, key and hint. It allocates nothing.
     pub fn is_parsed_from(&self, chain: &[u8], key: &[u8], hint: Option<&str>) -> bool
         ensures { IsTrue result
             ↔ (svid_of chain.now key.now (option_map (λ t. t.now) hint.entry) ≡ Ok self.now) }
@@ -280,7 +281,7 @@ impl X509Svid {
         &self.spiffe_id
     }
 
-    /// The certificates, leaf first. There is at least one.
+    /// Returns the certificates, leaf first. There is at least one.
     pub fn cert_chain(&self) -> &[Certificate]
         ensures chain { result.now ≡ self.now.chain }
         ensures parsed { IsSvid self.now }
@@ -288,7 +289,7 @@ impl X509Svid {
         self.cert_chain.as_slice()
     }
 
-    /// The first certificate of the chain.
+    /// Returns the first certificate of the chain.
     pub fn leaf(&self) -> &Certificate
         ensures { Some result.now ≡ slice_get self.now.chain 0 }
     {
@@ -301,7 +302,7 @@ impl X509Svid {
         &self.private_key
     }
 
-    /// What the identity is meant for, as its operator says.
+    /// Returns what the identity is meant for, as the operator says.
     pub fn hint(&self) -> Option<&str>
         ensures { option_map (λ t. t.now) result ≡ self.now.hint }
     {
@@ -311,7 +312,7 @@ impl X509Svid {
         }
     }
 
-    /// When the leaf expires, in Unix seconds.
+    /// Returns when the leaf expires, in Unix seconds.
     pub fn expiry_unix(&self) -> i64
         ensures { result ≡ self.now.expiry }
     {

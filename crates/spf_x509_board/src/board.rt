@@ -17,7 +17,7 @@ use spf_io::OutOfMemory;
 use std::alloc::Global;
 use std::sync::Wait;
 
-/// A board on which one step is published, and its first pass.
+/// Returns a board on which one step is published, and its first pass.
 pub fn open<R: Wait + Drop>(
     alloc: Global,
     rt: R,
@@ -39,7 +39,7 @@ pub fn open<R: Wait + Drop>(
     ))
 }
 
-/// Reads once more through the pass while the writer is still there, and gives what was
+/// Reads once more through the pass while the writer is still there, and returns what was
 /// published, with its end. From then on the pass has seen just that, and never sees more.
 pub fn settle<R: Wait + Drop>(ended: Ended<R>, pass: &mut Pass) -> Result<Front<X509>, OutOfMemory>
     requires { pass.old.book ≡ ended.book }

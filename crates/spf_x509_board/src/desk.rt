@@ -86,7 +86,7 @@ impl<R: Wait + Drop> Held<R> {
         (Held { writer, scribe, rt }, result)
     }
 
-    // Says whether the end was published.
+    // Publishes the end, and returns whether it was published.
     fn end(self) -> (Held<R>, bool)
         requires { is_ended self.list ≡ false }
         ensures whole { result.1 ≡ is_ended result.0.list }
@@ -142,7 +142,7 @@ impl<R: Wait + Drop> Desk<R> {
         }
     }
 
-    /// What it has published.
+    /// Returns what it has published.
     pub fn front(&self) -> Front<X509>
         ensures same { result ≡ self.now }
         ensures board { IsBoardList Legal self.now.list }
@@ -169,7 +169,7 @@ impl<R: Wait + Drop> Desk<R> {
         result
     }
 
-    /// Publishes the end. Where that finds no memory there is an ended writer too, without an End.
+    /// Publishes the end. Where memory runs out there is an ended writer too, without an End.
     pub fn end(self) -> Ended<R>
         ensures ended { (result ≡ added self entry.End) ⊎ (result ≡ self) }
         ensures book { result.book ≡ self.book }
@@ -239,14 +239,14 @@ impl<R: Wait + Drop> Drop for Ended<R> {
 }
 
 impl<R: Wait + Drop> Ended<R> {
-    /// Whether the end was published.
+    /// Returns whether the end was published.
     pub fn is_whole(&self) -> bool
         ensures { result ≡ is_ended self.now.list }
     {
         self.whole
     }
 
-    /// What it has published.
+    /// Returns what it has published.
     pub fn front(&self) -> Front<X509>
         ensures { result ≡ self.now }
     {

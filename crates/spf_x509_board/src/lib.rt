@@ -7,8 +7,6 @@ mod desk;
 mod kind;
 mod pass;
 mod places;
-#[cfg(test)]
-mod tests;
 
 pub use board::{open, settle};
 pub use desk::{Desk, Ended};

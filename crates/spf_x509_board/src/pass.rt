@@ -21,7 +21,7 @@ use spf_io::OutOfMemory;
 use std::alloc::Global;
 use std::marker::Model;
 
-/// What one reader has seen. It has a place on the board, and may have places for passes to come.
+/// What one reader has seen. It has a place on the board, and may hold places for further passes.
 #[derive(Drop)]
 pub struct Pass {
     // There is one between two calls.
@@ -107,7 +107,7 @@ impl Pass {
         Ok(())
     }
 
-    /// What the pass has seen replays to this, at a source that is closed or not.
+    /// Returns the state that what the pass has seen replays to, of a source that is closed or not.
     pub fn kept_state(&self, closed: bool) -> Result<X509SourceState, OutOfMemory>
         ensures { IfOk result (λ s. IsStateOf self.now.seen closed s) }
     {
@@ -117,8 +117,8 @@ impl Pass {
         }
     }
 
-    /// The state of what is published now, or of what the pass
-    /// has seen where the reader is not let in.
+    /// Returns the state of what is published now, or of what the pass has seen where the reader is
+    /// not let in.
     pub fn state(&mut self, closed: bool) -> Result<X509SourceState, OutOfMemory>
         ensures book { self.new.book ≡ self.old.book }
         ensures seen { IsPrefix self.old.seen self.new.seen }
@@ -132,8 +132,8 @@ impl Pass {
         self.kept_state(closed)
     }
 
-    /// Whether the choice that is published now is usable at the moment. It keeps
-    /// nothing of what it reads, and takes no memory.
+    /// Returns whether the choice that is published now is usable at the moment. It keeps nothing
+    /// of what it reads, and allocates nothing.
     pub fn is_usable(&mut self, now: Option<i64>) -> bool
         ensures book { self.new.book ≡ self.old.book }
         ensures entered { IsPrefix self.old.entered self.new.entered }
@@ -156,7 +156,7 @@ impl Pass {
         self.closed = found;
     }
 
-    /// Who closed the source, where the look that was noted last has found that.
+    /// Returns who closed the source, if the look that was noted last has found that it is closed.
     pub fn closed_by(&self) -> Option<Maker>
         ensures { result ≡ option_map (λ (mark : Held). mark.maker) self.now.closed }
     {
@@ -166,15 +166,15 @@ impl Pass {
         }
     }
 
-    /// What the pass has seen.
+    /// Returns what the pass has seen.
     pub fn seen(&self) -> &Front<X509>
         ensures { (result.now.book ≡ self.now.book) × (result.now.list ≡ self.now.seen) }
     {
         self.memory.seen()
     }
 
-    /// Another pass of the board, which has seen what this one has seen. It knows nothing of the
-    /// closed cell.
+    /// Returns another pass of the board, which has seen what this one has seen. It knows nothing
+    /// of the closed cell.
     pub fn another(&mut self) -> Result<Pass, PlaceFault>
         ensures giver { self.new ≡ self.old }
         ensures pass { IfOk result (λ p. (p.book ≡ self.old.book) × (p.seen ≡ self.old.seen)
@@ -190,8 +190,8 @@ impl Pass {
         }
     }
 
-    /// Gives its places to a giver of the same board, its spare ones only where the
-    /// giver has none. Where that finds no memory, the place ends with this pass.
+    /// Gives its places to a giver of the same board, its spare ones only where the giver has none.
+    /// Where memory runs out, the place ends with this pass.
     pub fn give_back(self, giver: &mut Pass)
         requires { self.book ≡ giver.old.book }
         ensures { giver.new ≡ giver.old }

@@ -1,9 +1,9 @@
-//! What gives places to passes.
+//! What gives passes their places.
 
 use crate::pass::Pass;
 use spf_board::{BoardPlaces, PlaceFault, RefusingPlaces};
 
-/// What gives places on a board to passes.
+/// Gives passes their places on a board.
 pub trait Places {
     ghost use Rattle.std.specs.Prelude.{◌≡◌, ℕ, IfOk};
     ghost use Rattle.spf_board.specs.Places.{CountsRefusals};
@@ -11,14 +11,14 @@ pub trait Places {
     // How many places were refused.
     ghost refusals: { Self → ℕ };
 
-    /// A pass of the giver's board, which has seen what the giver has seen.
+    /// Takes a pass of the giver's board, which has seen what the giver has seen.
     fn take(&mut self, giver: &mut Pass) -> Result<Pass, PlaceFault>
         ensures giver { giver.new ≡ giver.old }
         ensures pass { IfOk result (λ p. (p.book ≡ giver.old.book) × (p.seen ≡ giver.old.seen)) }
         ensures cause { CountsRefusals (refusals self.old) (refusals self.new) result };
 }
 
-/// A place of those that the giver has.
+/// Takes one of the places that the giver has.
 impl Places for BoardPlaces {
     ghost refusals = { λ p. p };
 
@@ -31,7 +31,7 @@ impl Places for BoardPlaces {
     }
 }
 
-/// No place.
+/// Gives no place.
 impl Places for RefusingPlaces {
     ghost refusals = { λ p. p };
 

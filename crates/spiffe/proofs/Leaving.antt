@@ -9,7 +9,7 @@ use Rattle.spf_history.specs.Past.{Past, added}
 use Rattle.spf_history.proofs.Prefixes.{steps_end}
 use Rattle.spiffe.specs.Boards.{numbers_of}
 
--- an End is no step
+-- an End is not a step
 pub same_steps : (new old : Past PlainStep) → (new ≡ added old entry.End) ⊎ (new ≡ old)
     → steps_of new.list ≡ steps_of old.list
 same_steps new old (inl ended) =

@@ -52,13 +52,13 @@ stopped_as (stops.Terminal terminal.InitialSyncTimeout) = errors.InitialSyncTime
 stopped_as (stops.Terminal terminal.Closed) = errors.OutOfMemory
 stopped_as stops.OutOfMemory = errors.OutOfMemory
 
--- the initial synchronisation may stop so
+-- the initial synchronisation may stop with this terminal event
 abbrev pub Stops : {K : Type 0} → (K → List Svid → Option ℕ) → Settings K → Terminal → Type 0
 Stops picks set end =
     StopsOpening picks set.limits set.timeout set.ready set.picker (stops.Terminal end)
 
--- Why an initial synchronisation gives an error: the endpoint is none, or a terminal event came
--- by the connector or the clock before anything was accepted.
+-- Why an initial synchronisation gives an error: the endpoint is invalid, a terminal event came by
+-- the connector or the clock before anything was accepted, or memory ran out.
 abbrev pub SyncFails : {K : Type 0} → (K → List Svid → Option ℕ) → Settings K
     → Result (Unit {0}) EndpointError → X509SourceError → Type 0
 SyncFails picks set valid (errors.Source e) =
@@ -99,7 +99,7 @@ pub record IsAssigned {S K : Type 0} (members : S → Option (List Member))
   pub clock_is : Gives clock clock' [] job.run
 
 -- A source, its first pass, what closes it, and the job of its supervisor: the pass has seen the
--- opening step, and all are of one board and one closed cell.
+-- steps of the initial synchronisation, and all are of one board and one closed cell.
 pub record IsBuilt {S K : Type 0} (picks : K → List Svid → Option ℕ) (source : Source)
     (pass : PassView) (closing : ℕ) (job : Assigned S K) : Type 0 where
   pub pass_board : pass.book ≡ source.board
@@ -111,7 +111,7 @@ pub record IsBuilt {S K : Type 0} (picks : K → List Svid → Option ℕ) (sour
 
 -- ---- by a builder on which nothing was set
 
--- what is left to the supervisor of such a connector, of which nobody knows what it will give
+-- what such a builder leaves to the supervisor, where it is not known what its connector will give
 abbrev pub IsAssignedByDefault : {S K : Type 0} → (S → Type 0) → (K → List Svid → Option ℕ)
     → Option (List (Option ℤ)) → Option (List (Option ℤ)) → Assigned S K → Type 0
 IsAssignedByDefault {S} {K} is_connector picks clock clock' job =

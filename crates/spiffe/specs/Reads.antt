@@ -69,7 +69,8 @@ Gets answer cell old new (Err errors.OutOfMemory) = Unit {0}
 Gets answer cell old new (Err e) = Reads old new (λ view. answer view (Err e))
 Gets answer cell old new (Ok x) = Reads old new (λ view. answer view (Ok x))
 
--- What a try form returns: the value of the getter, and none where the getter has none.
+-- What a `try_` call returns: the value of the getter, and none where the getter returns an error
+-- other than out of memory.
 abbrev pub Tries : {T : Type 0} → (View Material Denial → Result T X509SourceError → Type 0)
     → ℕ → PassView → PassView → Result (Option T) OutOfMemory → Type 0
 Tries answer cell old new (Ok (Some x)) = Gets answer cell old new (Ok x)
@@ -96,7 +97,8 @@ BundleAnswer view domain (Err (errors.Withdrawn reason)) = reason_of view ≡ So
 BundleAnswer view domain (Err errors.OutOfMemory) = Unit {0}
 BundleAnswer view domain (Err _) = ⊥
 
--- the bundle of a trust domain, and none where there is no bundle or nothing is held
+-- the bundle of a trust domain, and none where there is no bundle, or the getter returns an error
+-- other than out of memory
 abbrev pub TriesBundle : List ℕ → ℕ → PassView → PassView
     → Result (Option (Arc Bundle Global)) OutOfMemory → Type 0
 TriesBundle domain cell old new (Ok (Some bundle)) =
@@ -117,7 +119,8 @@ IsHealthy now cell old new healthy =
     × Peeks Legal Replays (λ shown found. found ≡ is_usable shown now)
     (read_of old) (read_of new) healthy)
 
--- No place comes only where the count of refused places rose, and no other error but out of memory.
+-- No place comes only where the count of refused places rose; the only other error is out of
+-- memory.
 abbrev pub HasPlaceCause : {T : Type 0} → ℕ → ℕ → Result T X509SourceError → Type 0
 HasPlaceCause before now (Ok p) = before ≤ now
 HasPlaceCause before now (Err errors.NoPlace) = (before ≤ now) × Rose before now
@@ -151,7 +154,7 @@ pub record Follows (source : Source) (giver : PassView) (updates : Updates) : Ty
   pub seen : IsPrefix giver.seen updates.pass.seen
   pub marked : IsRevision updates.pass updates.marked
 
--- what a source gives to a pass that has read a state
+-- something holds of the view of a state that the pass has read
 abbrev pub OfState : PassView → (View Material Denial → Type 0) → Type 0
 OfState pass holds =
     (state : StateView) × IsStateOf pass.seen state.closed state × holds state.view

@@ -80,8 +80,9 @@ pub record IsRecord {K : Type 0} (picks : K → List Svid → Option ℕ) (r : R
   pub maker : r.closed.maker ≡ makers.Caller
 
 -- A record of what a supervisor was given: its events begin with those of the initial
--- synchronisation and have no moment more, its rules, picker and bounds are those given, the events
--- that are no moments are what the connector had to yield, and its cell was closed.
+-- synchronisation and have no more moments, its rules, picker and bounds are those given, the
+-- events that are not moments are what the connector had to yield, where that is known, and its
+-- cell was closed.
 pub record IsOf {S K : Type 0} (members : S → Option (List Member))
     (picks : K → List Svid → Option ℕ)
     (job : Assigned S K) (r : Recorded K) : Type 0 where

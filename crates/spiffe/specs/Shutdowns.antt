@@ -19,7 +19,7 @@ pub record Handled (J : Type 0) : Type 0 where
   pub cell : ℕ
   pub grace : Option Duration
 
--- the second moment is more than the grace after the first
+-- whether the second moment is more than the grace after the first
 abbrev pub is_late : Duration → ℤ → ℤ → Bool
 is_late grace started ended =
     int_lt (pos 0) (ended -ℤ started)
@@ -43,7 +43,7 @@ ShutsBy grace (Some old) None result = ⊥
 ShutsBy grace (Some old) (Some new) result =
     (new ≡ later (later old)) × (result ≡ shuts grace (next_moment old) (next_moment (later old)))
 
--- the same, where a grace is set
+-- the same where a grace is set; without one, no moment is asked for
 abbrev pub ShutsConfigured : Option Duration → Option (List (Option ℤ)) → Option (List (Option ℤ))
     → Result (Unit {0}) X509SourceError → Type 0
 ShutsConfigured None old new result = (new ≡ old) × (result ≡ Ok tt)

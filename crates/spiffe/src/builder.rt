@@ -48,8 +48,9 @@ impl<P: Drop, C: Drop, M: Drop> fmt::Debug for X509SourceBuilder<P, C, M> {
 }
 
 impl<C: Connector + Drop> X509SourceBuilder<NoPicker, C, NoRecorder> {
-    /// Pauses of 200 ms to 10 s between attempts, the default limits, ready with a usable SVID, a
-    /// shutdown that takes at most 30 s, and no limit of the initial synchronisation.
+    /// Returns a builder with pauses of 200 ms to 10 s between attempts, the default limits, ready
+    /// with a usable SVID, a shutdown that takes at most 30 s, and no limit for the initial
+    /// synchronisation.
     pub fn new(connector: C) -> X509SourceBuilder<NoPicker, C, NoRecorder>
         ensures connector { result.connector ≡ connector }
         ensures settings { IsDefault result.settings }
@@ -77,7 +78,7 @@ impl<P: SvidPicker + Drop, C: Connector + Drop, M: MetricsRecorder + Drop> X509S
 where
     C::Link: Drop,
 {
-    /// Reads of this connector.
+    /// Reads from this connector.
     pub fn client_factory<D: Connector + Drop>(self, factory: D) -> X509SourceBuilder<P, D, M>
         ensures { (result.connector ≡ factory) × (result.settings ≡ self.settings) }
     {
@@ -163,7 +164,7 @@ where
         }
     }
 
-    /// The bounds of the pauses between attempts.
+    /// Sets the bounds of the pauses between attempts.
     pub fn reconnect_backoff(mut self, min: Duration, max: Duration) -> X509SourceBuilder<P, C, M>
         ensures { result ≡ record self {
           settings = record self.settings {
@@ -175,7 +176,7 @@ where
         self
     }
 
-    /// The limits that each update has to keep.
+    /// Sets the limits that each update has to keep.
     pub fn resource_limits(mut self, limits: ResourceLimits) -> X509SourceBuilder<P, C, M>
         ensures { result ≡ record self { settings = record self.settings { limits = limits } } }
     {
@@ -183,7 +184,7 @@ where
         self
     }
 
-    /// When the source is ready: with a usable SVID, or with any update.
+    /// Sets when the source is ready: with a usable SVID, or with any update.
     pub fn ready(mut self, ready: Ready) -> X509SourceBuilder<P, C, M>
         ensures { result ≡ record self { settings = record self.settings { ready = ready } } }
     {
@@ -191,7 +192,7 @@ where
         self
     }
 
-    /// How long [`SupervisorHandle::shutdown_configured`] may take.
+    /// Sets how long [`SupervisorHandle::shutdown_configured`] may take.
     pub fn shutdown_timeout(mut self, timeout: Option<Duration>) -> X509SourceBuilder<P, C, M>
         ensures { result ≡ record self { settings = record self.settings { grace = timeout } } }
     {
@@ -199,7 +200,7 @@ where
         self
     }
 
-    /// How long the initial synchronisation may take.
+    /// Sets how long the initial synchronisation may take.
     pub fn initial_sync_timeout(mut self, timeout: Duration) -> X509SourceBuilder<P, C, M>
         ensures { result ≡ record self {
           settings = record self.settings {
@@ -211,9 +212,9 @@ where
         self
     }
 
-    /// Synchronises, and makes all of a source but what runs its supervisor: the source, its first
-    /// pass, the job of the supervisor, and what is left to make a handle of it. The caller starts
-    /// the job, as on a thread of its own.
+    /// Synchronises, and makes all of a source but a running supervisor: the source, its first
+    /// pass, the job of the supervisor, and what is then needed to make its handle. The caller
+    /// starts the job, for instance on a thread.
     pub fn prepare<T, W, N, R, L>(
         self,
         rt: R,

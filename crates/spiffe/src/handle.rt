@@ -42,7 +42,7 @@ impl PendingHandle {
         PendingHandle { closing, grace }
     }
 
-    /// The handle of the supervisor whose job was started.
+    /// Returns the handle of the supervisor whose job was started.
     pub fn started<J: Job, H: Joins<J> + Drop>(self, handle: H) -> SupervisorHandle<J, H>
         ensures { (result.job ≡ H.job handle) × (result.cell ≡ self.cell)
             × (result.grace ≡ self.grace) }
@@ -76,7 +76,7 @@ impl<J: Job, H: Joins<J> + Drop> Model for SupervisorHandle<J, H> {
 }
 
 impl<J: Job, H: Joins<J> + Drop> SupervisorHandle<J, H> {
-    /// Closes the source, waits for the supervisor, and gives what its job leaves.
+    /// Closes the source, waits for the supervisor, and returns what its job leaves.
     pub fn close_and_join(self) -> J::Done
         ensures { J.may_give self.job result }
     {
@@ -90,7 +90,7 @@ impl<J: Job, H: Joins<J> + Drop> SupervisorHandle<J, H> {
     }
 
     /// Closes the source and waits for the supervisor. It asks the clock right before and right
-    /// after the wait, which may take the grace.
+    /// after the wait, which may take as long as the grace.
     pub fn shutdown_with_timeout<T: Clock>(
         self,
         clock: &mut T,
@@ -110,8 +110,8 @@ impl<J: Job, H: Joins<J> + Drop> SupervisorHandle<J, H> {
         shut(started, ended, grace)
     }
 
-    /// The same with the grace of the builder. Where there is none it asks no clock and never times
-    /// out.
+    /// The same with the grace that the builder set. Where it set none, no clock is asked and
+    /// nothing times out.
     pub fn shutdown_configured<T: Clock>(self, clock: &mut T) -> Result<(), X509SourceError>
         ensures { ShutsConfigured self.grace (T.moments clock.old) (T.moments clock.new) result }
     {
@@ -139,7 +139,7 @@ fn is_late(started: i64, ended: i64, grace: Duration) -> bool
     taken > 0 && taken as u128 * 1_000_000_000 > grace.as_nanos()
 }
 
-/// The answer of a shutdown by its two moments.
+/// The result of a shutdown by its two moments.
 fn shut(started: Option<i64>, ended: Option<i64>, grace: Duration) -> Result<(), X509SourceError>
     ensures { Shuts grace started ended result }
 {
@@ -162,8 +162,8 @@ where
     R: Wait + Drop,
     H: Joins<X509Job<C, K, M, W, N, R>> + Drop,
 {
-    /// Closes the source, waits for the supervisor, and gives its record: what the pass of the same
-    /// source has then seen is exactly the steps of the record, and it never sees more.
+    /// Closes the source, waits for the supervisor, and returns its record: what the pass of the
+    /// same source has then seen is exactly the steps of the record, and it never sees more.
     pub fn join_record(self, pass: &mut Pass) -> Result<Supervised<K>, OutOfMemory>
         requires { pass.old.book ≡ self.job.board }
         ensures record { IfOk result (IsOf C.members K.picks self.job) }

@@ -57,8 +57,8 @@ fn stopped(stop: Stop) -> X509SourceError
     }
 }
 
-/// Validates the connector, lets it and the pause heed the mark, and synchronises. A single wait
-/// takes at most the timeout meanwhile.
+/// Validates the connector, lets it and the pause heed the stop flag, and synchronises. A single
+/// wait takes at most the timeout meanwhile.
 pub(crate) fn synchronised<C, P, M, T, W, N, R>(
     rt: &R,
     alloc: Global,
@@ -130,7 +130,7 @@ where
     }
 }
 
-/// The one step of a publisher, prepared, and once more among the steps.
+/// The one step of a publisher, prepared, and the list of steps with that one.
 fn first_step(
     alloc: Global,
     publisher: &MemPublisher,

@@ -77,7 +77,7 @@ impl<K: SvidPicker + Drop> Supervised<K> {
         }
     }
 
-    /// The events, oldest first.
+    /// Returns the events, oldest first.
     pub fn events(&self) -> &[Event]
         ensures events { result.now ≡ self.now.run }
         ensures kept { IsRecord K.picks self.now }
@@ -85,7 +85,7 @@ impl<K: SvidPicker + Drop> Supervised<K> {
         self.events.as_slice()
     }
 
-    /// The steps that were published, oldest first.
+    /// Returns the steps that were published, oldest first.
     pub fn steps(&self) -> &[Step]
         ensures steps { map plain result.now ≡ self.now.steps }
         ensures kept { IsRecord K.picks self.now }
@@ -93,14 +93,14 @@ impl<K: SvidPicker + Drop> Supervised<K> {
         self.steps.as_slice()
     }
 
-    /// The delays between attempts, oldest first.
+    /// Returns the delays between attempts, oldest first.
     pub fn delays(&self) -> &[Duration]
         ensures { result.now ≡ self.now.pace.delays.items }
     {
         self.pace.delays()
     }
 
-    /// Why the supervisor ended.
+    /// Returns why the supervisor ended.
     pub fn end(&self) -> SupervisorEnd
         ensures { result ≡ SupervisorEnd.Closed }
     {

@@ -29,8 +29,8 @@ impl<P: SvidPicker + Drop, C: Connector + Drop, M: MetricsRecorder + Drop> X509S
 where
     C::Link: Drop,
 {
-    /// Reads of the endpoint that a text names, as `unix:///run/agent.sock`. The text is parsed
-    /// when the source is built.
+    /// Reads from the endpoint that a text names, such as `unix:///run/agent.sock`. The text is
+    /// parsed when the source is built.
     pub fn endpoint<N: Net<Stream = TcpStream> + Drop>(
         self,
         net: N,
@@ -48,7 +48,7 @@ where
 }
 
 impl X509Source {
-    /// A builder over a connector, on which nothing is set.
+    /// Returns a builder over a connector, on which nothing is set.
     pub fn builder<C: Connector + Drop>(connector: C) -> X509SourceBuilder<NoPicker, C, NoRecorder>
         ensures connector { result.connector ≡ connector }
         ensures settings { IsDefault result.settings }
@@ -56,7 +56,8 @@ impl X509Source {
         X509SourceBuilder::new(connector)
     }
 
-    /// A source of the endpoint that the environment names, by a builder on which nothing is set.
+    /// Returns a source of the endpoint that the environment names, by a builder on which nothing
+    /// is set.
     pub fn new<N, E, T, W, G, R, S, L>(
         rt: R,
         net: N,

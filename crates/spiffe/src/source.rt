@@ -25,7 +25,7 @@ use std::marker::Model;
 use std::sync::Arc;
 
 /// A handle of a source. What it gives is read through a pass of its board, without a lock. When
-/// the last handle is let go, the source is closed.
+/// the last handle is dropped, the source is closed.
 #[derive(Drop)]
 pub struct X509Source {
     front: Front<X509>,
@@ -53,8 +53,8 @@ impl fmt::Debug for X509Source {
 }
 
 impl X509Source {
-    /// A source over a board that its caller publishes on, and the cell that the closer closes. The
-    /// bell is rung at each change. `X509SourceBuilder` makes all of this.
+    /// Returns a source over a board that its caller publishes on, and the cell that the closer
+    /// closes. The bell is rung at each change. `X509SourceBuilder` makes all of this.
     pub fn over(
         alloc: Global,
         front: Front<X509>,
@@ -76,7 +76,7 @@ impl X509Source {
         })
     }
 
-    /// The state that is published now, read through the pass.
+    /// Returns the state that is published now, read through the pass.
     pub fn state(&self, pass: &mut Pass) -> Result<X509SourceState, OutOfMemory>
         requires { pass.old.book ≡ self.now.board }
         ensures state { IfOk result (λ s. IsStateOf pass.new.seen s.closed s) }
@@ -88,7 +88,7 @@ impl X509Source {
         pass.state(closed)
     }
 
-    /// The context that is held. Closed comes first.
+    /// Returns the context that is held. Whether the source is closed is looked at first.
     pub fn x509_context(&self, pass: &mut Pass) -> Result<Arc<X509Context>, X509SourceError>
         requires { pass.old.book ≡ self.now.board }
         ensures gets { Gets ContextAnswer self.now.cell pass.old pass.new result }
@@ -99,7 +99,8 @@ impl X509Source {
         state.context()
     }
 
-    /// The chosen SVID, where its expiry is above the moment. Closed comes first.
+    /// Returns the chosen SVID, where its expiry is above the moment. Whether the source is closed
+    /// is looked at first.
     pub fn svid(&self, pass: &mut Pass, now: Option<i64>) -> Result<Arc<X509Svid>, X509SourceError>
         requires { pass.old.book ≡ self.now.board }
         ensures gets { Gets (λ view. SvidAnswer view now) self.now.cell pass.old pass.new
@@ -111,7 +112,7 @@ impl X509Source {
         state.svid(now)
     }
 
-    /// The bundles of the held context. Closed comes first.
+    /// Returns the bundles of the held context. Whether the source is closed is looked at first.
     pub fn bundle_set(&self, pass: &mut Pass) -> Result<Arc<X509BundleSet>, X509SourceError>
         requires { pass.old.book ≡ self.now.board }
         ensures gets { Gets BundlesAnswer self.now.cell pass.old pass.new result }
@@ -121,7 +122,8 @@ impl X509Source {
         Ok(Arc::try_clone(context.bundle_set())?)
     }
 
-    /// A share of the bundle of the trust domain in the held context. Closed comes first.
+    /// A share of the bundle of the trust domain in the held context. Whether the source is closed
+    /// is looked at first.
     fn bundle_of(
         &self,
         pass: &mut Pass,
@@ -136,7 +138,7 @@ impl X509Source {
         Ok(context.bundle_set().get(trust_domain)?)
     }
 
-    /// What [`X509Source::svid`] returns, None where there is none.
+    /// Returns what [`X509Source::svid`] returns, None where there is none.
     pub fn try_svid(
         &self,
         pass: &mut Pass,
@@ -154,7 +156,7 @@ impl X509Source {
         }
     }
 
-    /// The bundle of the trust domain in the held context, None where there is none.
+    /// Returns the bundle of the trust domain in the held context, None where there is none.
     pub fn try_bundle_for_trust_domain(
         &self,
         pass: &mut Pass,
@@ -171,8 +173,8 @@ impl X509Source {
         }
     }
 
-    /// Whether the choice is usable at the moment. A closed source is not healthy. It takes no
-    /// memory, and the pass keeps nothing of what it reads.
+    /// Returns whether the choice is usable at the moment. A closed source is not healthy. It
+    /// allocates nothing, and the pass keeps nothing of what it reads.
     pub fn is_healthy(&self, pass: &mut Pass, now: Option<i64>) -> bool
         requires { pass.old.book ≡ self.now.board }
         ensures healthy { IsHealthy now self.now.cell pass.old pass.new result }
@@ -184,7 +186,7 @@ impl X509Source {
         pass.is_usable(now)
     }
 
-    /// Another pass of the source, which has seen what the giver has seen.
+    /// Returns another pass of the source, which has seen what the giver has seen.
     pub fn another_pass<H: Places>(
         &self,
         giver: &mut Pass,
@@ -228,7 +230,7 @@ impl X509Source {
         self.closing.close();
     }
 
-    /// Another handle of the same source. It takes no place.
+    /// Returns another handle of the same source. It takes no place.
     pub fn try_clone(&mut self) -> Result<X509Source, OutOfMemory>
         ensures unchanged { self.new ≡ self.old }
         ensures same { IfOk result (λ s. s ≡ self.old) }
@@ -250,11 +252,12 @@ impl BundleSource for X509Source {
 
     type Seen = Pass;
 
-    ghost use Rattle.std.specs.Prelude.{◌≡◌, IfSome};
-    ghost use Rattle.std.specs.Option.{option_and_then};
+    ghost use Rattle.std.specs.Prelude.{◌≡◌, IfOk, IfSome};
+    ghost use Rattle.std.specs.Arc.{arc_value};
+    ghost use Rattle.std.specs.Option.{option_and_then, option_map};
     ghost use Rattle.spf_x509.specs.Bundle.{find_entry};
     ghost use Rattle.spf_feed.specs.Steps.{held_in};
-    ghost use Rattle.spiffe.specs.Reads.{OfState};
+    ghost use Rattle.spiffe.specs.Reads.{BundleAnswer, Gets, OfState, SeesNoLess};
 
     ghost fits = { λ source pass. pass.book ≡ source.board };
 
@@ -265,7 +268,16 @@ impl BundleSource for X509Source {
         &self,
         seen: &mut Pass,
         trust_domain: &TrustDomain,
-    ) -> Result<Option<Arc<X509Bundle>>, X509SourceError> {
+    ) -> Result<Option<Arc<X509Bundle>>, X509SourceError>
+        requires { seen.old.book ≡ self.now.board }
+        ensures fits { seen.new.book ≡ self.now.board }
+        ensures answer { IfOk result (λ o. OfState seen.new (λ view. option_and_then
+            (λ m. find_entry trust_domain.now m.context.bundles) (held_in view)
+            ≡ option_map arc_value o)) }
+        ensures gets { Gets (λ view. BundleAnswer view trust_domain.now) self.now.cell seen.old
+            seen.new result }
+        ensures pass { SeesNoLess seen.old seen.new }
+    {
         self.bundle_of(seen, trust_domain)
     }
 }
@@ -277,18 +289,27 @@ impl SvidSource for X509Source {
 
     type Seen = Pass;
 
-    ghost use Rattle.std.specs.Prelude.{◌≡◌, Some};
+    ghost use Rattle.std.specs.Prelude.{◌≡◌, IfOk, Some};
+    ghost use Rattle.std.specs.Arc.{arc_value};
     ghost use Rattle.std.specs.Option.{option_and_then};
     ghost use Rattle.spf_feed.specs.Pick.{usable};
+    ghost use Rattle.spf_feed.specs.States.{SvidAnswer};
     ghost use Rattle.spf_feed.specs.Steps.{chosen_of, held_in};
-    ghost use Rattle.spiffe.specs.Reads.{OfState};
+    ghost use Rattle.spiffe.specs.Reads.{Gets, OfState, SeesNoLess};
 
     ghost fits = { λ source pass. pass.book ≡ source.board };
 
     ghost answers = { λ _ pass now svid. OfState pass (λ view.
         usable (option_and_then chosen_of (held_in view)) now ≡ Some svid) };
 
-    fn svid(&self, seen: &mut Pass, now: Option<i64>) -> Result<Arc<X509Svid>, X509SourceError> {
+    fn svid(&self, seen: &mut Pass, now: Option<i64>) -> Result<Arc<X509Svid>, X509SourceError>
+        requires { seen.old.book ≡ self.now.board }
+        ensures fits { seen.new.book ≡ self.now.board }
+        ensures answer { IfOk result (λ a. OfState seen.new (λ view.
+            usable (option_and_then chosen_of (held_in view)) now ≡ Some (arc_value a))) }
+        ensures gets { Gets (λ view. SvidAnswer view now) self.now.cell seen.old seen.new result }
+        ensures pass { SeesNoLess seen.old seen.new }
+    {
         X509Source::svid(self, seen, now)
     }
 }

@@ -16,8 +16,8 @@ use std::snapshot::Snapshot;
 use std::sync::Wait;
 use std::thread::Promise;
 
-/// What a supervisor is given, its connector aside. Contracts alone see it. It is a promise of what
-/// a thread leaves that runs the job.
+/// What a supervisor is given, its connector aside. Contracts alone see it. It is a promise about
+/// what a thread that runs the job leaves.
 #[derive(Drop)]
 pub struct Task<K: SvidPicker + Drop> {
     front: Snapshot<Front<X509>>,
@@ -53,7 +53,7 @@ where
     N: Rng + Drop,
     R: Wait + Drop,
 {
-    /// What it is given, its connector aside.
+    /// Returns what it is given, its connector aside.
     pub fn task(&self) -> Task<K>
         ensures { result ≡ task_of self.now }
     {

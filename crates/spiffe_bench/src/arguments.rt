@@ -5,9 +5,9 @@ use spf_program::number_up_to;
 /// What the arguments ask for.
 #[derive(Clone, Copy, Debug, PartialEq, Eq)]
 pub(crate) enum Command {
-    /// How long one of so many reads of each thread takes.
+    /// Measure how long one of this many reads of each thread takes.
     Reads { threads: u64, reads: u64 },
-    /// Threads that check what they read while so many rounds are published.
+    /// Let threads check what they read while this many rounds are published.
     Storm { threads: u64, rounds: u64 },
 }
 

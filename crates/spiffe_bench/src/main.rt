@@ -22,7 +22,7 @@ use std::thread::Threads;
 use std::time::Clock;
 use storm::storm;
 
-/// The text that wrong arguments get.
+/// The text that is printed for wrong arguments.
 const HELP: &str = "\
 spiffe_bench - reads of a live source by several threads
 

@@ -37,7 +37,7 @@ fn start_reader<R: Threads + Wait + Clock + Copy + Drop + Send + 'static>(
     }
 }
 
-/// Starts as many threads that read.
+/// Starts that many threads that read.
 fn start_readers<R: Threads + Wait + Clock + Copy + Drop + Send + 'static>(
     rt: R,
     alloc: Global,
@@ -93,7 +93,7 @@ fn name_of(call: Call) -> &'static str {
     }
 }
 
-/// Measures one call, while nothing or without pause something is published.
+/// Measures one call, while nothing is published, or while something is published without pause.
 fn measure<R: Threads + Wait + Clock + Copy + Drop + Send + 'static, K: Sink>(
     rt: R,
     alloc: Global,

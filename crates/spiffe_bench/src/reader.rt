@@ -26,7 +26,7 @@ pub(crate) struct Reader {
     pub(crate) ghost same: { pass.book ≡ source.board },
 }
 
-/// Reads once, and says whether that gave something.
+/// Reads once, and returns whether that gave something.
 fn read(source: &X509Source, pass: &mut Pass, call: Call) -> bool
     requires { pass.old.book ≡ source.now.board }
     ensures { pass.new.book ≡ pass.old.book }

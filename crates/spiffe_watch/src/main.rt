@@ -2,28 +2,15 @@
 //! identity and which trust bundles a workload then holds.
 #![tactic(auto)]
 
-mod arguments;
-mod bench;
-mod exit_reason;
-mod generated;
-mod generated_source;
-mod ghost_bytes;
 mod help;
-mod no_publisher;
-mod output;
-mod tally;
-mod template;
-mod watch;
 
-use exit_reason::{ExitReason, report};
 use help::{HELP, VERSION};
-use output::put;
 use spf_io::{Sink, StdSink, StdSource};
 use spf_program::program_arguments;
+use spf_watch::{ExitReason, put, report, watch};
 use std::alloc::Global;
 use std::io::BufReader;
 use std::process::ExitCode;
-pub use watch::watch;
 
 /// How many bytes of standard input are read at once.
 const INPUT_BUFFER: usize = 1 << 16;
@@ -63,6 +50,3 @@ fn put_text<K: Sink>(out: &mut K, text: &str) -> Result<u8, ExitReason> {
     put(out, text.as_bytes())?;
     Ok(0)
 }
-
-#[cfg(test)]
-mod tests;

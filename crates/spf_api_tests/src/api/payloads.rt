@@ -144,7 +144,8 @@ const PAYLOADS: &[(&str, ResponseKind, &[u8], &str)] = &[
     ),
 ];
 
-/// Each kind of response; a further octet and a name that is no UTF-8 lay out nothing.
+/// Each kind of response; with one more octet, or with a name that is not UTF-8, a payload lays out
+/// nothing.
 #[test]
 fn further_payloads(rt: HostRuntime) -> Result<(), Fail> {
     let alloc = rt.alloc();
@@ -154,8 +155,8 @@ fn further_payloads(rt: HostRuntime) -> Result<(), Fail> {
     Ok(())
 }
 
-/// The payload of a validation with one claim, whose value is
-/// null in so many lists, each the one member of the next.
+/// The payload of a validation with one claim, whose value is null within this many lists, each the
+/// only member of the next.
 fn nested_payload(alloc: Global, lists: usize) -> Result<Vec<u8>, Fail> {
     let mut payload = Vec::new(alloc);
     payload.extend_from_slice(b"\0\0\0\x01a\x01\0\0\0\x01\0\0\0\x01a")?;
@@ -172,7 +173,7 @@ fn nested_laid_out(alloc: Global, lists: usize) -> Result<&'static str, Fail> {
     laid_out(alloc, ResponseKind::Validation, payload.as_slice())
 }
 
-/// A validation with one claim, whose value is null in so many lists.
+/// A validation with one claim, whose value is null within this many lists.
 fn nested(alloc: Global, lists: usize) -> Result<Response, Fail> {
     let mut value = ClaimValue::Null;
     for _ in 0..lists {

@@ -11,7 +11,7 @@ use spf_x509::{X509BundleSet, X509Context, X509Svid, X509SvidError};
 use std::alloc::Global;
 use std::test::Fail;
 
-/// The missing field, or the kind of another answer.
+/// The field that is missing, or the kind of any other result.
 fn refusal<T>(answer: &Result<T, WorkloadApiError>) -> &str {
     match answer {
         Err(WorkloadApiError::MissingRequiredField { field }) => field.as_str(),
@@ -21,14 +21,14 @@ fn refusal<T>(answer: &Result<T, WorkloadApiError>) -> &str {
     }
 }
 
-/// Whether the answer is that refusal.
+/// Whether the result is that error.
 fn is_refused<T: Drop>(answer: Result<T, WorkloadApiError>, wanted: &str) -> bool {
     let found = refusal(&answer) == wanted;
     drop(answer);
     found
 }
 
-/// Whether both calls succeed, with the same result.
+/// Returns whether both calls succeed, with the same result.
 pub fn both<T: PartialEq + Drop, E: Drop>(left: Result<T, E>, right: Result<T, E>) -> bool {
     match (left, right) {
         (Ok(left), Ok(right)) => left == right,
@@ -43,7 +43,7 @@ enum Asked {
     Svids,
 }
 
-/// Whether the answer to the response of those SVID entries is that refusal.
+/// Whether the response of those SVID entries is refused with that error.
 fn refuses(alloc: Global, asked: Asked, svids: &[SvidRow<'_>], wanted: &str) -> Result<bool, Fail> {
     let response = context(alloc, svids, &[])?;
     match asked {
@@ -130,7 +130,8 @@ fn holds(
     }
 }
 
-/// What a context holds: so many SVIDs and bundles, and of a trust domain that authority or none.
+/// What a context holds: this many SVIDs and bundles, and for a trust domain that authority or
+/// none.
 #[derive(Clone, Copy)]
 struct Held<'a> {
     svids: usize,
@@ -221,7 +222,7 @@ fn is_first(svid: X509Svid, hint: Option<&str>) -> bool {
     same
 }
 
-/// Whether both calls succeed, and the one is all that there is.
+/// Whether both calls succeed, and the one value is all that there is.
 fn is_all<T: PartialEq + Drop, E: Drop>(all: Result<Vec<T>, E>, one: Result<T, E>) -> bool {
     match (all, one) {
         (Ok(all), Ok(one)) => match all.as_slice() {

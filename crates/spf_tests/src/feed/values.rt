@@ -213,7 +213,7 @@ fn state_of(alloc: Global, is_denied: bool, is_closed: bool) -> Result<X509Sourc
     Ok(snapshot.state(alloc, is_closed)?)
 }
 
-/// Whether the state, denied or not and closed or not, is shown so.
+/// Whether the state, denied or not and closed or not, is shown like this.
 fn is_state(
     alloc: Global,
     is_denied: bool,

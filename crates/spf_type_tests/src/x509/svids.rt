@@ -21,13 +21,13 @@ fn is_id(alloc: Global, der: &[u8], text: &str) -> bool {
     }
 }
 
-/// The same of a certificate that is spelled by name.
+/// The same of a certificate that is given by name.
 fn has_id(alloc: Global, name: &str, text: &str) -> Result<bool, Fail> {
     let der = octets(alloc, name)?;
     Ok(is_id(alloc, der.as_slice(), text))
 }
 
-/// Whether octets that are spelled by name are refused as a certificate with that error.
+/// Whether octets that are given by name are refused as a certificate with that error.
 fn is_no_certificate(alloc: Global, text: &str, error: &str) -> Result<bool, Fail> {
     let der = octets(alloc, text)?;
     match Certificate::try_from(alloc, der.as_slice()) {
@@ -129,7 +129,7 @@ fn is_answered(alloc: Global, chain: &[u8], key: &[u8], answer: &str) -> bool {
     }
 }
 
-/// The same of octets that are spelled by name.
+/// The same of octets that are given by name.
 fn answers(alloc: Global, chain: &str, key: &str, answer: &str) -> Result<bool, Fail> {
     let chain = octets(alloc, chain)?;
     let key = octets(alloc, key)?;

@@ -11,9 +11,9 @@ use Rattle.spf_proto.proofs.following.follow_lent.Goals as goal
 pub returns-clause-cause : goal.returns-clause-cause
 returns-clause-cause g c =
     causes_of g.T.LentSource.loan g.T.LentSource.left g.T.LentSource.failures g.N.Origin.begin _
-    c.result_of-result.new.self c.follow_x509-followed.result c.of-end.result
+    c.result_of-result.new.self c.follow_x509_sharing-followed.result c.of-end.result
     c.result_of-result.result _ _ c.into_source.result c.into_source.ensures.knows
-    c.of-end.ensures c.result_of-result.ensures c.follow_x509-followed.ensures.cause
+    c.of-end.ensures c.result_of-result.ensures c.follow_x509_sharing-followed.ensures.cause
     c.into_source.ensures.source
 
 pub returns-clause-refused : goal.returns-clause-refused
@@ -38,7 +38,7 @@ returns-clause-followed g c =
     (sym max) in
     followed_since rules g.N.Origin.begin _ _ _ c.result_of-result.result begin
     (followed_body g.T.LentSource.loan g.T.LentSource.left g.T.LentSource.failures g.N.Origin.begin
-    c.result_of-result.new.self rules c.args.seconds _ _ c.follow_x509-followed.result
+    c.result_of-result.new.self rules c.args.seconds _ _ c.follow_x509_sharing-followed.result
     c.of-end.result c.result_of-result.result c.into_source.ensures.knows start c.requires.small
-    few due frames c.follow_x509-followed.ensures.followed c.of-end.ensures
+    few due frames c.follow_x509_sharing-followed.ensures.followed c.of-end.ensures
     c.result_of-result.ensures)

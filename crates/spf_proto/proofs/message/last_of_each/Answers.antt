@@ -1,4 +1,4 @@
-use Rattle.spf_proto.proofs.Latest.{kept_with}
+use Rattle.spf_proto.proofs.LastOfEach.{kept_with}
 use Rattle.spf_proto.proofs.message.last_of_each.Goals as goal
 
 pub loop-entry-preserved : goal.loop-entry-preserved

@@ -1,4 +1,4 @@
-use Rattle.spf_proto.proofs.Latest.{Kept}
+use Rattle.spf_proto.proofs.LastOfEach.{Kept}
 use Rattle.spf_proto.proofs.message.last_of_each.Given as goal
 
 abbrev pub invariant-loop-entry : goal.invariant-loop-entry

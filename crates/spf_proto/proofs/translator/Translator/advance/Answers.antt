@@ -18,6 +18,7 @@ invariant_of-self-in-Ok-Whole g c =
           g.N.Origin.begin _ c.args.self.now c.take_message-taken.new.source
           c.take_message-taken.new.got.items c.self.view_is i.5 c.requires.going
           c.requires.unended taken.came taken.loan taken.cause.later taken.sized,
+      i.6,
     )
 
 pub invariant_of-self-in-Err : goal.invariant_of-self-in-Err
@@ -33,6 +34,7 @@ invariant_of-self-in-Err g c =
           g.N.Origin.begin _ c.args.self.now c.take_message-taken.new.source
           c.take_message-taken.new.got.items c.self.view_is i.5 c.requires.going
           c.requires.unended taken.came taken.loan taken.cause.later taken.sized,
+      i.6,
     )
 
 pub returns-in-Ok-End-clause-at_end : goal.returns-in-Ok-End-clause-at_end
@@ -41,7 +43,7 @@ returns-in-Ok-End-clause-at_end g c =
     × IsAtEnd (g.T.LentSource.left c.take_message-taken.new.source) = search rules in
     let t : Translating g.row.T.Denot = record {
       source = c.take_message-taken.new.source;
-      ready = drop c.self.inside.at c.self.inside.frames.items;
+      ready = drop c.self.inside.at c.self.inside.latest.frames.items;
       got = c.take_message-taken.new.got.items;
       allowed = c.self.inside.allowed;
       standing = standing c.self.inside.position;

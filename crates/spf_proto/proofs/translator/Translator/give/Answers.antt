@@ -5,7 +5,7 @@ use Rattle.spf_proto.proofs.translator.Translator.give.Goals as goal
 
 pub returns-clause-given : goal.returns-clause-given
 returns-clause-given g c =
-    let xs = c.self.inside.frames.items in
+    let xs = c.self.inside.latest.frames.items in
     let at = c.self.inside.at in
     let n = c.min-n.result in
     let rest = drop n c.args.buf.now in

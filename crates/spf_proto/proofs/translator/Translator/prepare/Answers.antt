@@ -4,7 +4,7 @@ use Rattle.spf_proto.proofs.translator.Translator.prepare.Goals as goal
 
 pub returns-then-self-len-clause-ready : goal.returns-then-self-len-clause-ready
 returns-then-self-len-clause-ready g c =
-    let xs = c.self.inside.frames.items in
+    let xs = c.self.inside.latest.frames.items in
     let at = c.self.inside.at in
     let view = ap (λ r. r.ready) (sym c.self.view_is) in
     λ none. let none_left : length (drop at xs) ≡ 0 = ap length (sym view ∙ none) in
@@ -12,7 +12,7 @@ returns-then-self-len-clause-ready g c =
 
 pub returns-then-self-len-clause-at_end : goal.returns-then-self-len-clause-at_end
 returns-then-self-len-clause-at_end g c =
-    let xs = c.self.inside.frames.items in
+    let xs = c.self.inside.latest.frames.items in
     let at = c.self.inside.at in
     let view = ap (λ r. r.ready) (sym c.self.view_is) in
     λ none. let none_left : length (drop at xs) ≡ 0 = ap length (sym view ∙ none) in

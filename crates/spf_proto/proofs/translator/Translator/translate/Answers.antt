@@ -1,12 +1,11 @@
-use Rattle.std.proofs.Common.{◌∙◌, ap, drop, refl, arith}
-use Rattle.std.proofs.lemmas.List.{take_rest}
+use Rattle.std.proofs.Common.{refl, arith}
 use Rattle.spf_proto.proofs.TranslatorLemmas.{after_translating, left_translating}
 use Rattle.spf_proto.proofs.TranslatorLemmas.{ready_translating}
 use Rattle.spf_proto.proofs.translator.Translator.translate.Goals as goal
 
 pub invariant_of-self : goal.invariant_of-self
 invariant_of-self g c =
-    let made = rw c.in-Ok.is at c.translate-made.ensures in
+    let made = rw c.in-Ok.is at c.translate-made.ensures.made in
     let i = c.self.invariant in (
       omega arith,
       i.1,
@@ -14,24 +13,25 @@ invariant_of-self g c =
       i.3,
       i.4,
       after_translating g.T.LentSource.loan g.T.LentSource.left g.T.LentSource.failures
-          g.N.Origin.begin _ c.args.self.now _ _ _ _ _ c.translate-made.new.frames.items
+          g.N.Origin.begin _ c.args.self.now _ _ _ _ _ c.translate-made.new.latest.frames.items
           c.clear.new.self.items c.self.view_is i.5 c.requires.going c.requires.whole
           c.requires.allowed
-          (take_rest c.deref.result.now 5 ∙ ap (drop 5) c.deref.ensures.value)
+          refl
           made c.clear.ensures.items,
+      c.translate-made.ensures.latest,
     )
 
 pub returns-in-Ok-clause-left : goal.returns-in-Ok-clause-left
 returns-in-Ok-clause-left g c =
-    let made = rw c.in-Ok.is at c.translate-made.ensures in
+    let made = rw c.in-Ok.is at c.translate-made.ensures.made in
     let i = c.self.invariant in
     left_translating g.T.LentSource.left g.N.Origin.begin _ c.args.self.now _ _ _ _ _
-    c.translate-made.new.frames.items c.clear.new.self.items c.self.view_is refl i.3 i.4
+    c.translate-made.new.latest.frames.items c.clear.new.self.items c.self.view_is refl i.3 i.4
     c.requires.ready c.requires.whole c.requires.allowed
-    (take_rest c.deref.result.now 5 ∙ ap (drop 5) c.deref.ensures.value)
+    refl
     made c.clear.ensures.items
 
 pub returns-in-Ok-clause-ready : goal.returns-in-Ok-clause-ready
 returns-in-Ok-clause-ready g c =
-    let made = rw c.in-Ok.is at c.translate-made.ensures in
-    ready_translating _ _ _ _ _ c.translate-made.new.frames.items made
+    let made = rw c.in-Ok.is at c.translate-made.ensures.made in
+    ready_translating _ _ _ _ _ c.translate-made.new.latest.frames.items made

@@ -1,0 +1,106 @@
+//! The last message that was translated, and what it was translated to.
+
+ghost use Rattle.std.specs.Prelude.{◌≡◌, ◌≤◌, length, drop, None, Some, IfSome, OnErr, IsTrue};
+ghost use Rattle.std.specs.Option.{ForSome, option_map};
+ghost use Rattle.spf_feed.specs.Items.{rules_with};
+ghost use Rattle.spf_proto.specs.Translating.{IsMadeOrStopped};
+ghost use Rattle.spf_proto.specs.Latest.{IsLatest, IsAgain};
+
+use crate::taking::Stop;
+use crate::translating::{Acceptance, Position, frames_of};
+use spf_feed::SvidPicker;
+use spf_x509::X509Context;
+use std::alloc::Global;
+use std::mem;
+
+/// The last message that was translated, with the five octets before it.
+#[derive(Drop)]
+pub(crate) struct Latest {
+    pub(crate) message: Vec<u8>,
+    /// Where the session stood before and after it. None where the frames are those of no message.
+    pub(crate) stood: Option<(Position, Position)>,
+    /// The last context that was read.
+    pub(crate) held: Option<X509Context>,
+    pub(crate) payload: Vec<u8>,
+    pub(crate) frames: Vec<u8>,
+}
+
+impl Latest {
+    /// No message, where these frames stand.
+    pub(crate) fn none(alloc: Global, frames: Vec<u8>) -> Latest
+        ensures frames { result.frames ≡ frames }
+        ensures stood { result.stood ≡ None }
+    {
+        Latest {
+            message: Vec::new(alloc),
+            stood: None,
+            held: None,
+            payload: Vec::new(alloc),
+            frames,
+        }
+    }
+
+    /// Where the session stands after the message, if it repeats the last one at the same place.
+    fn after(&self, position: Position, message: &[u8]) -> Option<Position>
+        ensures { IfSome result (IsAgain self.now position message.now) }
+    {
+        match self.stood {
+            Some((before, after)) => {
+                if before == position && self.message.as_slice() == message {
+                    Some(after)
+                } else {
+                    None
+                }
+            }
+            None => None,
+        }
+    }
+}
+
+/// Translates a message, with the five octets before it, and returns where the session stands after
+/// it. Its frames take the place of those before, unless it is the last message again.
+pub(crate) fn translate<C: SvidPicker>(
+    alloc: Global,
+    acceptance: Acceptance,
+    picker: Option<&C>,
+    position: Position,
+    message: &mut Vec<u8>,
+    latest: &mut Latest,
+) -> Result<Position, Stop>
+    requires picker { ForSome picker (λ p. C.can_pick p.now) }
+    requires head { 5 ≤ length message.old.items }
+    requires latest { IsLatest
+        (rules_with acceptance.limits None acceptance.ready
+        (option_map (λ p. C.picks p.now) picker)) acceptance.start latest.old }
+    ensures latest { IsLatest
+        (rules_with acceptance.limits None acceptance.ready
+        (option_map (λ p. C.picks p.now) picker.entry)) acceptance.start latest.new }
+    ensures made { IsMadeOrStopped
+        (rules_with acceptance.limits None acceptance.ready
+        (option_map (λ p. C.picks p.now) picker.entry)) acceptance.start position
+        (drop 5 message.old.items) latest.new.frames.items result }
+    ensures kept { OnErr result (message.new ≡ message.old) }
+{
+    if let Some(after) = latest.after(position, message.as_slice()) {
+        return Ok(after);
+    }
+    latest.stood = None;
+    match frames_of(
+        alloc,
+        acceptance,
+        picker,
+        position,
+        &message[5..],
+        &mut latest.held,
+        &mut latest.payload,
+        &mut latest.frames,
+    ) {
+        Ok(Some(after)) => {
+            mem::swap(message, &mut latest.message);
+            latest.stood = Some((position, after));
+            Ok(after)
+        }
+        Ok(None) => Err(Stop::BadMessage),
+        Err(_) => Err(Stop::OutOfMemory),
+    }
+}

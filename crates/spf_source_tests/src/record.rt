@@ -1,0 +1,81 @@
+//! The record of a supervisor that runs where it is joined.
+
+ghost use Rattle.std.specs.Prelude.{◌≡◌};
+
+use crate::building::{FixedClock, NoPause};
+use spf_feed::{NoPicker, NoRecorder, Step};
+use spf_job::{Held, InlineSpawner, StepWords};
+use spf_link::MemConnector;
+use spf_responses::{connector, good_link};
+use spf_x509_board::{BoardPlaces, Pass};
+use spiffe::{Supervised, SupervisorEnd, SupervisorHandle, X509Job, X509Source};
+use std::alloc::Global;
+use std::sync::Wait;
+use std::test::Fail;
+
+/// What a record shows: how many events and steps, whether the first step accepts, and its end.
+#[derive(Clone, Copy, Debug, PartialEq, Eq)]
+struct Shown {
+    events: usize,
+    steps: usize,
+    accepts: bool,
+    is_closed: bool,
+}
+
+fn summary(record: &Supervised<NoPicker>) -> Shown {
+    Shown {
+        events: record.events().len(),
+        steps: record.steps().len(),
+        accepts: matches!(record.steps().first(), Some(Step::Accept { .. })),
+        is_closed: record.end() == SupervisorEnd::Closed,
+    }
+}
+
+type InlineJob<R> = X509Job<MemConnector, NoPicker, NoRecorder, NoPause, StepWords, R>;
+
+type Handle<R> = SupervisorHandle<InlineJob<R>, Held<InlineJob<R>>>;
+
+/// What the record of a supervisor shows, which this closes and runs.
+fn recorded<R: Wait + Copy + Drop>(handle: Handle<R>, pass: Pass) -> Option<Shown>
+    requires { pass.book ≡ handle.job.board }
+{
+    let mut pass = pass;
+    match handle.close_and_join().into_record(&mut pass) {
+        Ok(record) => Some(summary(&record)),
+        Err(_) => None,
+    }
+}
+
+/// What the record of a supervisor shows whose source is of this connector.
+fn recorded_of<R: Wait + Copy + Drop>(
+    rt: R,
+    alloc: Global,
+    connector: MemConnector,
+) -> Option<Shown> {
+    match X509Source::builder(connector).build(
+        rt,
+        alloc,
+        &mut FixedClock,
+        NoPause,
+        StepWords::new(0),
+        &mut InlineSpawner,
+        &mut BoardPlaces::new(),
+    ) {
+        Ok((_source, pass, handle)) => recorded(handle, pass),
+        Err(_) => None,
+    }
+}
+
+/// The row inline-record. The events are the moment, the client, the start and the item.
+#[test]
+fn inline_record(rt: HostRuntime) -> Result<(), Fail> {
+    let connector = connector(rt.alloc(), good_link(rt.alloc())?)?;
+    let wanted = Shown {
+        events: 4,
+        steps: 1,
+        accepts: true,
+        is_closed: true,
+    };
+    assert!(rt; recorded_of(rt, rt.alloc(), connector) == Some(wanted));
+    Ok(())
+}
