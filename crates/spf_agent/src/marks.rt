@@ -12,8 +12,8 @@ pub const TURNS: u64 = 10_000;
 /// Two marks that threads share.
 #[derive(Drop)]
 pub struct Marks {
-    /// What the test waits for has come, and waits for the test.
-    pub told: StopFlag,
+    /// The other side is where the test waits for it, and waits in turn.
+    pub reached: StopFlag,
     /// The test lets it go on.
     pub go: StopFlag,
 }
@@ -22,7 +22,7 @@ impl Marks {
     /// Marks that are not set.
     pub fn new(alloc: Global) -> Result<Marks, OutOfMemory> {
         Ok(Marks {
-            told: StopFlag::new(alloc)?,
+            reached: StopFlag::new(alloc)?,
             go: StopFlag::new(alloc)?,
         })
     }
@@ -30,14 +30,14 @@ impl Marks {
     /// The same marks.
     pub fn try_clone(&self) -> Result<Marks, OutOfMemory> {
         Ok(Marks {
-            told: self.told.try_clone()?,
+            reached: self.reached.try_clone()?,
             go: self.go.try_clone()?,
         })
     }
 
-    /// Tells the test, and waits for it. It says whether the test let it go on.
+    /// Says that it is there, and waits. It returns whether the test let it go on.
     pub fn hold(&self, host: HostRuntime) -> bool {
-        self.told.set();
+        self.reached.set();
         is_set_soon(host, &self.go)
     }
 }

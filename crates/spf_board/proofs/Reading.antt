@@ -7,7 +7,8 @@ use Rattle.spf_history.specs.Lists.{steps_of, IsBoardList}
 use Rattle.spf_history.specs.Past.{Past}
 use Rattle.spf_history.proofs.Prefixes.{begins_self, begins_trans, ended_stays}
 use Rattle.spf_board.specs.declared.rule.Place.{Place}
-use Rattle.spf_board.specs.Passes.{Rose, remembered, passed, KeepsAll, Finds, Renews, Peeks}
+use Rattle.spf_io.specs.Outside.{Rose}
+use Rattle.spf_board.specs.Passes.{remembered, passed, KeepsAll, Finds, Renews, Peeks}
 
 either_way : {missed : ℕ} → Dec (2 ^ 64 - 1 ≤ missed) → Rose missed (min (missed + 1) (2 ^ 64 - 1))
 either_way (yes full) = inr (omega arith)

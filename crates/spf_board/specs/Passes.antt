@@ -2,14 +2,11 @@
 use Rattle.std.specs.Prelude.{◌≡◌, ℕ, ◌+◌, ◌-◌, ◌^◌, ◌<◌, ◌⊎◌, true, List}
 use mathlib.Core.List.{IsPrefix}
 use Rattle.logbook.specs.Pages.{Book}
+use Rattle.spf_io.specs.Outside.{Rose}
 use Rattle.spf_history.specs.declared.entry.Entry.{Entry}
 use Rattle.spf_history.specs.Lists.{steps_of, is_ended, IsBoardList}
 use Rattle.spf_history.specs.Past.{Past}
 use Rattle.spf_board.specs.declared.rule.Place.{Place}
-
--- a count of misses rose, or it stands at the end of its type
-abbrev pub Rose : ℕ → ℕ → Type 0
-Rose before now = (before < now) ⊎ (now ≡ 2 ^ 64 - 1)
 
 -- what a pass remembers
 pub record Remembered (S : Type 0) : Type 0 where

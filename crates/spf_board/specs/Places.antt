@@ -1,6 +1,6 @@
 -- Why a place is refused.
 use Rattle.std.specs.Prelude.{◌≡◌, ℕ, ◌≤◌, Result, Err}
-use Rattle.spf_board.specs.Passes.{Rose}
+use Rattle.spf_io.specs.Outside.{Rose}
 use Rattle.spf_board.specs.declared.places.PlaceFault.{PlaceFault}
 use Rattle.spf_board.specs.declared.places.PlaceFault.TheVariants as fault
 

@@ -5,7 +5,8 @@ ghost use mathlib.Core.List.{IsPrefix};
 ghost use Rattle.left_right.specs.Sides.{view};
 ghost use Rattle.spf_history.specs.Lists.{IsBoardList};
 ghost use Rattle.spf_board.specs.Board.{IsBoundTo};
-ghost use Rattle.spf_board.specs.Passes.{Rose, Finds};
+ghost use Rattle.spf_io.specs.Outside.{Rose};
+ghost use Rattle.spf_board.specs.Passes.{Finds};
 
 use crate::kind::{Look, Replay};
 use crate::posted::Posted;

@@ -1,7 +1,7 @@
 //! What gives or refuses places to passes, and counts the refusals.
 
 ghost use Rattle.std.specs.Prelude.{◌≡◌, ◌≤◌};
-ghost use Rattle.spf_board.specs.Passes.{Rose};
+ghost use Rattle.spf_io.specs.Outside.{Rose};
 ghost use Rattle.spf_board.specs.declared.places.PlaceFault.TheVariants as fault;
 
 use std::marker::Model;

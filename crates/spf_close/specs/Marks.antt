@@ -3,9 +3,9 @@ use Rattle.std.specs.Prelude.{ℕ}
 use Rattle.spf_close.specs.declared.maker.Maker.{Maker}
 
 -- the cell of this name, and a maker of marks
-pub record Held : Type 0 where
+pub record Mark : Type 0 where
   pub cell : ℕ
   pub maker : Maker
 
-abbrev pub held : ℕ → Maker → Held
-held cell maker = record { cell = cell; maker = maker }
+abbrev pub mark_by : ℕ → Maker → Mark
+mark_by cell maker = record { cell = cell; maker = maker }

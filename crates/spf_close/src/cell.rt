@@ -42,11 +42,11 @@ impl Model for Closer {
     ghost use Rattle.std.specs.Prelude.{◌≡◌, IfSome};
     ghost use Rattle.std.specs.Arc.{arc_value};
     ghost use Rattle.once_cell.specs.Once.{cell_name};
-    ghost use Rattle.spf_close.specs.Marks.{Held, held};
+    ghost use Rattle.spf_close.specs.Marks.{Mark, mark_by};
 
-    ghost Value = { Held };
+    ghost Value = { Mark };
 
-    ghost view = { λ s. held (cell_name (arc_value s.cell)) s.maker };
+    ghost view = { λ s. mark_by (cell_name (arc_value s.cell)) s.maker };
 
     ghost invariant = { λ s. IfSome s.memory (λ b. b.value.maker ≡ s.maker) };
 }
@@ -61,11 +61,11 @@ pub struct Closed {
 
 impl Model for Closed {
     ghost use Rattle.std.specs.Prelude.{◌≡◌, Some};
-    ghost use Rattle.spf_close.specs.Marks.{Held, held};
+    ghost use Rattle.spf_close.specs.Marks.{Mark, mark_by};
 
-    ghost Value = { Held };
+    ghost Value = { Mark };
 
-    ghost view = { λ s. held s.note.cell s.maker };
+    ghost view = { λ s. mark_by s.note.cell s.maker };
 
     ghost invariant = { λ s. s.note.known ≡ Some (record { maker = s.maker }) };
 }

@@ -190,14 +190,14 @@ pub fn extension<'a>(bytes: &'a [u8]) -> Option<(ExtensionView<'a>, &'a [u8])>
     Some((ExtensionView { oid, contents }, rest))
 }
 
-/// For how many extensions of a certificate room is allocated at once.
-const ROOM: usize = 8;
+/// How many extensions of a certificate are allocated for at first.
+const INITIAL_CAPACITY: usize = 8;
 
 /// The extensions whose concatenation the text is.
 fn extensions<'a>(alloc: Global, text: &'a [u8]) -> Result<Vec<ExtensionView<'a>>, CertReadError>
     ensures { Gives is_memory (λ v. map plain v.items) result (extensions_rule text.now) }
 {
-    let mut found = Vec::with_capacity(alloc, text.len().min(ROOM))?;
+    let mut found = Vec::with_capacity(alloc, text.len().min(INITIAL_CAPACITY))?;
     let mut rest = text;
     while !rest.is_empty() {
         let Some((extension, after)) = extension(rest) else {

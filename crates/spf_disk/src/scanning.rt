@@ -21,7 +21,7 @@ use crate::slot::Slot;
 use std::alloc::Global;
 
 /// How many octets are read at once.
-const PIECE: usize = 512;
+const CHUNK: usize = 512;
 
 /// All bytes of a file. Memory grows with what is read.
 fn file_bytes<D: Disk>(alloc: Global, disk: &mut D, file: HelperFile) -> Result<Vec<u8>, OpenError>
@@ -31,7 +31,7 @@ fn file_bytes<D: Disk>(alloc: Global, disk: &mut D, file: HelperFile) -> Result<
     ensures cause { FaultHasCause (D.failures disk.old) (D.failures disk.new) result }
 {
     let mut bytes = Vec::new(alloc);
-    let mut piece = [0; PIECE];
+    let mut piece = [0; CHUNK];
     loop {
         let count = disk.read(file, bytes.len() as u64, &mut piece)?;
         if count == 0 {

@@ -2,7 +2,7 @@
 use Rattle.std.proofs.Common.{◌≡◌, ℕ, ◌≤◌, true, false, Result, Ok, Err, refl, subst}
 use Rattle.std.specs.Prelude.{IfErr}
 use Rattle.spf_feed.specs.declared.follow_error.FollowError.{FollowError}
-use Rattle.spf_feed.specs.declared.follow_error.FollowError.TheVariants as answers
+use Rattle.spf_feed.specs.declared.follow_error.FollowError.TheVariants as follow_errors
 use Rattle.spf_feed.specs.Following.{is_failure, FailureCounts, FailuresHaveCauses}
 
 -- a result that is not a fault is not this fault
@@ -26,6 +26,6 @@ no_failure old new (Ok n) calm reads writes = record {
 no_failure old new (Err e) calm reads writes = record {
   reads_later = reads;
   writes_later = writes;
-  read = λ p. absurd (not_this answers.ReadFault e (Err e) refl calm refl p);
-  write = λ p. absurd (not_this answers.WriteFault e (Err e) refl calm refl p);
+  read = λ p. absurd (not_this follow_errors.ReadFault e (Err e) refl calm refl p);
+  write = λ p. absurd (not_this follow_errors.WriteFault e (Err e) refl calm refl p);
 }

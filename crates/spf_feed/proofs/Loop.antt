@@ -22,7 +22,7 @@ use Rattle.spf_view.proofs.SessionLemmas.{length-onto}
 use Rattle.spf_view.proofs.KeepingLemmas.{at_start, synced_at, moment_at, outcome_at, revision_at}
 use Rattle.spf_view.proofs.KeepingLemmas.{view_at, waiting_at, at_more}
 use Rattle.spf_feed.specs.declared.follow_error.FollowError.{FollowError}
-use Rattle.spf_feed.specs.declared.follow_error.FollowError.TheVariants as answers
+use Rattle.spf_feed.specs.declared.follow_error.FollowError.TheVariants as follow_errors
 use Rattle.spf_frame.specs.declared.error.FrameError.{FrameError}
 use Rattle.spf_frame.specs.declared.error.FrameError.TheVariants as errors
 use Rattle.spf_feed.specs.declared.phase.Phase.{Phase}
@@ -80,7 +80,7 @@ loop_begins rules max_frames old line is = record {
 -- ---- the exits before an event
 
 whole_end : (b : Bool) (n : ℕ)
-    → end_for (cond b (Ok n) (Err answers.NeverSynced)) ≡ cond b (Whole n) NeverSynced
+    → end_for (cond b (Ok n) (Err follow_errors.NeverSynced)) ≡ cond b (Whole n) NeverSynced
 whole_end true n = refl
 whole_end false n = refl
 
@@ -89,7 +89,7 @@ pub exit_end : (rules : Rules) (max_frames : ℕ) (old cur new : Ports PlainStep
     (line : LineView) (r : Result ℕ FollowError)
     → LoopAt rules max_frames old cur count kept moment phase line → OnlyRead cur new
     → Consumes cur.left new.left [] → IsAtEnd cur.left
-    → r ≡ cond (is_some kept) (Ok count) (Err answers.NeverSynced)
+    → r ≡ cond (is_some kept) (Ok count) (Err follow_errors.NeverSynced)
     → Followed (stream rules) (outputs rules) max_frames old new (end_for r)
 exit_end rules max_frames old cur new count kept moment phase line r at same took end is =
     followed_end (stream rules) (outputs rules) max_frames old cur new at.past count (end_for r)

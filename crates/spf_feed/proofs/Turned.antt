@@ -11,7 +11,7 @@ use Rattle.spf_view.specs.Standing.{Kept, is_change}
 use Rattle.spf_view.specs.Keeping.{IsAt, SeenAs}
 use Rattle.spf_view.proofs.KeepingLemmas.{synced_at, outcome_at, waiting_at, view_at, update_seen}
 use Rattle.spf_feed.specs.declared.follow_error.FollowError.{FollowError}
-use Rattle.spf_feed.specs.declared.follow_error.FollowError.TheVariants as answers
+use Rattle.spf_feed.specs.declared.follow_error.FollowError.TheVariants as follow_errors
 use Rattle.spf_feed.specs.declared.following.Change.TheVariants as change
 use Rattle.spf_feed.specs.declared.record.MetricsRecord.{MetricsRecord}
 use Rattle.spf_feed.specs.declared.record.MetricsRecord.TheVariants as records
@@ -140,10 +140,10 @@ went o rules past now e old new b (turns.Accepted context choice) at h taken =
     through rules past e old new b (Accepted m) h.1 h.0
     (subst (λ l. WentThrough (Some (Accept m rules.limits)) l old new b)
     (update_at o rules past now old.kept m at) taken.1)
-went o rules past now e old new b (turns.Denied reason told) at h taken =
+went o rules past now e old new b (turns.Denied reason records) at h taken =
     through rules past e old new b (Denied reason) h.1 h.0
     (subst (λ l. WentThrough (Some (Deny reason)) l old new b) h.2 taken.1)
-went o rules past now e old new b (turns.Passed told) at h taken =
+went o rules past now e old new b (turns.Passed records) at h taken =
     through rules past e old new b Passed h.1 h.0
     (subst (λ l. WentThrough None l old new b) h.2 taken.1)
 
@@ -159,12 +159,12 @@ pub record IsRefused (rules : Rules) (past : List Event) (e : Event) (old new : 
 pub record IsStopped (rules : Rules) (past : List Event) (e : Event) (old new : TurnState)
     (x : FollowError) : Type 0 where
   pub none : (stream rules).refusal past e ≡ None
-  pub answer : x ≡ answers.OutOfMemory
+  pub answer : x ≡ follow_errors.OutOfMemory
   pub short : StoppedShort (step_after rules past e) ((outputs rules).records past e) old new
 
 stopped : (rules : Rules) (past : List Event) (e : Event) (old new : TurnState) (x : FollowError)
     (becomes : Outcome Material Denial) → outcome (subject rules) e past ≡ becomes
-    → (stream rules).refusal past e ≡ None → x ≡ answers.OutOfMemory
+    → (stream rules).refusal past e ≡ None → x ≡ follow_errors.OutOfMemory
     → StoppedShort (step_in rules.limits becomes) (records_by_outcome rules past e becomes) old new
     → IsStopped rules past e old new x
 unfolding records_by_outcome
@@ -197,9 +197,9 @@ ended_by o rules past now e old new x (turns.Accepted context choice) at h taken
     inr (stopped rules past e old new x (Accepted m) h.1 h.0 taken.0
     (subst (λ l. StoppedShort (Some (Accept m rules.limits)) l old new)
     (update_at o rules past now old.kept m at) taken.1))
-ended_by o rules past now e old new x (turns.Denied reason told) at h taken =
+ended_by o rules past now e old new x (turns.Denied reason records) at h taken =
     inr (stopped rules past e old new x (Denied reason) h.1 h.0 taken.0
     (subst (λ l. StoppedShort (Some (Deny reason)) l old new) h.2 taken.1))
-ended_by o rules past now e old new x (turns.Passed told) at h taken =
+ended_by o rules past now e old new x (turns.Passed records) at h taken =
     inr (stopped rules past e old new x Passed h.1 h.0 taken.0
     (subst (λ l. StoppedShort None l old new) h.2 taken.1))

@@ -9,7 +9,7 @@ use Rattle.spf_view.specs.Standing.{Kept, is_change}
 use Rattle.spf_view.specs.Keeping.{kept_with_any}
 use Rattle.spf_view.specs.Sessions.{IsFrame, NoFrameAt, Grows, GrowsUpTo, Ports, Followed}
 use Rattle.spf_feed.specs.declared.follow_error.FollowError.{FollowError}
-use Rattle.spf_feed.specs.declared.follow_error.FollowError.TheVariants as answers
+use Rattle.spf_feed.specs.declared.follow_error.FollowError.TheVariants as follow_errors
 use Rattle.spf_frame.specs.declared.error.FrameError.{FrameError}
 use Rattle.spf_frame.specs.declared.error.FrameError.TheVariants as errors
 use Rattle.spf_feed.specs.declared.following.Change.{Change}
@@ -33,15 +33,15 @@ use Rattle.spf_feed.specs.Turns.{listed}
 
 -- the error that an event ends a session with
 abbrev pub answer_to : Terminal → FollowError
-answer_to (ends.Source e) = answers.Source e
-answer_to (ends.UnsupportedRpc e) = answers.UnsupportedRpc e
-answer_to ends.InitialSyncTimeout = answers.InitialSyncTimeout
-answer_to ends.Closed = answers.Closed
+answer_to (ends.Source e) = follow_errors.Source e
+answer_to (ends.UnsupportedRpc e) = follow_errors.UnsupportedRpc e
+answer_to ends.InitialSyncTimeout = follow_errors.InitialSyncTimeout
+answer_to ends.Closed = follow_errors.Closed
 
 -- whether an error is a fault of the source or the sink
 abbrev pub is_failure : FollowError → Bool
-is_failure answers.ReadFault = true
-is_failure answers.WriteFault = true
+is_failure follow_errors.ReadFault = true
+is_failure follow_errors.WriteFault = true
 is_failure _ = false
 
 -- how many reads and writes failed so far
@@ -53,8 +53,8 @@ pub record FailureCounts : Type 0 where
 pub record FailuresHaveCauses (old new : FailureCounts) (r : Result ℕ FollowError) : Type 0 where
   pub reads_later : old.reads ≤ new.reads
   pub writes_later : old.writes ≤ new.writes
-  pub read : r ≡ Err answers.ReadFault → Rose old.reads new.reads
-  pub write : r ≡ Err answers.WriteFault → Rose old.writes new.writes
+  pub read : r ≡ Err follow_errors.ReadFault → Rose old.reads new.reads
+  pub write : r ≡ Err follow_errors.WriteFault → Rose old.writes new.writes
 
 -- ---- reading an event
 
@@ -75,10 +75,10 @@ IsEventUnread rules past = Unread ((stream rules).allows past) (NoFrameAt (strea
 
 -- the error that a session ends with, where no event was read after `count` of them
 abbrev pub error_at : ℕ → FrameError → FollowError
-error_at count errors.TooLong = answers.SessionTooLong
-error_at count errors.BadFrame = answers.BadFrame (count + 1)
-error_at count errors.ReadFault = answers.ReadFault
-error_at count errors.OutOfMemory = answers.OutOfMemory
+error_at count errors.TooLong = follow_errors.SessionTooLong
+error_at count errors.BadFrame = follow_errors.BadFrame (count + 1)
+error_at count errors.ReadFault = follow_errors.ReadFault
+error_at count errors.OutOfMemory = follow_errors.OutOfMemory
 
 abbrev pub EventRead : Rules → List Event → Bool → Option (List ℕ) → Option (List ℕ)
     → Result (Option Received) FrameError → Type 0
@@ -156,7 +156,7 @@ IsTaken step records old new (Err e) = StoppedShort step records old new
 
 -- an error says that memory ran out
 abbrev pub IsMemory : {T : Type 0} → Result T FollowError → Type 0
-IsMemory r = IfErr r (λ e. e ≡ answers.OutOfMemory)
+IsMemory r = IfErr r (λ e. e ≡ follow_errors.OutOfMemory)
 
 -- an accepted context with its choice and limits is taken,
 -- and an update is recorded where something else is visible

@@ -20,7 +20,7 @@ use Rattle.spf_view.specs.Sessions.{TooLong, BadFrame, Refused as SessionRefused
 use Rattle.spf_feed.specs.declared.event.SessionEvent.{SessionEvent}
 use Rattle.spf_feed.specs.declared.event.SessionEvent.TheVariants as events
 use Rattle.spf_feed.specs.declared.follow_error.FollowError.{FollowError}
-use Rattle.spf_feed.specs.declared.follow_error.FollowError.TheVariants as answers
+use Rattle.spf_feed.specs.declared.follow_error.FollowError.TheVariants as follow_errors
 use Rattle.spf_feed.specs.declared.phase.Phase.{Phase}
 use Rattle.spf_feed.specs.declared.phase.Phase.TheVariants as phases
 use Rattle.spf_feed.specs.declared.limits.LimitBroken.{LimitBroken}
@@ -185,13 +185,13 @@ outputs rules = record {
 -- how a result of `follow_x509` ends a session
 abbrev pub end_for : Result ℕ FollowError → End Terminal
 end_for (Ok count) = Whole count
-end_for (Err answers.OutOfMemory) = OutOfMemory
-end_for (Err answers.ReadFault) = ReadFault
-end_for (Err answers.WriteFault) = WriteFault
-end_for (Err answers.SessionTooLong) = TooLong
-end_for (Err (answers.BadFrame frame)) = BadFrame frame
-end_for (Err (answers.Source e)) = SessionRefused (terminal.Source e)
-end_for (Err (answers.UnsupportedRpc e)) = SessionRefused (terminal.UnsupportedRpc e)
-end_for (Err answers.InitialSyncTimeout) = SessionRefused terminal.InitialSyncTimeout
-end_for (Err answers.Closed) = SessionRefused terminal.Closed
-end_for (Err answers.NeverSynced) = NeverSynced
+end_for (Err follow_errors.OutOfMemory) = OutOfMemory
+end_for (Err follow_errors.ReadFault) = ReadFault
+end_for (Err follow_errors.WriteFault) = WriteFault
+end_for (Err follow_errors.SessionTooLong) = TooLong
+end_for (Err (follow_errors.BadFrame frame)) = BadFrame frame
+end_for (Err (follow_errors.Source e)) = SessionRefused (terminal.Source e)
+end_for (Err (follow_errors.UnsupportedRpc e)) = SessionRefused (terminal.UnsupportedRpc e)
+end_for (Err follow_errors.InitialSyncTimeout) = SessionRefused terminal.InitialSyncTimeout
+end_for (Err follow_errors.Closed) = SessionRefused terminal.Closed
+end_for (Err follow_errors.NeverSynced) = NeverSynced

@@ -10,7 +10,7 @@ ghost use Rattle.spf_feed.specs.Records.{RecordAppends, AppendsOnce};
 ghost use Rattle.spf_feed.specs.Steps.{plain, is_accept, HasStep, MayFollow, same_material};
 ghost use Rattle.spf_feed.specs.Turns.{MayTake, listed};
 ghost use Rattle.spf_feed.specs.Items.{Event as SessionOf, context_in, Rules, rules_with};
-ghost use Rattle.spf_feed.specs.declared.follow_error.FollowError.TheVariants as answers;
+ghost use Rattle.spf_feed.specs.declared.follow_error.FollowError.TheVariants as follow_errors;
 ghost use Rattle.spf_frame.specs.declared.error.FrameError.TheVariants as errors;
 ghost use Rattle.spf_feed.specs.Received.{received_moment, received_close};
 ghost use Rattle.spf_feed.specs.Run.{ask_of, stream, outputs, end_for};
@@ -336,7 +336,8 @@ fn take<P: Publisher, M: MetricsRecorder>(
 /// The result at the end of the input.
 fn at_end(snapshot: &Option<Snapshot>, count: u64) -> Result<u64, FollowError>
     ensures calm { IfErr result (λ e. is_failure e ≡ false) }
-    ensures answer { result ≡ (if is_some snapshot.now then Ok count else Err answers.NeverSynced) }
+    ensures answer { result
+        ≡ (if is_some snapshot.now then Ok count else Err follow_errors.NeverSynced) }
 {
     match snapshot {
         Some(_) => Ok(count),

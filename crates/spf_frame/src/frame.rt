@@ -16,7 +16,7 @@ use std::alloc::Global;
 const MAX_PAYLOAD: u32 = 1 << 24;
 
 /// How many octets a buffer is made for before any of a payload has come.
-const PIECE: usize = 1 << 16;
+const CHUNK: usize = 1 << 16;
 
 /// A frame with its payload unread.
 #[derive(Debug, Drop)]
@@ -69,7 +69,7 @@ fn read_length<S: Source>(source: &mut S) -> Result<u32, FrameError>
 }
 
 /// A payload of this length, in place of what the buffer held. The buffer grows with what came: at
-/// most to twice the octets that were read, or to [`PIECE`].
+/// most to twice the octets that were read, or to [`CHUNK`].
 fn read_octets<S: Source>(
     source: &mut S,
     payload: &mut Vec<u8>,
@@ -83,7 +83,7 @@ fn read_octets<S: Source>(
     payload.truncate(total);
     let mut filled = 0;
     while filled < total {
-        let end = total.min(payload.len().max(PIECE).max(2 * filled));
+        let end = total.min(payload.len().max(CHUNK).max(2 * filled));
         match payload.resize(end, 0) {
             Ok(()) => {}
             Err(_) => return Err(FrameError::OutOfMemory),

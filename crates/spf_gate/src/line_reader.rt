@@ -19,7 +19,7 @@ use std::alloc::Global;
 const MAX_LINE: usize = 4096;
 
 /// How many bytes are read at once.
-const PIECE: usize = 4096;
+const CHUNK: usize = 4096;
 
 /// Where the first line of the bytes ends.
 #[derive(Clone, Copy, Debug, PartialEq, Eq)]
@@ -133,7 +133,7 @@ fn line_text(octets: &[u8], number: u64) -> Result<&str, GateError>
 /// many there may be.
 #[derive(Debug, Drop)]
 pub(crate) struct LineReader {
-    piece: [u8; PIECE],
+    piece: [u8; CHUNK],
     octets: Vec<u8>,
     number: u64,
     max: u64,
@@ -146,7 +146,7 @@ impl LineReader {
         ensures max { result.max ≡ max }
     {
         LineReader {
-            piece: [0; PIECE],
+            piece: [0; CHUNK],
             octets: Vec::new(alloc),
             number: 0,
             max,

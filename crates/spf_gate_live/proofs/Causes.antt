@@ -3,7 +3,6 @@ use Rattle.std.proofs.Common.{◌≡◌, refl, sym, subst, ℕ, Bool, true, fals
 use Rattle.std.proofs.Common.{Result, Ok, Err}
 use Rattle.std.specs.Prelude.{IfErr}
 use Rattle.spf_api.specs.declared.endpoint_error.EndpointError.{EndpointError}
-use Rattle.spf_board.specs.Passes.{Rose as Refused}
 use Rattle.spf_io.specs.Outside.{Rose}
 use Rattle.spf_link.specs.Connecting.{Member}
 use Rattle.spf_x509.specs.Svid.{Svid}
@@ -61,7 +60,7 @@ served_fails picks valid supervisor place reads reads' writes writes' served rec
 prepared_by : {K : Type 0} (picks : K → List Svid → Option ℕ) (set : Settings K)
     (valid : Result (Unit {0}) EndpointError) (before now : ℕ)
     (supervisor place input output : Type 0) (e : X509SourceError) → IsDefault set
-    → (Refused before now → place) → PrepareFails picks set valid before now e
+    → (Rose before now → place) → PrepareFails picks set valid before now e
     → FailsBy picks valid supervisor place input output (error_of e)
 prepared_by picks set valid before now supervisor place input output (source.Source e) is f why =
     (e, (set, is, why))
@@ -90,7 +89,7 @@ prepared_by picks set valid before now supervisor place input output (source.Shu
 pub prepare_fails : {K : Type 0} (picks : K → List Svid → Option ℕ) (set : Settings K)
     (valid found : Result (Unit {0}) EndpointError) (before now : ℕ)
     (supervisor place input output : Type 0) (e : X509SourceError) (error : LiveGateError)
-    → found ≡ valid → error ≡ error_of e → IsDefault set → (Refused before now → place)
+    → found ≡ valid → error ≡ error_of e → IsDefault set → (Rose before now → place)
     → PrepareFails picks set found before now e
     → FailsBy picks valid supervisor place input output error
 prepare_fails picks set valid found before now supervisor place input output e error valid_is

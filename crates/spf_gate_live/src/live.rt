@@ -1,7 +1,6 @@
 //! Asks that are answered from a source of their own.
 
 ghost use Rattle.std.specs.Prelude.{◌≡◌, ◌≢◌, ◌↔◌, length};
-ghost use Rattle.spf_board.specs.Passes.{Rose as Refused};
 ghost use Rattle.spf_io.specs.Outside.{Rose};
 ghost use Rattle.spf_program.specs.Streams.{side};
 ghost use Rattle.spf_gate_live.specs.Runs.{Ended};
@@ -60,7 +59,7 @@ where
     // the status and the line on `errors` say why.
     ensures ended { Ended (C.members connector) (⟦<NoPicker as SvidPicker>⟧.picks)
         (C.validates connector) (Rose (S.refusals spawner.old) (S.refusals spawner.new))
-        (Refused (L.refusals places.old) (L.refusals places.new))
+        (Rose (L.refusals places.old) (L.refusals places.new))
         (Rose (I.failures input.old) (I.failures input.new))
         (Rose (K.failures out.old) (K.failures out.new))
         (I.left input.old) (I.left input.new) (K.held out.old) (K.held out.new)

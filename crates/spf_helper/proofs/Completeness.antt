@@ -13,7 +13,7 @@ use Rattle.spf_view.specs.Sessions.{Stream, IsSession, Whole, end_by, end_of, is
 use Rattle.spf_view.specs.Sessions.{IsEndOf, closed_of, refusal_of, onto, all_of}
 use Rattle.spf_view.proofs.SessionLemmas.{reading_same, frame_same}
 use Rattle.spf_feed.specs.declared.follow_error.FollowError.{FollowError}
-use Rattle.spf_feed.specs.declared.follow_error.FollowError.TheVariants as answers
+use Rattle.spf_feed.specs.declared.follow_error.FollowError.TheVariants as follow_errors
 use Rattle.spf_feed.specs.declared.limits.ResourceLimits.{ResourceLimits}
 use Rattle.spf_feed.specs.Items.{Event, Rules, subject}
 use Rattle.spf_feed.specs.Run.{stream, outputs, end_for}
@@ -106,38 +106,38 @@ freely : (e : FollowError) (reads reads' writes writes' : ℕ)
     → HasCauses reads reads' writes writes' (Err (errors.Follow e)) → (Rose reads reads' → ⊥)
     → (Rose writes writes' → ⊥) → IsTrue (is_free (end_for (Err e)))
     → status_of_end (Err (errors.Follow e)) ≡ 2
-freely answers.OutOfMemory reads reads' writes writes' causes calm quiet free =
+freely follow_errors.OutOfMemory reads reads' writes writes' causes calm quiet free =
     refl
-freely answers.ReadFault reads reads' writes writes' causes calm quiet free =
+freely follow_errors.ReadFault reads reads' writes writes' causes calm quiet free =
     absurd (calm (causes.read refl))
-freely answers.WriteFault reads reads' writes writes' causes calm quiet free =
+freely follow_errors.WriteFault reads reads' writes writes' causes calm quiet free =
     absurd (quiet (causes.write refl))
-freely answers.SessionTooLong reads reads' writes writes' causes calm quiet free =
+freely follow_errors.SessionTooLong reads reads' writes writes' causes calm quiet free =
     absurd cc
-freely (answers.BadFrame frame) reads reads' writes writes' causes calm quiet free =
+freely (follow_errors.BadFrame frame) reads reads' writes writes' causes calm quiet free =
     absurd cc
-freely (answers.Source e) reads reads' writes writes' causes calm quiet free =
+freely (follow_errors.Source e) reads reads' writes writes' causes calm quiet free =
     absurd cc
-freely (answers.UnsupportedRpc e) reads reads' writes writes' causes calm quiet free =
+freely (follow_errors.UnsupportedRpc e) reads reads' writes writes' causes calm quiet free =
     absurd cc
-freely answers.InitialSyncTimeout reads reads' writes writes' causes calm quiet free =
+freely follow_errors.InitialSyncTimeout reads reads' writes writes' causes calm quiet free =
     absurd cc
-freely answers.Closed reads reads' writes writes' causes calm quiet free =
+freely follow_errors.Closed reads reads' writes writes' causes calm quiet free =
     absurd cc
-freely answers.NeverSynced reads reads' writes writes' causes calm quiet free =
+freely follow_errors.NeverSynced reads reads' writes writes' causes calm quiet free =
     absurd cc
 
 never_whole : (e : FollowError) (count : ℕ) → end_for (Err e) ≡ Whole count → ⊥
-never_whole answers.OutOfMemory count is = absurd cc
-never_whole answers.ReadFault count is = absurd cc
-never_whole answers.WriteFault count is = absurd cc
-never_whole answers.SessionTooLong count is = absurd cc
-never_whole (answers.BadFrame frame) count is = absurd cc
-never_whole (answers.Source e) count is = absurd cc
-never_whole (answers.UnsupportedRpc e) count is = absurd cc
-never_whole answers.InitialSyncTimeout count is = absurd cc
-never_whole answers.Closed count is = absurd cc
-never_whole answers.NeverSynced count is = absurd cc
+never_whole follow_errors.OutOfMemory count is = absurd cc
+never_whole follow_errors.ReadFault count is = absurd cc
+never_whole follow_errors.WriteFault count is = absurd cc
+never_whole follow_errors.SessionTooLong count is = absurd cc
+never_whole (follow_errors.BadFrame frame) count is = absurd cc
+never_whole (follow_errors.Source e) count is = absurd cc
+never_whole (follow_errors.UnsupportedRpc e) count is = absurd cc
+never_whole follow_errors.InitialSyncTimeout count is = absurd cc
+never_whole follow_errors.Closed count is = absurd cc
+never_whole follow_errors.NeverSynced count is = absurd cc
 
 by_error : (limits : ResourceLimits) (max : ℕ) (bytes : List ℕ) (left' held held' : Option (List ℕ))
     (steps : List PlainStep) (e : FollowError) (reads reads' writes writes' : ℕ)

@@ -8,6 +8,7 @@ use Rattle.std.proofs.lemmas.List.{take_all, take-append-le}
 use Rattle.std.specs.Prelude.{OnOk, OnErr}
 use Rattle.std.specs.Bool.{OnFalse, OnTrue}
 use Rattle.spf_io.specs.Outside.{Rose}
+use Rattle.spf_io.proofs.Counts.{Rose-after}
 use Rattle.spf_feed.specs.Records.{RecordAppends}
 use Rattle.spf_feed.specs.Steps.{PlainStep}
 use Rattle.spf_disk.specs.declared.generation.Generation.{Generation}
@@ -59,10 +60,6 @@ left_more image before c base steps s is whole (inr after) =
     after_all image c (steps ++ s ∷ [])
     (after ∙ ap (λ (n : ℕ). ok_of (generation_after n (steps ++ s ∷ []))) is
     ∙ sym (found_more image steps s))
-
-pub rose_since : (a b c : ℕ) → a ≤ b → Rose b c → Rose a c
-rose_since a b c le (inl lt) = inl (omega (arith, le, lt))
-rose_since a b c le (inr is) = inr is
 
 -- ---- tests
 
@@ -156,7 +153,7 @@ module _ {D : Type 0} (seen : D → Image) (may_leave : D → Image → Type 0) 
         (k.left t le c before))
         (λ p. inr (left_more b.image (seen old.disk.now) c old.base old.steps s k.base
         whole.found_is p)) (run.before t c (omega (arith, le, k.time)) left));
-    fault = λ is. rose_since b.failures (failures old.disk.now) (failures new.disk.now) k.count
+    fault = λ is. Rose-after b.failures (failures old.disk.now) (failures new.disk.now) k.count
         (at_true new.fault _ is fault);
     full = λ is. subst (λ (l : List PlainStep). 2 ^ 64 ≤ base_of b.image + length l) (sym steps)
         (omega (

@@ -5,7 +5,7 @@ use Rattle.spf_io.specs.Outside.{Rose}
 use Rattle.spf_disk.specs.declared.open_error.OpenError.TheVariants.{DiskFault, Damaged}
 use Rattle.spf_disk.specs.declared.open_error.OpenError.TheVariants as opening
 use Rattle.spf_disk.specs.Image.{Image}
-use Rattle.spf_feed.specs.declared.follow_error.FollowError.TheVariants as answers
+use Rattle.spf_feed.specs.declared.follow_error.FollowError.TheVariants as follow_errors
 use Rattle.spf_feed.specs.Limits.{default_limits}
 use Rattle.spf_feed.specs.Steps.{PlainStep}
 use Rattle.spf_program.specs.Reports.{IsReported, failure_line, follow_message, follow_number}
@@ -67,8 +67,8 @@ pub record Streams : Type 0 where
 pub record HasCauses (reads reads' writes writes' : ℕ) (r : Result ℕ HelperError) : Type 0 where
   pub reads_later : reads ≤ reads'
   pub writes_later : writes ≤ writes'
-  pub read : r ≡ Err (errors.Follow answers.ReadFault) → Rose reads reads'
-  pub write : r ≡ Err (errors.Follow answers.WriteFault) → Rose writes writes'
+  pub read : r ≡ Err (errors.Follow follow_errors.ReadFault) → Rose reads reads'
+  pub write : r ≡ Err (errors.Follow follow_errors.WriteFault) → Rose writes writes'
 
 -- A session was followed over a disk, and this is how it ended and was reported.
 pub record Watches {D : Type 0} (seen : D → Image) (may_leave : D → Image → Type 0)

@@ -4,14 +4,14 @@ ghost use Rattle.std.specs.Prelude.{◌≡◌, ◌≤◌, ℕ, List, [], Err};
 ghost use Rattle.spf_disk.specs.Image.{Image};
 ghost use Rattle.spf_io.specs.Outside.{Rose};
 ghost use Rattle.spf_feed.specs.Steps.{PlainStep};
-ghost use Rattle.spf_feed.specs.declared.follow_error.FollowError.TheVariants as answers;
+ghost use Rattle.spf_feed.specs.declared.follow_error.FollowError.TheVariants as follow_errors;
 ghost use Rattle.spf_helper.specs.declared.helper_error.HelperError.TheVariants as errors;
 ghost use Rattle.spf_feed.specs.Following.{FailuresHaveCauses};
 ghost use Rattle.spf_helper.specs.Keeping.{IsKept};
 ghost use Rattle.spf_helper.specs.Runs.{Ended, Follows, LeavesBeside, LeavesFound};
 ghost use Rattle.spf_helper.specs.Runs.{Ran, ended_as};
 
-use crate::held::{Held, Origin};
+use crate::call::{CallPublisher, Origin};
 use crate::helper_error::HelperError;
 use crate::lent::follow_lent;
 use crate::publisher::HelperPublisher;
@@ -58,7 +58,7 @@ fn follow_kept<'a, N: Origin, S: Source, K: Sink, D: Disk>(
         (record { reads = S.failures source.old; writes = K.failures sink.old })
         (record { reads = S.failures source.new; writes = K.failures sink.new }) result.0 }
 {
-    let mut held = Held::<'a, D, N>::new(publisher);
+    let mut held = CallPublisher::<'a, D, N>::new(publisher);
     let followed = follow_x509(
         alloc,
         source,
@@ -98,9 +98,9 @@ pub(crate) fn follow_disk<'a, N: Origin, S: Source, K: Sink, D: Disk>(
         × LeavesBeside D.moment D.left_since disk.old result.1.now N.past N.begin.image steps }
     ensures reads_later { S.failures source.old ≤ S.failures source.new }
     ensures writes_later { K.failures sink.old ≤ K.failures sink.new }
-    ensures read_fault { result.0 ≡ Err (errors.Follow answers.ReadFault)
+    ensures read_fault { result.0 ≡ Err (errors.Follow follow_errors.ReadFault)
         → Rose (S.failures source.old) (S.failures source.new) }
-    ensures write_fault { result.0 ≡ Err (errors.Follow answers.WriteFault)
+    ensures write_fault { result.0 ≡ Err (errors.Follow follow_errors.WriteFault)
         → Rose (K.failures sink.old) (K.failures sink.new) }
 {
     let opened = match open_files(alloc, disk) {
@@ -134,9 +134,9 @@ pub fn helper_follow<S: Source, K: Sink, D: Disk>(
     // A failure of the source or the sink comes only where its count rose.
     ensures reads_later { S.failures source.old ≤ S.failures source.new }
     ensures writes_later { K.failures sink.old ≤ K.failures sink.new }
-    ensures read_fault { result ≡ Err (errors.Follow answers.ReadFault)
+    ensures read_fault { result ≡ Err (errors.Follow follow_errors.ReadFault)
         → Rose (S.failures source.old) (S.failures source.new) }
-    ensures write_fault { result ≡ Err (errors.Follow answers.WriteFault)
+    ensures write_fault { result ≡ Err (errors.Follow follow_errors.WriteFault)
         → Rose (K.failures sink.old) (K.failures sink.new) }
 {
     let (end, _disk) = follow_lent::<Brand, &mut D, S, K>(

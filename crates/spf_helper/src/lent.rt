@@ -4,12 +4,12 @@ ghost use Rattle.std.specs.Prelude.{◌≡◌, ◌≤◌, ℕ, List, Err};
 ghost use Rattle.spf_io.specs.Outside.{Rose};
 ghost use Rattle.spf_disk.specs.Image.{Image};
 ghost use Rattle.spf_feed.specs.Steps.{PlainStep};
-ghost use Rattle.spf_feed.specs.declared.follow_error.FollowError.TheVariants as answers;
+ghost use Rattle.spf_feed.specs.declared.follow_error.FollowError.TheVariants as follow_errors;
 ghost use Rattle.spf_helper.specs.declared.helper_error.HelperError.TheVariants as errors;
 ghost use Rattle.spf_helper.specs.Runs.{Ended, LeavesBeside, Ran};
 
 use crate::following::follow_disk;
-use crate::held::Origin;
+use crate::call::Origin;
 use crate::helper_error::HelperError;
 use spf_disk::Disk;
 use spf_feed::ResourceLimits;
@@ -54,9 +54,9 @@ pub(crate) trait LentDisk {
             × LeavesBeside moment left_since self result.1 N.past N.begin.image steps }
         ensures reads_later { S.failures source.old ≤ S.failures source.new }
         ensures writes_later { K.failures sink.old ≤ K.failures sink.new }
-        ensures read_fault { result.0 ≡ Err (errors.Follow answers.ReadFault)
+        ensures read_fault { result.0 ≡ Err (errors.Follow follow_errors.ReadFault)
             → Rose (S.failures source.old) (S.failures source.new) }
-        ensures write_fault { result.0 ≡ Err (errors.Follow answers.WriteFault)
+        ensures write_fault { result.0 ≡ Err (errors.Follow follow_errors.WriteFault)
             → Rose (K.failures sink.old) (K.failures sink.new) };
 }
 
@@ -109,9 +109,9 @@ pub(crate) fn follow_lent<N: Origin, T: LentDisk, S: Source, K: Sink>(
         × LeavesBeside T.moment T.left_since disk result.1 N.past N.begin.image steps }
     ensures reads_later { S.failures source.old ≤ S.failures source.new }
     ensures writes_later { K.failures sink.old ≤ K.failures sink.new }
-    ensures read_fault { result.0 ≡ Err (errors.Follow answers.ReadFault)
+    ensures read_fault { result.0 ≡ Err (errors.Follow follow_errors.ReadFault)
         → Rose (S.failures source.old) (S.failures source.new) }
-    ensures write_fault { result.0 ≡ Err (errors.Follow answers.WriteFault)
+    ensures write_fault { result.0 ≡ Err (errors.Follow follow_errors.WriteFault)
         → Rose (K.failures sink.old) (K.failures sink.new) }
 {
     disk.follow::<N, S, K>(alloc, source, sink, limits, max_frames)

@@ -2,9 +2,9 @@
 //! files, so that another program can read it after any crash.
 #![tactic(auto)]
 
+mod call;
 mod following;
 mod generations;
-mod held;
 mod helper_error;
 mod lent;
 mod publisher;

@@ -5,15 +5,15 @@ use spf_io::Failed;
 
 /// A job that runs at `join`.
 #[derive(Drop)]
-pub struct Held<J: Job> {
+pub struct HeldJob<J: Job> {
     job: J,
 }
 
-impl<J: Job> Joins<J> for Held<J> {
+impl<J: Job> Joins<J> for HeldJob<J> {
     ghost job = { λ h. h.job };
 
     fn join(self) -> J::Done {
-        let Held { job } = self;
+        let HeldJob { job } = self;
         job.run()
     }
 }
@@ -23,11 +23,11 @@ impl<J: Job> Joins<J> for Held<J> {
 pub struct InlineSpawner;
 
 impl<J: Job> Spawner<J> for InlineSpawner {
-    type Handle = Held<J>;
+    type Handle = HeldJob<J>;
 
     ghost refusals = { λ _. 0 };
 
-    fn start(&mut self, job: J) -> Result<Held<J>, Failed> {
-        Ok(Held { job })
+    fn start(&mut self, job: J) -> Result<HeldJob<J>, Failed> {
+        Ok(HeldJob { job })
     }
 }

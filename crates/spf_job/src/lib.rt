@@ -7,7 +7,7 @@ mod refusing;
 mod step_words;
 mod threads;
 
-pub use inline::{Held, InlineSpawner};
+pub use inline::{HeldJob, InlineSpawner};
 pub use job::{Job, Joins, Spawner};
 pub use refusing::RefusingSpawner;
 pub use step_words::StepWords;

@@ -2,7 +2,7 @@
 
 ghost use Rattle.std.specs.Prelude.{◌≡◌};
 
-use crate::inline::Held;
+use crate::inline::HeldJob;
 use crate::job::{Job, Joins, Spawner};
 use spf_io::Failed;
 
@@ -31,12 +31,12 @@ impl<J: Job> Spawner<J> for RefusingSpawner {
     ghost use Rattle.std.specs.Prelude.{◌≡◌, ◌+◌, ◌-◌, ◌^◌, min, IsErr};
     ghost use Rattle.spf_job.specs.Starts.{Starts};
 
-    type Handle = Held<J>;
+    type Handle = HeldJob<J>;
 
     ghost refusals = { λ s. s.refusals };
 
-    fn start(&mut self, job: J) -> Result<Held<J>, Failed>
-        ensures starts { Starts (⟦<Held<J> as Joins<J>>⟧.job) self.old.refusals self.new.refusals
+    fn start(&mut self, job: J) -> Result<HeldJob<J>, Failed>
+        ensures starts { Starts (⟦<HeldJob<J> as Joins<J>>⟧.job) self.old.refusals self.new.refusals
             job result }
         ensures refused { IsErr result }
         ensures counted { self.new.refusals ≡ min (self.old.refusals + 1) (2 ^ 64 - 1) }

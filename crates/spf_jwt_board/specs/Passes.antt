@@ -3,7 +3,7 @@ use Rattle.std.specs.Prelude.{ℕ, List, Option}
 use Rattle.logbook.specs.Pages.{Book}
 use Rattle.spf_board.specs.Passes.{Remembered, Passed}
 use Rattle.spf_board.specs.declared.rule.Place.{Place}
-use Rattle.spf_close.specs.Marks.{Held}
+use Rattle.spf_close.specs.Marks.{Mark}
 use Rattle.spf_jwt_feed.specs.Steps.{PlainStep}
 use Rattle.spf_history.specs.declared.entry.Entry.{Entry}
 
@@ -14,9 +14,9 @@ pub record PassView : Type 0 where
   pub entered : List (Entry PlainStep)
   pub missed : ℕ
   pub enters : ℕ
-  pub closed : Option Held
+  pub closed : Option Mark
 
-abbrev pub pass_view : Remembered PlainStep → Place → Option Held → PassView
+abbrev pub pass_view : Remembered PlainStep → Place → Option Mark → PassView
 pass_view m v closed = record {
   book = m.book;
   seen = m.seen;

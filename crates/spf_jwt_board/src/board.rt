@@ -7,7 +7,7 @@ ghost use Rattle.spf_history.specs.Lists.{is_ended};
 ghost use Rattle.spf_jwt_feed.specs.Steps.{MayFollow};
 ghost use Rattle.spf_jwt_board.specs.Steps.{Legal};
 
-use crate::desk::{Held, JwtDesk, JwtEnded};
+use crate::desk::{DeskWriter, JwtDesk, JwtEnded};
 use crate::kind::Jwt;
 use crate::pass::JwtPass;
 use crate::shared_step::SharedStep;
@@ -29,7 +29,7 @@ pub fn open<R: Wait + Drop>(
         × (r.1.entered ≡ r.0.list) × (r.1.missed ≡ 0) × (r.1.closed ≡ None)) }
 {
     let (writer, scribe, memory, mut readers) = open_board::<Jwt, R>(alloc, &rt, step)?;
-    let held = Held::new(writer, scribe, rt);
+    let held = DeskWriter::new(writer, scribe, rt);
     let Some(reader) = readers.pop() else {
         return Err(OutOfMemory);
     };

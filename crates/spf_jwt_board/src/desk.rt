@@ -19,14 +19,14 @@ use std::marker::Model;
 use std::sync::Wait;
 
 // The writer with its scribe. Contracts see what it has published. Its drop waits for the readers.
-pub(crate) struct Held<R: Wait + Drop> {
+pub(crate) struct DeskWriter<R: Wait + Drop> {
     writer: PostWriter<Jwt>,
     // There is none after a change that could not be published.
     scribe: Option<Scribe<Jwt>>,
     rt: R,
 }
 
-impl<R: Wait + Drop> Model for Held<R> {
+impl<R: Wait + Drop> Model for DeskWriter<R> {
     ghost use Rattle.std.specs.Prelude.{drop};
     ghost use Rattle.left_right.specs.Sides.{view as known};
     ghost use Rattle.spf_history.specs.Past.{Past};
@@ -43,7 +43,7 @@ impl<R: Wait + Drop> Model for Held<R> {
         h.writer.desk.shown.value.front h.scribe };
 }
 
-impl<R: Wait + Drop> Drop for Held<R> {
+impl<R: Wait + Drop> Drop for DeskWriter<R> {
     fn drop(self) {
         let Self {
             writer,
@@ -54,15 +54,15 @@ impl<R: Wait + Drop> Drop for Held<R> {
     }
 }
 
-impl<R: Wait + Drop> Held<R> {
-    pub(crate) fn new(writer: PostWriter<Jwt>, scribe: Scribe<Jwt>, rt: R) -> Held<R>
+impl<R: Wait + Drop> DeskWriter<R> {
+    pub(crate) fn new(writer: PostWriter<Jwt>, scribe: Scribe<Jwt>, rt: R) -> DeskWriter<R>
         requires { IsRested Legal Replays (drop writer.behind writer.log.items)
             (view writer.desk.place) writer.desk.shown.value.snapshot
             writer.desk.shown.value.front (Some scribe) }
         ensures same { result ≡ writer.desk.shown.value.front }
         ensures board { IsBoardList Legal result.list }
     {
-        Held {
+        DeskWriter {
             writer,
             scribe: Some(scribe),
             rt,
@@ -75,34 +75,34 @@ impl<R: Wait + Drop> Held<R> {
         self.writer.published().front.again()
     }
 
-    fn put(self, step: SharedStep) -> (Held<R>, Result<(), OutOfMemory>)
+    fn put(self, step: SharedStep) -> (DeskWriter<R>, Result<(), OutOfMemory>)
         requires legal { Legal (steps_of self.list ++ step ∷ []) }
         requires unended { is_ended self.list ≡ false }
         ensures ok { OnOk result.1 (result.0 ≡ added self (entry.Step step)) }
         ensures err { OnErr result.1 (result.0 ≡ self) }
         ensures board { IsBoardList Legal result.0.list }
     {
-        let Held { writer, scribe, rt } = self;
+        let DeskWriter { writer, scribe, rt } = self;
         let (writer, scribe, result) = publish_step(&rt, writer, scribe, step);
-        (Held { writer, scribe, rt }, result)
+        (DeskWriter { writer, scribe, rt }, result)
     }
 
     // Publishes the end, and returns whether it was published.
-    fn end(self) -> (Held<R>, bool)
+    fn end(self) -> (DeskWriter<R>, bool)
         requires { is_ended self.list ≡ false }
         ensures whole { result.1 ≡ is_ended result.0.list }
         ensures ended { (result.0 ≡ added self entry.End) ⊎ (result.0 ≡ self) }
     {
-        let Held { writer, scribe, rt } = self;
+        let DeskWriter { writer, scribe, rt } = self;
         let (writer, scribe, result) = publish_end(&rt, writer, scribe);
-        (Held { writer, scribe, rt }, result.is_ok())
+        (DeskWriter { writer, scribe, rt }, result.is_ok())
     }
 }
 
 /// The one writer of a board. Contracts see what it has published.
 pub struct JwtDesk<R: Wait + Drop> {
     // There is one between two calls.
-    held: Option<Held<R>>,
+    held: Option<DeskWriter<R>>,
 }
 
 impl<R: Wait + Drop> Model for JwtDesk<R> {
@@ -128,7 +128,7 @@ impl<R: Wait + Drop> Drop for JwtDesk<R> {
 }
 
 impl<R: Wait + Drop> JwtDesk<R> {
-    pub(crate) fn new(held: Held<R>) -> JwtDesk<R>
+    pub(crate) fn new(held: DeskWriter<R>) -> JwtDesk<R>
         requires unended { is_ended held.list ≡ false }
         requires board { IsBoardList Legal held.list }
         ensures { result ≡ held }
@@ -204,7 +204,7 @@ impl<R: Wait + Drop> JwtPublisher for JwtDesk<R> {
 
 /// A writer that publishes nothing more. Contracts see what it has published.
 pub struct JwtEnded<R: Wait + Drop> {
-    held: Held<R>,
+    held: DeskWriter<R>,
     // Whether the end was published.
     whole: bool,
 }

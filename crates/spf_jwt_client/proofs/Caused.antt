@@ -15,7 +15,7 @@ use Rattle.spf_client.specs.Connecting.{client_of}
 use Rattle.spf_jwt.specs.Token.{Svid}
 use Rattle.spf_jwt_feed.specs.States.{source_of_api}
 use Rattle.spf_jwt_feed.specs.declared.state.JwtSourceError.{JwtSourceError}
-use Rattle.spf_jwt_client.specs.Fetching.{Held, Client, Obtains, AsksOnce, AsksOver, FetchesJwt}
+use Rattle.spf_jwt_client.specs.Fetching.{Fetcher, Client, Obtains, AsksOnce, AsksOver, FetchesJwt}
 use Rattle.spf_jwt_client.specs.Fetching.{IsOfConnector, HasFetchCause, Ends, fault_error}
 use Rattle.spf_jwt_client.specs.Fetching.{fetch_error, is_asked_again}
 use Rattle.spf_jwt_client.specs.declared.fault.AskFault.{AskFault}
@@ -71,7 +71,7 @@ module _ {S L : Type 0} (connector : connectors.Ghosts S L) (link : links.Ghosts
 
   module _ (request : Request) where
     asked_over : (client : Result (Client L) WorkloadApiError) (old behind : S)
-        (result : Result Svid AskFault) (new : Held S L)
+        (result : Result Svid AskFault) (new : Fetcher S L)
         → connector.refusals old ≤ connector.refusals behind
         → ((e : WorkloadApiError) → client ≡ Err e
         → IsOfConnector {T = Svid} (Err (source_of_api e))
@@ -81,22 +81,22 @@ module _ {S L : Type 0} (connector : connectors.Ghosts S L) (link : links.Ghosts
         (broken_as fault_error result)
     asked_over (Ok c) old behind result new later rose asks =
         let same : connector.refusals new.connector ≡ connector.refusals behind =
-        ap (λ (h : Held S L). connector.refusals h.connector) asks.kept in
+        ap (λ (h : Fetcher S L). connector.refusals h.connector) asks.kept in
         record {
           later = subst (λ n. connector.refusals old ≤ n) (sym same) later;
           refused = λ is. absurd (had_client asks.answer
-              (subst (λ r. IsOfConnector (broken_as fault_error r)) asks.told is));
+              (subst (λ r. IsOfConnector (broken_as fault_error r)) asks.returned is));
         }
     asked_over (Err e) old behind result new later rose asks =
         let same : connector.refusals new.connector ≡ connector.refusals behind =
-        ap (λ (h : Held S L). connector.refusals h.connector) asks.none in
+        ap (λ (h : Fetcher S L). connector.refusals h.connector) asks.none in
         record {
           later = subst (λ n. connector.refusals old ≤ n) (sym same) later;
           refused = λ is. subst (λ n. Rose (connector.refusals old) n) (sym same)
-              (rose e refl (subst (λ r. IsOfConnector (broken_as fault_error r)) asks.told is));
+              (rose e refl (subst (λ r. IsOfConnector (broken_as fault_error r)) asks.returned is));
         }
 
-    asked : (old new : Held S L) (result : Result Svid AskFault)
+    asked : (old new : Fetcher S L) (result : Result Svid AskFault)
         → AsksOnce connector link request old result new
         → HasFetchCause (connector.refusals old.connector) (connector.refusals new.connector)
         (broken_as fault_error result)
@@ -108,7 +108,7 @@ module _ {S L : Type 0} (connector : connectors.Ghosts S L) (link : links.Ghosts
         asks.obtains))
         asks.asks
 
-    ended : (again : Bool) (old mid new : Held S L) (first : Result Svid AskFault)
+    ended : (again : Bool) (old mid new : Fetcher S L) (first : Result Svid AskFault)
         (result : Result Svid JwtSourceError)
         → HasFetchCause (connector.refusals old.connector) (connector.refusals mid.connector)
         (broken_as fault_error first)
@@ -116,19 +116,19 @@ module _ {S L : Type 0} (connector : connectors.Ghosts S L) (link : links.Ghosts
         → HasFetchCause (connector.refusals old.connector) (connector.refusals new.connector) result
     ended false old mid new first result cause ends =
         subst (λ r. HasFetchCause (connector.refusals old.connector)
-        (connector.refusals new.connector) r) (sym ends.told)
-        (subst (λ (h : Held S L). HasFetchCause (connector.refusals old.connector)
+        (connector.refusals new.connector) r) (sym ends.returned)
+        (subst (λ (h : Fetcher S L). HasFetchCause (connector.refusals old.connector)
         (connector.refusals h.connector) (broken_as fault_error first)) (sym ends.same) cause)
     ended true old mid new first result cause ends =
         let last = asked _ new ends.second ends.asks in
         subst (λ r. HasFetchCause (connector.refusals old.connector)
-        (connector.refusals new.connector) r) (sym ends.told)
+        (connector.refusals new.connector) r) (sym ends.returned)
         (record {
           later = let a = cause.later in let b = last.later in omega arith;
           refused = λ is. later_rose _ _ _ cause.later (last.refused is);
         })
 
-    pub fetch_caused : (old new : Held S L) (result : Result Svid JwtSourceError)
+    pub fetch_caused : (old new : Fetcher S L) (result : Result Svid JwtSourceError)
         → FetchesJwt connector link request old result new
         → HasFetchCause (connector.refusals old.connector) (connector.refusals new.connector) result
     fetch_caused old new result fetch =

@@ -33,7 +33,7 @@ abbrev pub Client : Type 0 → Type 0
 Client L = WorkloadApiClient L NoInterceptor
 
 -- a connector, and the client that is kept
-pub record Held (S L : Type 0) : Type 0 where
+pub record Fetcher (S L : Type 0) : Type 0 where
   pub connector : S
   pub client : Option (Client L)
 
@@ -70,30 +70,30 @@ Obtains connector link old None result new = ConnectsOver connector link.answers
 
 -- one fetch over a client, which is kept
 pub record AsksClient {S L : Type 0} (link : links.Ghosts L) (request : Request) (client : Client L)
-    (connector : S) (result : Result Svid AskFault) (new : Held S L) : Type 0 where
+    (connector : S) (result : Result Svid AskFault) (new : Fetcher S L) : Type 0 where
   pub answer : Result Svid WorkloadApiError
   pub left : L
   pub fetches : Fetches link untouched request response.JwtSvids first_jwt_svid_of (λ (s : Svid). s)
       client.link answer left
-  pub told : result ≡ broken_as Failed answer
+  pub returned : result ≡ broken_as Failed answer
   pub kept : new ≡ record
       { connector = connector; client = Some (record client { link = left }) }
 
 -- without a client nothing is asked, and none is kept
 pub record HasNoClient {S L : Type 0} (e : WorkloadApiError) (connector : S)
-    (result : Result Svid AskFault) (new : Held S L) : Type 0 where
-  pub told : result ≡ Err (NoClient e)
+    (result : Result Svid AskFault) (new : Fetcher S L) : Type 0 where
+  pub returned : result ≡ Err (NoClient e)
   pub none : new ≡ record { connector = connector; client = None }
 
 abbrev pub AsksOver : {S L : Type 0} → links.Ghosts L → Request
-    → Result (Client L) WorkloadApiError → S → Result Svid AskFault → Held S L → Type 0
+    → Result (Client L) WorkloadApiError → S → Result Svid AskFault → Fetcher S L → Type 0
 AsksOver link request (Ok client) connector result new =
     AsksClient link request client connector result new
 AsksOver link request (Err e) connector result new = HasNoClient e connector result new
 
 -- one ask
 pub record AsksOnce {S L : Type 0} (connector : connectors.Ghosts S L) (link : links.Ghosts L)
-    (request : Request) (old : Held S L) (result : Result Svid AskFault) (new : Held S L) :
+    (request : Request) (old : Fetcher S L) (result : Result Svid AskFault) (new : Fetcher S L) :
     Type 0 where
   pub client : Result (Client L) WorkloadApiError
   pub behind : S
@@ -111,39 +111,39 @@ fault_error (Failed e) = fetch_error e
 
 -- the result of a fetch by its first ask, where there is no second one
 abbrev pub settled_by : Bool → Result Svid JwtSourceError → Option (Result Svid JwtSourceError)
-settled_by true told = None
-settled_by false told = Some told
+settled_by true returned = None
+settled_by false returned = Some returned
 
 -- the same with no client kept
-abbrev pub forgotten : {S L : Type 0} → Held S L → Held S L
+abbrev pub forgotten : {S L : Type 0} → Fetcher S L → Fetcher S L
 forgotten held = record held { client = None }
 
 -- the second ask is over a new client, and is the last one
 pub record AsksAgain {S L : Type 0} (connector : connectors.Ghosts S L) (link : links.Ghosts L)
-    (request : Request) (old : Held S L) (result : Result Svid JwtSourceError) (new : Held S L) :
-    Type 0 where
+    (request : Request) (old : Fetcher S L) (result : Result Svid JwtSourceError)
+    (new : Fetcher S L) : Type 0 where
   pub second : Result Svid AskFault
   pub asks : AsksOnce connector link request (forgotten old) second new
-  pub told : result ≡ broken_as fault_error second
+  pub returned : result ≡ broken_as fault_error second
 
 -- the first ask is the last one
-pub record AsksNoMore {S L : Type 0} (first : Result Svid AskFault) (mid : Held S L)
-    (result : Result Svid JwtSourceError) (new : Held S L) : Type 0 where
-  pub told : result ≡ broken_as fault_error first
+pub record AsksNoMore {S L : Type 0} (first : Result Svid AskFault) (mid : Fetcher S L)
+    (result : Result Svid JwtSourceError) (new : Fetcher S L) : Type 0 where
+  pub returned : result ≡ broken_as fault_error first
   pub same : new ≡ mid
 
 abbrev pub Ends : {S L : Type 0} → connectors.Ghosts S L → links.Ghosts L → Request → Bool
-    → Result Svid AskFault → Held S L → Result Svid JwtSourceError → Held S L → Type 0
+    → Result Svid AskFault → Fetcher S L → Result Svid JwtSourceError → Fetcher S L → Type 0
 Ends connector link request true first mid result new =
     AsksAgain connector link request mid result new
 Ends connector link request false first mid result new = AsksNoMore first mid result new
 
 -- a fetch: one ask, and a second one where the first failed for a reason of the connection
 pub record FetchesJwt {S L : Type 0} (connector : connectors.Ghosts S L) (link : links.Ghosts L)
-    (request : Request) (old : Held S L) (result : Result Svid JwtSourceError) (new : Held S L) :
-    Type 0 where
+    (request : Request) (old : Fetcher S L) (result : Result Svid JwtSourceError)
+    (new : Fetcher S L) : Type 0 where
   pub first : Result Svid AskFault
-  pub mid : Held S L
+  pub mid : Fetcher S L
   pub asks : AsksOnce connector link request old first mid
   pub ends : Ends connector link request (is_asked_again first) first mid result new
 

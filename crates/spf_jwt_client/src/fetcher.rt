@@ -37,7 +37,7 @@ impl<C: Connector> fmt::Debug for JwtFetcher<C> {
 }
 
 /// The result of a fetch, by that of its last ask.
-fn told(last: Result<JwtSvid, AskFault>) -> Result<JwtSvid, JwtSourceError>
+fn result_of(last: Result<JwtSvid, AskFault>) -> Result<JwtSvid, JwtSourceError>
     ensures { result ≡ broken_as fault_error last }
 {
     match last {
@@ -53,7 +53,7 @@ fn settled(first: Result<JwtSvid, AskFault>) -> Option<Result<JwtSvid, JwtSource
     if is_asked_again(&first) {
         return None;
     }
-    Some(told(first))
+    Some(result_of(first))
 }
 
 impl<C: Connector> JwtFetcher<C>
@@ -100,7 +100,7 @@ where
             Some(fetched) => fetched,
             None => {
                 self.client = None;
-                told(self.ask(alloc, audience, id))
+                result_of(self.ask(alloc, audience, id))
             }
         }
     }

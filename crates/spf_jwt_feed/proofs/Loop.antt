@@ -26,7 +26,7 @@ use Rattle.spf_jwt.specs.Bundle.{set_eq}
 use Rattle.spf_jwt.specs.Laws.{set_equiv}
 use Rattle.spf_feed.specs.declared.event.SessionEvent.TheVariants as events
 use Rattle.spf_feed.specs.declared.follow_error.FollowError.{FollowError}
-use Rattle.spf_feed.specs.declared.follow_error.FollowError.TheVariants as answers
+use Rattle.spf_feed.specs.declared.follow_error.FollowError.TheVariants as follow_errors
 use Rattle.spf_feed.specs.declared.following.Change.TheVariants as change
 use Rattle.spf_feed.specs.declared.phase.Phase.{Phase}
 use Rattle.spf_feed.specs.declared.phase.Phase.TheVariants as phases
@@ -89,7 +89,7 @@ loop_begins rules max_frames old line is = record {
 -- ---- the exits before an event
 
 whole_end : (b : Bool) (n : ℕ)
-    → end_for (cond b (Ok n) (Err answers.NeverSynced)) ≡ cond b (Whole n) NeverSynced
+    → end_for (cond b (Ok n) (Err follow_errors.NeverSynced)) ≡ cond b (Whole n) NeverSynced
 whole_end true n = refl
 whole_end false n = refl
 
@@ -97,7 +97,7 @@ pub exit_end : (rules : Rules) (max_frames : ℕ) (old cur new : Sides) (count :
     (phase : Phase) (line : List ℕ) (r : Result ℕ FollowError)
     → LoopAt rules max_frames old cur count kept phase line → OnlyRead cur new
     → Consumes cur.left new.left [] → IsAtEnd cur.left
-    → r ≡ cond (is_some kept) (Ok count) (Err answers.NeverSynced)
+    → r ≡ cond (is_some kept) (Ok count) (Err follow_errors.NeverSynced)
     → Followed (stream rules) (outputs rules) max_frames old new (end_for r)
 exit_end rules max_frames old cur new count kept phase line r at same took end is =
     followed_end (stream rules) (outputs rules) max_frames old cur new at.past count (end_for r)

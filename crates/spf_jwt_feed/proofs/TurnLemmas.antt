@@ -23,16 +23,17 @@ use Rattle.spf_jwt_feed.specs.Turns.{IsTurn}
 
 -- a turn by the reading of a status is one by the status
 pub turn_of_status : (synced : Bool) (answer : WorkloadApiError) (s : Refused)
-    (told : List JwtMetricsRecord) (turn : Turn) → answer ≡ status_reading s
+    (records : List JwtMetricsRecord) (turn : Turn) → answer ≡ status_reading s
     → IsTurn (cond synced None (refusal_in answer)) (denied_or_passed synced (denial_in answer))
-    told turn → IsTurn (cond synced None (rejected_or_unsupported s))
-    (denied_or_passed synced (denial_in (status_reading s))) told turn
-turn_of_status synced answer s told turn reads h =
+    records turn → IsTurn (cond synced None (rejected_or_unsupported s))
+    (denied_or_passed synced (denial_in (status_reading s))) records turn
+turn_of_status synced answer s records turn reads h =
     subst (λ r.
-    IsTurn (cond synced None r) (denied_or_passed synced (denial_in (status_reading s))) told turn)
+    IsTurn (cond synced None r) (denied_or_passed synced (denial_in (status_reading s)))
+    records turn)
     (refusal_of_status s)
     (subst (λ a.
-    IsTurn (cond synced None (refusal_in a)) (denied_or_passed synced (denial_in a)) told turn)
+    IsTurn (cond synced None (refusal_in a)) (denied_or_passed synced (denial_in a)) records turn)
     reads h)
 
 -- ---- the same of an event as it is received

@@ -6,7 +6,7 @@ ghost use Rattle.spf_view.specs.Sessions.{Followed};
 ghost use Rattle.spf_view.specs.Keeping.{kept_with};
 ghost use Rattle.spf_frame.specs.Parts.{FailureHasCause};
 ghost use Rattle.spf_frame.specs.declared.error.FrameError.TheVariants as errors;
-ghost use Rattle.spf_feed.specs.declared.follow_error.FollowError.TheVariants as answers;
+ghost use Rattle.spf_feed.specs.declared.follow_error.FollowError.TheVariants as follow_errors;
 ghost use Rattle.spf_feed.specs.Records.{RecordAppends, AppendsOnce};
 ghost use Rattle.spf_feed.specs.Run.{end_for};
 ghost use Rattle.spf_feed.specs.Following.{is_failure, FailuresHaveCauses, OnlyAllowed, HandsOn};
@@ -287,7 +287,8 @@ fn take<P: JwtPublisher, M: JwtMetricsRecorder>(
 /// The result at the end of the input.
 fn at_end(snapshot: &Option<JwtSnapshot>, count: u64) -> Result<u64, FollowError>
     ensures calm { IfErr result (λ e. is_failure e ≡ false) }
-    ensures answer { result ≡ (if is_some snapshot.now then Ok count else Err answers.NeverSynced) }
+    ensures answer { result
+        ≡ (if is_some snapshot.now then Ok count else Err follow_errors.NeverSynced) }
 {
     match snapshot {
         Some(_) => Ok(count),

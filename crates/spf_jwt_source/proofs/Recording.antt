@@ -1,7 +1,7 @@
 -- A record that a supervisor left is one of what it was given.
 use Rattle.std.proofs.Common.{◌≡◌, List, Option, None, Some, reverse, sym, ap, ◌∙◌, subst}
 use Rattle.std.specs.Prelude.{IfSome}
-use Rattle.spf_close.specs.Marks.{Held}
+use Rattle.spf_close.specs.Marks.{Mark}
 use Rattle.spf_link.specs.Connecting.{Member}
 use Rattle.spf_jwt_feed.specs.Items.{Event}
 use Rattle.spf_jwt_feeder.specs.declared.session.JwtSessionRules.{JwtSessionRules}
@@ -12,7 +12,7 @@ use Rattle.spf_feeder.specs.Orderly.{GoesOn}
 use Rattle.spf_jwt_source.specs.Records.{Assigned, IsOf, Recorded}
 
 pub recorded_of_job : {S : Type 0} (members : S → Option (List Member)) (job : Assigned S)
-    (first : S) (run : List Event) (settings : JwtSessionRules) (pace : Pace) (closed : Held)
+    (first : S) (run : List Event) (settings : JwtSessionRules) (pace : Pace) (closed : Mark)
     (o : Option Recorded)
     → IfSome o (λ r. (r.run ≡ run) × (r.settings ≡ settings) × (r.pace ≡ pace)
     × (r.closed ≡ closed))
@@ -33,5 +33,5 @@ recorded_of_job members job first run settings pace closed (Some r) is yielded a
           (subst (λ (x : JwtSessionRules × List Event).
           IfSome (members first) (λ m. AllYielded (rules_of x.0) m (reverse x.1)))
           (λ i. (sym is.1 i, sym is.0 i)) yielded);
-      cell = ap (λ (k : Held). k.cell) is.3 ∙ cell;
+      cell = ap (λ (k : Mark). k.cell) is.3 ∙ cell;
     }

@@ -5,8 +5,7 @@ use Rattle.std.specs.Duration.{as_nanos}
 use Rattle.std.specs.Option.{option_map}
 use Rattle.spf_api.specs.declared.endpoint_error.EndpointError.{EndpointError}
 use Rattle.spf_api.specs.declared.error.WorkloadApiError.TheVariants as api
-use Rattle.spf_board.specs.Passes.{Rose}
-use Rattle.spf_io.specs.Outside.{Rose as Refused}
+use Rattle.spf_io.specs.Outside.{Rose}
 use Rattle.spf_endpoint.specs.Endpoint.{is_memory}
 use Rattle.spf_history.specs.Lists.{steps_of as board_steps}
 use Rattle.spf_link.specs.Connecting.{Member}
@@ -77,7 +76,7 @@ PrepareFails set valid before now e = SyncFails set valid e
 -- the same, which may find no supervisor after that
 abbrev pub BuildFails : JwtSettings
     → Result (Unit {0}) EndpointError → ℕ → ℕ → ℕ → ℕ → JwtSourceError → Type 0
-BuildFails set valid before now started starts errors.NoSupervisor = Refused started starts
+BuildFails set valid before now started starts errors.NoSupervisor = Rose started starts
 BuildFails set valid before now started starts e = PrepareFails set valid before now e
 
 -- What an initial synchronisation leaves to a supervisor: the rules are those of the builder, the

@@ -6,12 +6,13 @@ use Rattle.std.specs.Arc.{arc_value}
 use Rattle.std.specs.declared.alloc.Global.{Global}
 use Rattle.std.specs.declared.sync.Arc.{Arc}
 use mathlib.Core.List.{IsPrefix}
+use Rattle.spf_io.specs.Outside.{Rose}
 use Rattle.spf_io.specs.declared.memory.OutOfMemory.{OutOfMemory}
 use Rattle.spf_view.specs.Views.{View}
 use Rattle.spf_view.specs.Standing.{held_in, reason_of}
 use Rattle.spf_x509.specs.Bundle.{find_entry}
-use Rattle.spf_board.specs.Passes.{Peeks, Renews, Rose}
-use Rattle.spf_close.specs.Marks.{held}
+use Rattle.spf_board.specs.Passes.{Peeks, Renews}
+use Rattle.spf_close.specs.Marks.{mark_by}
 use Rattle.spf_close.specs.declared.maker.Maker.TheVariants as makers
 use Rattle.spf_feed.specs.declared.step.Denial.{Denial}
 use Rattle.spf_jwt.specs.Bundle.{Bundle}
@@ -26,7 +27,7 @@ use Rattle.spf_jwt.specs.Token.{Svid}
 use Rattle.spf_link.specs.declared.connector.Connector as connectors
 use Rattle.spf_link.specs.declared.link.Link as links
 use Rattle.spf_link.specs.declared.request.Request.{Request}
-use Rattle.spf_jwt_client.specs.Fetching.{FetchesJwt, Held}
+use Rattle.spf_jwt_client.specs.Fetching.{FetchesJwt, Fetcher}
 use Rattle.spiffe.specs.Sources.{Source}
 use Rattle.spf_jwt_source.specs.Sources.{Updates}
 
@@ -38,7 +39,7 @@ pub record LooksAt (cell : ℕ) (old new : PassView) : Type 0 where
 
 -- a caller closed this cell, which the pass knows by a note
 abbrev pub IsClosedByCaller : ℕ → PassView → Type 0
-IsClosedByCaller cell pass = pass.closed ≡ Some (held cell makers.Caller)
+IsClosedByCaller cell pass = pass.closed ≡ Some (mark_by cell makers.Caller)
 
 -- Why a call refuses without a read: a caller closed the cell, or memory ran out.
 abbrev pub HasClosedCause : ℕ → PassView → JwtSourceError → Type 0
@@ -70,7 +71,7 @@ pub record Reads (old new : PassView) (holds : View BundleSet Denial → Type 0)
 abbrev pub Gets : {T : Type 0} → (View BundleSet Denial → Result T JwtSourceError → Type 0)
     → ℕ → PassView → PassView → Result T JwtSourceError → Type 0
 Gets answer cell old new (Err errors.Closed) =
-    new ≡ record old { closed = Some (held cell makers.Caller) }
+    new ≡ record old { closed = Some (mark_by cell makers.Caller) }
 Gets answer cell old new (Err errors.OutOfMemory) = Unit {0}
 Gets answer cell old new (Err e) = Reads old new (λ view. answer view (Err e))
 Gets answer cell old new (Ok x) = Reads old new (λ view. answer view (Ok x))
@@ -155,6 +156,6 @@ IsClosing _ = ⊥
 -- A live fetch: where the source is closed the fetcher is left as it was, and otherwise the result
 -- is that of the fetcher.
 abbrev pub FetchesLive : {S L : Type 0} → connectors.Ghosts S L → links.Ghosts L → Request
-    → Held S L → Result Svid JwtSourceError → Held S L → Type 0
+    → Fetcher S L → Result Svid JwtSourceError → Fetcher S L → Type 0
 FetchesLive connector link request old result new =
     (IsClosing result × (new ≡ old)) ⊎ FetchesJwt connector link request old result new

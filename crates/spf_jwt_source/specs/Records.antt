@@ -1,7 +1,7 @@
 -- What a supervisor is given, and what it leaves.
 use Rattle.std.specs.Prelude.{◌≡◌, ℕ, List, Option, IfSome, reverse}
 use Rattle.logbook.specs.Pages.{Book}
-use Rattle.spf_close.specs.Marks.{Held}
+use Rattle.spf_close.specs.Marks.{Mark}
 use Rattle.spf_close.specs.declared.maker.Maker.TheVariants as makers
 use Rattle.spf_history.specs.Past.{Past}
 use Rattle.spf_link.specs.Connecting.{Member}
@@ -49,9 +49,9 @@ pub record Recorded : Type 0 where
   pub settings : JwtSessionRules
   pub pace : Pace
   -- who closed which cell
-  pub closed : Held
+  pub closed : Mark
 
-abbrev pub recorded_of : List Event → List PlainStep → JwtSessionRules → Pace → Held → Recorded
+abbrev pub recorded_of : List Event → List PlainStep → JwtSessionRules → Pace → Mark → Recorded
 recorded_of run steps settings pace closed = record {
   run = run;
   steps = steps;

@@ -3,7 +3,6 @@ use Rattle.std.proofs.Common.{◌≡◌, ◌≤◌, ℕ, inl, inr, List, Option,
 use Rattle.std.proofs.Common.{arith}
 use Rattle.std.specs.Prelude.{IfErr}
 use Rattle.spf_api.specs.declared.endpoint_error.EndpointError.{EndpointError}
-use Rattle.spf_board.specs.Passes.{Rose as Refused}
 use Rattle.spf_io.specs.Outside.{Rose}
 use Rattle.spf_x509.specs.Svid.{Svid}
 use Rattle.spf_feed.specs.declared.state.X509SourceError.{X509SourceError}
@@ -16,14 +15,6 @@ use Rattle.spf_live.specs.Ends.{error_of}
 use Rattle.spf_live.specs.Runs.{FailsBy, FollowFails, IsSetTo}
 use Rattle.spf_live.specs.declared.error.LiveError.{LiveError}
 use Rattle.spf_live.specs.declared.error.LiveError.TheVariants as errors
-
-pub refused_since : (a b c : ℕ) → a ≤ b → Refused b c → Refused a c
-refused_since a b c l (inl rose) = inl (omega (arith, l, rose))
-refused_since a b c l (inr last) = inr last
-
-pub rose_since : (a b c : ℕ) → a ≤ b → Rose b c → Rose a c
-rose_since a b c l (inl rose) = inl (omega (arith, l, rose))
-rose_since a b c l (inr last) = inr last
 
 -- weaker causes
 pub fails_more : (place place' output output' : Type 0) (e : LiveError) → (place → place')
@@ -40,7 +31,7 @@ fails_more place place' output output' errors.NoSupervisor f g why = absurd why
 -- no place, or no memory, for the updates
 pub updated_fails : (before now : ℕ) (output : Type 0) (e : X509SourceError)
     → HasPlaceCause {T = Unit {0}} before now (Err e)
-    → (before ≤ now) × FollowFails (Refused before now) output (error_of e)
+    → (before ≤ now) × FollowFails (Rose before now) output (error_of e)
 updated_fails before now output source.NoPlace why = why
 updated_fails before now output source.OutOfMemory why = (why, tt)
 updated_fails before now output (source.Source e) why = absurd why
@@ -71,7 +62,7 @@ run_fails picks setting valid supervisor place place' output errors.NoSupervisor
 pub prepare_fails : {K : Type 0} (picks : K → List Svid → Option ℕ) (setting : LiveSetting)
     (set : Settings K) (valid : Result (Unit {0}) EndpointError) (before now : ℕ)
     (supervisor place output : Type 0) (e : X509SourceError) → IsSetTo picks setting set
-    → (Refused before now → place) → PrepareFails picks set valid before now e
+    → (Rose before now → place) → PrepareFails picks set valid before now e
     → FailsBy picks setting valid supervisor place output (error_of e)
 prepare_fails picks setting set valid before now supervisor place output (source.Source e) is f
     why = (set, is, e, why)
@@ -133,7 +124,7 @@ prepare_fails_by picks setting set valid before now output e found is set_to why
 pub prepare_fails_so : {K : Type 0} (picks : K → List Svid → Option ℕ) (setting : LiveSetting)
     (set : Settings K) (valid own : Result (Unit {0}) EndpointError) (before now : ℕ)
     (supervisor place output : Type 0) (e : X509SourceError) (found : LiveError) → own ≡ valid
-    → found ≡ error_of e → IsSetTo picks setting set → (Refused before now → place)
+    → found ≡ error_of e → IsSetTo picks setting set → (Rose before now → place)
     → PrepareFails picks set own before now e
     → FailsBy picks setting valid supervisor place output found
 prepare_fails_so picks setting set valid own before now supervisor place output e found valid_is

@@ -1,7 +1,6 @@
 //! The lines of a source that was built.
 
 ghost use Rattle.std.specs.Prelude.{◌≡◌, ◌≤◌, IfErr};
-ghost use Rattle.spf_board.specs.Passes.{Rose as Refused};
 ghost use Rattle.spf_io.specs.Outside.{Rose};
 ghost use Rattle.spf_live.specs.Printing.{PrintsTo};
 ghost use Rattle.spf_live.specs.Runs.{FollowFails};
@@ -35,7 +34,7 @@ pub(crate) fn print_source<R: Wait + time::Clock, T: Clock, L: Places, K: Sink>(
     ensures board { result.0.book ≡ pass.book }
     ensures places { L.refusals places.old ≤ L.refusals places.new }
     ensures cause { IfErr result.1 (FollowFails
-        (Refused (L.refusals places.old) (L.refusals places.new))
+        (Rose (L.refusals places.old) (L.refusals places.new))
         (Rose (K.failures out.old) (K.failures out.new))) }
 {
     let mut pass = pass;

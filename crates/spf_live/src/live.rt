@@ -1,7 +1,6 @@
 //! A live run over a spawner of any kind.
 
 ghost use Rattle.std.specs.Prelude.{◌≡◌, ◌↔◌, None, map, string_bytes};
-ghost use Rattle.spf_board.specs.Passes.{Rose as Refused};
 ghost use Rattle.spf_io.specs.Outside.{Rose};
 ghost use Rattle.spf_options.specs.Live.{live_setting};
 ghost use Rattle.spf_program.specs.Streams.{side};
@@ -58,7 +57,7 @@ where
     // yielded. Where they were not, the status and the line on `errors` say why.
     ensures ended { Ended (C.members connector) (⟦<HintPicker as SvidPicker>⟧.picks)
         (C.validates connector) (Rose (S.refusals spawner.old) (S.refusals spawner.new))
-        (Refused (L.refusals places.old) (L.refusals places.new))
+        (Rose (L.refusals places.old) (L.refusals places.new))
         (Rose (K.failures out.old) (K.failures out.new))
         (live_setting (map string_bytes arguments.now)) (T.moments clock.old)
         (T.moments clock.new) (K.held out.old) (K.held out.new)
@@ -98,7 +97,7 @@ where
     R: Wait + time::Clock + Copy + Drop,
     ensures does { Does (C.members connector) (⟦<HintPicker as SvidPicker>⟧.picks)
         (C.validates connector) (Rose (S.refusals spawner.old) (S.refusals spawner.new))
-        (Refused (L.refusals places.old) (L.refusals places.new))
+        (Rose (L.refusals places.old) (L.refusals places.new))
         (Rose (K.failures out.old) (K.failures out.new))
         (live_setting (map string_bytes arguments.now)) (T.moments clock.old)
         (T.moments clock.new) (K.held out.old) (K.held out.new) result }

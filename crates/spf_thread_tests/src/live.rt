@@ -164,7 +164,7 @@ fn is_stopped_soon<R: Threads + Wait + Copy + Drop + Send + 'static>(
     requires job { handle.job.board ≡ source.board }
 {
     let mut pass = pass;
-    let is_read = reads(host, &source, &mut pass, (0, false)) && is_set_soon(host, &marks.told);
+    let is_read = reads(host, &source, &mut pass, (0, false)) && is_set_soon(host, &marks.reached);
     let begun = Instant::now(&host);
     let is_recorded = records(handle, &mut pass, &[Kind::Accept]);
     is_read && is_recorded && is_soon(host, begun)
@@ -186,7 +186,7 @@ fn is_read_meanwhile<R: Threads + Wait + Copy + Drop + Send + 'static>(
     requires job { handle.job.board ≡ source.board }
 {
     let mut pass = pass;
-    let is_read = is_set_soon(host, &marks.told) && reads(host, &source, &mut pass, (1, true));
+    let is_read = is_set_soon(host, &marks.reached) && reads(host, &source, &mut pass, (1, true));
     if is_read {
         marks.go.set();
     }
@@ -198,7 +198,7 @@ fn is_read_meanwhile<R: Threads + Wait + Copy + Drop + Send + 'static>(
 /// An item, and another one.
 static ANOTHER_ITEM: [Scene; 2] = [("CN I1", None), ("CN I1F", None)];
 
-/// Whether a step is read and recorded whose supervisor is closed before it has told its recorder.
+/// Whether a step is read and recorded whose supervisor is closed before it reaches its recorder.
 fn is_kept_at_shutdown<R: Threads + Wait + Copy + Drop + Send + 'static>(
     host: HostRuntime,
     source: X509Source,
@@ -210,7 +210,7 @@ fn is_kept_at_shutdown<R: Threads + Wait + Copy + Drop + Send + 'static>(
     requires job { handle.job.board ≡ source.board }
 {
     let mut pass = pass;
-    let is_read = is_set_soon(host, &marks.told) && reads(host, &source, &mut pass, (1, false));
+    let is_read = is_set_soon(host, &marks.reached) && reads(host, &source, &mut pass, (1, false));
     marks.go.set();
     let is_recorded = records(handle, &mut pass, &[Kind::Accept, Kind::Accept]);
     is_read && is_recorded

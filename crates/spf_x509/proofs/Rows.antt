@@ -22,17 +22,7 @@ use Rattle.spf_x509.specs.declared.error.CertificateError.TheVariants.{MissingSp
 use Rattle.spf_x509.specs.declared.error.CertificateError.TheVariants.{MultipleUriSanEntries}
 use Rattle.spf_x509.specs.declared.error.CertificateError.TheVariants.{InvalidSpiffeId}
 use Rattle.spf_x509.specs.declared.error.PrivateKeyError.TheVariants.{DecodePkcs8}
-use Rattle.spf_x509.specs.declared.svid_error.X509SvidError.TheVariants.{EmptyChain}
-use Rattle.spf_x509.specs.declared.svid_error.X509SvidError.TheVariants.{LeafCertificateHasCaFlag}
-use Rattle.spf_x509.specs.declared.svid_error.X509SvidError.TheVariants.{LeafCertificateHasCrlSign}
-use Rattle.spf_x509.specs.declared.svid_error.X509SvidError.TheVariants.{LeafCertificateHasKeyCertSign}
-use Rattle.spf_x509.specs.declared.svid_error.X509SvidError.TheVariants.{LeafCertificateMissingDigitalSignature}
-use Rattle.spf_x509.specs.declared.svid_error.X509SvidError.TheVariants.{SigningCertificateMissingCaFlag}
-use Rattle.spf_x509.specs.declared.svid_error.X509SvidError.TheVariants.{SigningCertificateMissingKeyCertSign}
-use Rattle.spf_x509.specs.declared.svid_error.X509SvidError.TheVariants.{UnparseableExtension}
-use Rattle.spf_x509.specs.declared.svid_error.X509SvidError.TheVariants.{Certificate}
-use Rattle.spf_x509.specs.declared.svid_error.X509SvidError.TheVariants.{LeafSpiffeIdMissingPath}
-use Rattle.spf_x509.specs.declared.svid_error.X509SvidError.TheVariants.{PrivateKey}
+use Rattle.spf_x509.specs.declared.svid_error.X509SvidError.TheVariants as errors
 use Rattle.spf_x509.specs.Certificate.{extension_rule, uri_rule, uris_rule, san_rule}
 use Rattle.spf_x509.specs.Key.{key_rule}
 use Rattle.spf_x509.specs.Rule.{usage_rule, ca_rule, leaf_rule, intermediate_rule}
@@ -94,11 +84,12 @@ unfolding leaf_rule intermediate_rule usage_rule ca_rule san_rule extension_rule
     default_false_at key_rule key_at small_integer_at after_algorithm_at object_identifier_at
 whole = refl
 
-empty_chain : svid_of [] key None ≡ Err EmptyChain
+empty_chain : svid_of [] key None ≡ Err errors.EmptyChain
 unfolding svid_of chain_rule
 empty_chain = refl
 
-no_key : svid_of_parts (0 ∷ []) None ((leaf, []) ∷ []) ≡ Err (PrivateKey (DecodePkcs8 (record {})))
+no_key : svid_of_parts (0 ∷ []) None ((leaf, []) ∷ [])
+    ≡ Err (errors.PrivateKey (DecodePkcs8 (record {})))
 unfolding leaf_rule usage_rule ca_rule san_rule extension_rule uri_rule id_rule parts_rule
     domain_rule segment_rule has_spiffe_scheme key_usage_of basic_constraints_of san_uris_of name_at
     value_at whole_at tagged_at optional_at contents_at length_at default_false_at key_rule key_at
@@ -106,7 +97,7 @@ no_key = refl
 
 -- the chain is looked at before the key
 chain_before_key : svid_of_parts (0 ∷ []) None ((leaf, []) ∷ (root, []) ∷ [])
-    ≡ Err (Certificate (MissingX509Extension BasicConstraints))
+    ≡ Err (errors.Certificate (MissingX509Extension BasicConstraints))
 unfolding leaf_rule intermediate_rule usage_rule ca_rule san_rule extension_rule uri_rule id_rule
     parts_rule domain_rule segment_rule has_spiffe_scheme key_usage_of basic_constraints_of
     san_uris_of name_at value_at whole_at tagged_at optional_at contents_at length_at
@@ -115,48 +106,50 @@ chain_before_key = refl
 
 -- the rule of a leaf
 
-inter_as_leaf : leaf_rule inter ≡ Err LeafCertificateMissingDigitalSignature
+inter_as_leaf : leaf_rule inter ≡ Err errors.LeafCertificateMissingDigitalSignature
 unfolding leaf_rule usage_rule extension_rule key_usage_of whole_at tagged_at contents_at length_at
 inter_as_leaf = refl
 
 leaf_that_signs_certificates : leaf_rule (kept (usage 132 ∷ no_ca ∷ w ∷ []))
-    ≡ Err LeafCertificateHasKeyCertSign
+    ≡ Err errors.LeafCertificateHasKeyCertSign
 unfolding leaf_rule usage_rule extension_rule key_usage_of whole_at tagged_at contents_at length_at
 leaf_that_signs_certificates = refl
 
 -- cRLSign is looked at before keyCertSign
-leaf_that_signs_both : leaf_rule (kept (usage 134 ∷ no_ca ∷ w ∷ [])) ≡ Err LeafCertificateHasCrlSign
+leaf_that_signs_both : leaf_rule (kept (usage 134 ∷ no_ca ∷ w ∷ []))
+    ≡ Err errors.LeafCertificateHasCrlSign
 unfolding leaf_rule usage_rule extension_rule key_usage_of whole_at tagged_at contents_at length_at
 leaf_that_signs_both = refl
 
 unused_bits : leaf_rule (kept (extension 15 (3 ∷ 2 ∷ 8 ∷ 128 ∷ []) ∷ no_ca ∷ w ∷ []))
-    ≡ Err (UnparseableExtension (codes "KeyUsage"))
+    ≡ Err (errors.UnparseableExtension (codes "KeyUsage"))
 unfolding leaf_rule usage_rule extension_rule key_usage_of whole_at tagged_at contents_at length_at
 unused_bits = refl
 
-no_usage : leaf_rule (kept (no_ca ∷ w ∷ [])) ≡ Err (Certificate (MissingX509Extension KeyUsage))
+no_usage : leaf_rule (kept (no_ca ∷ w ∷ []))
+    ≡ Err (errors.Certificate (MissingX509Extension KeyUsage))
 unfolding leaf_rule usage_rule extension_rule
 no_usage = refl
 
 two_usages : leaf_rule (kept (usage 128 ∷ usage 128 ∷ w ∷ []))
-    ≡ Err (Certificate (ParseX509Certificate DuplicateExtensions))
+    ≡ Err (errors.Certificate (ParseX509Certificate DuplicateExtensions))
 unfolding leaf_rule usage_rule extension_rule
 two_usages = refl
 
 null_constraints : leaf_rule (kept (usage 128 ∷ extension 19 (5 ∷ 0 ∷ []) ∷ w ∷ []))
-    ≡ Err (UnparseableExtension (codes "BasicConstraints"))
+    ≡ Err (errors.UnparseableExtension (codes "BasicConstraints"))
 unfolding leaf_rule usage_rule ca_rule extension_rule key_usage_of basic_constraints_of whole_at
     tagged_at contents_at length_at
 null_constraints = refl
 
-leaf_with_ca : leaf_rule (kept (usage 128 ∷ ca ∷ w ∷ [])) ≡ Err LeafCertificateHasCaFlag
+leaf_with_ca : leaf_rule (kept (usage 128 ∷ ca ∷ w ∷ [])) ≡ Err errors.LeafCertificateHasCaFlag
 unfolding leaf_rule usage_rule ca_rule extension_rule key_usage_of basic_constraints_of whole_at
     tagged_at optional_at contents_at length_at default_false_at
 leaf_with_ca = refl
 
 no_path : leaf_rule
     (kept (usage 128 ∷ no_ca ∷ names (name 134 (codes "spiffe://example.org")) ∷ []))
-    ≡ Err LeafSpiffeIdMissingPath
+    ≡ Err errors.LeafSpiffeIdMissingPath
 unfolding leaf_rule usage_rule ca_rule san_rule extension_rule uri_rule id_rule parts_rule
     domain_rule has_spiffe_scheme key_usage_of basic_constraints_of san_uris_of name_at value_at
     whole_at tagged_at optional_at contents_at length_at default_false_at
@@ -165,13 +158,13 @@ no_path = refl
 -- the rule of an intermediate
 
 intermediate_without_ca : intermediate_rule (kept (usage 4 ∷ no_ca ∷ []))
-    ≡ Err SigningCertificateMissingCaFlag
+    ≡ Err errors.SigningCertificateMissingCaFlag
 unfolding intermediate_rule usage_rule ca_rule extension_rule key_usage_of basic_constraints_of
     whole_at tagged_at optional_at contents_at length_at default_false_at
 intermediate_without_ca = refl
 
 intermediate_without_usage : intermediate_rule (kept (usage 128 ∷ ca ∷ []))
-    ≡ Err SigningCertificateMissingKeyCertSign
+    ≡ Err errors.SigningCertificateMissingKeyCertSign
 unfolding intermediate_rule usage_rule ca_rule extension_rule key_usage_of basic_constraints_of
     whole_at tagged_at optional_at contents_at length_at default_false_at
 intermediate_without_usage = refl

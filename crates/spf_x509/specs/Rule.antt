@@ -9,20 +9,13 @@ use Rattle.spf_der.specs.declared.extensions.KeyUsageBits.{KeyUsageBits}
 use Rattle.spf_x509.specs.declared.extension.X509ExtensionId.TheVariants.{KeyUsage}
 use Rattle.spf_x509.specs.declared.extension.X509ExtensionId.TheVariants.{BasicConstraints}
 use Rattle.spf_x509.specs.declared.svid_error.X509SvidError.{X509SvidError}
-use Rattle.spf_x509.specs.declared.svid_error.X509SvidError.TheVariants.{LeafCertificateHasCaFlag}
-use Rattle.spf_x509.specs.declared.svid_error.X509SvidError.TheVariants.{LeafCertificateHasCrlSign}
-use Rattle.spf_x509.specs.declared.svid_error.X509SvidError.TheVariants.{LeafCertificateHasKeyCertSign}
-use Rattle.spf_x509.specs.declared.svid_error.X509SvidError.TheVariants.{LeafCertificateMissingDigitalSignature}
-use Rattle.spf_x509.specs.declared.svid_error.X509SvidError.TheVariants.{SigningCertificateMissingCaFlag}
-use Rattle.spf_x509.specs.declared.svid_error.X509SvidError.TheVariants.{SigningCertificateMissingKeyCertSign}
-use Rattle.spf_x509.specs.declared.svid_error.X509SvidError.TheVariants.{UnparseableExtension}
-use Rattle.spf_x509.specs.declared.svid_error.X509SvidError.TheVariants.{LeafSpiffeIdMissingPath}
+use Rattle.spf_x509.specs.declared.svid_error.X509SvidError.TheVariants as errors
 use Rattle.spf_x509.specs.Errors.{svid_of_certificate}
 use Rattle.spf_x509.specs.Certificate.{oid_of, extension_rule, san_rule}
 
 -- what is read of an extension of that name
 abbrev pub readable : {A : Type 0} → List ℕ → Option A → Result A X509SvidError
-readable name None = Err (UnparseableExtension name)
+readable name None = Err (errors.UnparseableExtension name)
 readable name (Some x) = Ok x
 
 -- the key usage of a certificate (RFC 5280 section 4.2.1.3)
@@ -45,9 +38,9 @@ must kept e = if kept then Ok tt else Err e
 -- a leaf signs, and signs neither CRLs nor certificates
 abbrev pub leaf_usage : KeyUsageBits → Result (Unit {0}) X509SvidError
 leaf_usage usage = do
-  _ ← must usage.digital_signature LeafCertificateMissingDigitalSignature
-  _ ← must (not usage.crl_sign) LeafCertificateHasCrlSign
-  must (not usage.key_cert_sign) LeafCertificateHasKeyCertSign
+  _ ← must usage.digital_signature errors.LeafCertificateMissingDigitalSignature
+  _ ← must (not usage.crl_sign) errors.LeafCertificateHasCrlSign
+  must (not usage.key_cert_sign) errors.LeafCertificateHasKeyCertSign
 
 -- LeafRule: the ID and the expiry of a leaf, or the first broken rule
 unfoldable pub leaf_rule : Parts → Result (Id × ℤ) X509SvidError
@@ -55,15 +48,15 @@ leaf_rule parts = do
   usage ← usage_rule parts
   _ ← leaf_usage usage
   ca ← ca_rule parts
-  _ ← must (not ca) LeafCertificateHasCaFlag
+  _ ← must (not ca) errors.LeafCertificateHasCaFlag
   id ← broken_as svid_of_certificate (san_rule parts)
-  _ ← must (not (length id.path == 0)) LeafSpiffeIdMissingPath
+  _ ← must (not (length id.path == 0)) errors.LeafSpiffeIdMissingPath
   Ok (id, parts.expiry)
 
 -- SignRule: an intermediate may sign certificates
 unfoldable pub intermediate_rule : Parts → Result (Unit {0}) X509SvidError
 intermediate_rule parts = do
   ca ← ca_rule parts
-  _ ← must ca SigningCertificateMissingCaFlag
+  _ ← must ca errors.SigningCertificateMissingCaFlag
   usage ← usage_rule parts
-  must usage.key_cert_sign SigningCertificateMissingKeyCertSign
+  must usage.key_cert_sign errors.SigningCertificateMissingKeyCertSign

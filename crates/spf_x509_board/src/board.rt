@@ -7,7 +7,7 @@ ghost use Rattle.spf_history.specs.Lists.{is_ended};
 ghost use Rattle.spf_feed.specs.Steps.{MayFollow};
 ghost use Rattle.spf_x509_board.specs.Steps.{Legal};
 
-use crate::desk::{Desk, Ended, Held};
+use crate::desk::{Desk, Ended, DeskWriter};
 use crate::kind::X509;
 use crate::pass::Pass;
 use spf_board::open_board;
@@ -29,7 +29,7 @@ pub fn open<R: Wait + Drop>(
         × (r.1.entered ≡ r.0.list) × (r.1.missed ≡ 0) × (r.1.closed ≡ None)) }
 {
     let (writer, scribe, memory, mut readers) = open_board::<X509, R>(alloc, &rt, step)?;
-    let held = Held::new(writer, scribe, rt);
+    let held = DeskWriter::new(writer, scribe, rt);
     let Some(reader) = readers.pop() else {
         return Err(OutOfMemory);
     };

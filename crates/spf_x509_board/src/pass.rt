@@ -7,7 +7,7 @@ ghost use Rattle.left_right.specs.Sides.{view};
 ghost use Rattle.spf_history.specs.Lists.{steps_of, IsBoardList};
 ghost use Rattle.spf_board.specs.Board.{IsBoundTo};
 ghost use Rattle.spf_board.specs.Passes.{Renews, Peeks};
-ghost use Rattle.spf_close.specs.Marks.{Held};
+ghost use Rattle.spf_close.specs.Marks.{Mark};
 ghost use Rattle.spf_x509_board.specs.Passes.{read_of};
 ghost use Rattle.spf_x509_board.specs.Steps.{Legal, Replays, is_usable};
 ghost use Rattle.spf_x509_board.specs.States.{IsStateOf};
@@ -158,7 +158,7 @@ impl Pass {
 
     /// Returns who closed the source, if the look that was noted last has found that it is closed.
     pub fn closed_by(&self) -> Option<Maker>
-        ensures { result ≡ option_map (λ (mark : Held). mark.maker) self.now.closed }
+        ensures { result ≡ option_map (λ (mark : Mark). mark.maker) self.now.closed }
     {
         match &self.closed {
             Some(closed) => Some(closed.maker()),

@@ -5,8 +5,7 @@ use Rattle.std.specs.Duration.{as_nanos}
 use Rattle.std.specs.Option.{option_map}
 use Rattle.spf_api.specs.declared.endpoint_error.EndpointError.{EndpointError}
 use Rattle.spf_api.specs.declared.error.WorkloadApiError.TheVariants as api
-use Rattle.spf_board.specs.Passes.{Rose}
-use Rattle.spf_io.specs.Outside.{Rose as Refused}
+use Rattle.spf_io.specs.Outside.{Rose}
 use Rattle.spf_endpoint.specs.Endpoint.{is_memory}
 use Rattle.spf_link.specs.Connecting.{Member}
 use Rattle.spf_pace.specs.Bounds.{IsDefault as HasDefaultBounds}
@@ -80,7 +79,7 @@ PrepareFails picks set valid before now e = SyncFails picks set valid e
 -- the same, which may find no supervisor after that
 abbrev pub BuildFails : {K : Type 0} → (K → List Svid → Option ℕ) → Settings K
     → Result (Unit {0}) EndpointError → ℕ → ℕ → ℕ → ℕ → X509SourceError → Type 0
-BuildFails picks set valid before now started starts errors.NoSupervisor = Refused started starts
+BuildFails picks set valid before now started starts errors.NoSupervisor = Rose started starts
 BuildFails picks set valid before now started starts e = PrepareFails picks set valid before now e
 
 -- What an initial synchronisation leaves to a supervisor: the rules are those of the builder, the

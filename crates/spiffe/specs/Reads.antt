@@ -11,9 +11,10 @@ use Rattle.spf_feed.specs.declared.state.X509SourceError.{X509SourceError}
 use Rattle.spf_feed.specs.declared.state.X509SourceError.TheVariants as errors
 use Rattle.spf_feed.specs.declared.step.Denial.{Denial}
 use Rattle.spf_feed.specs.Steps.{StateView, View, Material, held_in, reason_of}
+use Rattle.spf_io.specs.Outside.{Rose}
 use Rattle.spf_io.specs.declared.memory.OutOfMemory.{OutOfMemory}
-use Rattle.spf_board.specs.Passes.{Peeks, Renews, Rose}
-use Rattle.spf_close.specs.Marks.{held}
+use Rattle.spf_board.specs.Passes.{Peeks, Renews}
+use Rattle.spf_close.specs.Marks.{mark_by}
 use Rattle.spf_close.specs.declared.maker.Maker.TheVariants as makers
 use Rattle.spf_x509_board.specs.Passes.{PassView, read_of}
 use Rattle.spf_x509_board.specs.Steps.{Legal, Replays, is_usable}
@@ -32,7 +33,7 @@ pub record LooksAt (cell : ℕ) (old new : PassView) : Type 0 where
 
 -- a caller closed this cell, which the pass knows by a note
 abbrev pub IsClosedByCaller : ℕ → PassView → Type 0
-IsClosedByCaller cell pass = pass.closed ≡ Some (held cell makers.Caller)
+IsClosedByCaller cell pass = pass.closed ≡ Some (mark_by cell makers.Caller)
 
 -- Why a call refuses without a read: a caller closed the cell, or memory ran out.
 abbrev pub HasClosedCause : ℕ → PassView → X509SourceError → Type 0
@@ -64,7 +65,7 @@ pub record Reads (old new : PassView) (holds : View Material Denial → Type 0) 
 abbrev pub Gets : {T : Type 0} → (View Material Denial → Result T X509SourceError → Type 0)
     → ℕ → PassView → PassView → Result T X509SourceError → Type 0
 Gets answer cell old new (Err errors.Closed) =
-    new ≡ record old { closed = Some (held cell makers.Caller) }
+    new ≡ record old { closed = Some (mark_by cell makers.Caller) }
 Gets answer cell old new (Err errors.OutOfMemory) = Unit {0}
 Gets answer cell old new (Err e) = Reads old new (λ view. answer view (Err e))
 Gets answer cell old new (Ok x) = Reads old new (λ view. answer view (Ok x))

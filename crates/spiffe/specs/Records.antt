@@ -1,7 +1,7 @@
 -- What a supervisor is given, and what it leaves.
 use Rattle.std.specs.Prelude.{◌≡◌, ℕ, List, Option, None, IfSome, reverse}
 use Rattle.logbook.specs.Pages.{Book}
-use Rattle.spf_close.specs.Marks.{Held}
+use Rattle.spf_close.specs.Marks.{Mark}
 use Rattle.spf_close.specs.declared.maker.Maker.TheVariants as makers
 use Rattle.spf_history.specs.Past.{Past}
 use Rattle.spf_link.specs.Connecting.{Member}
@@ -56,10 +56,10 @@ pub record Recorded (K : Type 0) : Type 0 where
   pub picker : Option K
   pub pace : Pace
   -- who closed which cell
-  pub closed : Held
+  pub closed : Mark
 
 abbrev pub recorded_of : {K : Type 0} → List Event → List PlainStep → SessionRules → Option K → Pace
-    → Held → Recorded K
+    → Mark → Recorded K
 recorded_of run steps settings picker pace closed = record {
   run = run;
   steps = steps;

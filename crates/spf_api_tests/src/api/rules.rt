@@ -133,14 +133,14 @@ fn holds(
 /// What a context holds: this many SVIDs and bundles, and for a trust domain that authority or
 /// none.
 #[derive(Clone, Copy)]
-struct Held<'a> {
+struct HeldContext<'a> {
     svids: usize,
     bundles: usize,
     domain: &'a str,
     authority: &'a str,
 }
 
-fn is_held(alloc: Global, found: &X509Context, held: &Held<'_>) -> Result<bool, Fail> {
+fn is_held(alloc: Global, found: &X509Context, held: &HeldContext<'_>) -> Result<bool, Fail> {
     if found.svids().len() != held.svids || found.bundle_set().len() != held.bundles {
         return Ok(false);
     }
@@ -152,7 +152,7 @@ fn gives(
     alloc: Global,
     svids: &[SvidRow<'_>],
     federated: &[(&str, &str)],
-    held: &Held<'_>,
+    held: &HeldContext<'_>,
 ) -> Result<bool, Fail> {
     let response = context(alloc, svids, federated)?;
     let found = context_from(alloc, &response)?;
@@ -166,7 +166,7 @@ type ContextRow = (
     &'static str,
     &'static [SvidRow<'static>],
     &'static [(&'static str, &'static str)],
-    Held<'static>,
+    HeldContext<'static>,
 );
 
 const CONTEXTS: &[ContextRow] = &[
@@ -174,7 +174,7 @@ const CONTEXTS: &[ContextRow] = &[
         "empty_federated_bundle",
         &[FIRST],
         &[("other.org", "")],
-        Held {
+        HeldContext {
             svids: 1,
             bundles: 2,
             domain: "other.org",
@@ -185,7 +185,7 @@ const CONTEXTS: &[ContextRow] = &[
         "last_bundle_replaces",
         &[FIRST, SECOND],
         &[],
-        Held {
+        HeldContext {
             svids: 2,
             bundles: 1,
             domain: "example.org",
@@ -196,7 +196,7 @@ const CONTEXTS: &[ContextRow] = &[
         "federated_bundle_replaces",
         &[FIRST, SECOND],
         &[("example.org", "ROOT3")],
-        Held {
+        HeldContext {
             svids: 2,
             bundles: 1,
             domain: "example.org",

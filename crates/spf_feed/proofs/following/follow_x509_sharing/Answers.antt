@@ -32,8 +32,8 @@ returns-in-Ok-None-clause-followed g c =
     rules_with c.args.limits c.args.deadline c.args.ready
     (option_map (λ p. g.C.SvidPicker.picks p.now) c.args.picker) in
     let at = c.events.invariant.session in
-    let told = c.in-Ok-None.ensures.bytes session at.past at.asks in
-    let read = rw c.in-Ok-None.field-0-is at told in
+    let bytes = c.in-Ok-None.ensures.bytes session at.past at.asks in
+    let read = rw c.in-Ok-None.field-0-is at bytes in
     exit_end _ _ _ _ _ _ _ _ _ _ _ at (record { held = refl; steps = refl; records = refl }) read.0
     read.1 c.at_end.ensures.answer
 
@@ -53,8 +53,8 @@ returns-in_err-is_changed-clause-followed g c =
     rules_with c.args.limits c.args.deadline c.args.ready
     (option_map (λ p. g.C.SvidPicker.picks p.now) c.args.picker) in
     let at = c.events.invariant.session in
-    let told = c.in-Ok-Some.ensures.bytes session at.past at.asks in
-    let read = rw c.in-Ok-Some.field-0-is at told in
+    let bytes = c.in-Ok-Some.ensures.bytes session at.past at.asks in
+    let read = rw c.in-Ok-Some.field-0-is at bytes in
     let next = next_of _ _ _ _ _ _ _ _ _ _ _ at read in
     let p = err_from_is_err_and c.from_residual-in_err-is_changed.result
     c.from_residual-in_err-is_changed.ensures.1 in
@@ -68,8 +68,8 @@ returns-in_err-show-clause-followed g c =
     rules_with c.args.limits c.args.deadline c.args.ready
     (option_map (λ p. g.C.SvidPicker.picks p.now) c.args.picker) in
     let at = c.events.invariant.session in
-    let told = c.in-Ok-Some.ensures.bytes session at.past at.asks in
-    let read = rw c.in-Ok-Some.field-0-is at told in
+    let bytes = c.in-Ok-Some.ensures.bytes session at.past at.asks in
+    let read = rw c.in-Ok-Some.field-0-is at bytes in
     let next = next_of _ _ _ _ _ _ _ _ _ _ _ at read in
     let through =
     went_through session _ _ _ _ _ _ _ _ _ _ _ _ _ _ _ at read c.is_some-synced.ensures
@@ -84,8 +84,8 @@ returns-in-Err-put-clause-followed g c =
     rules_with c.args.limits c.args.deadline c.args.ready
     (option_map (λ p. g.C.SvidPicker.picks p.now) c.args.picker) in
     let at = c.events.invariant.session in
-    let told = c.in-Ok-Some.ensures.bytes session at.past at.asks in
-    let read = rw c.in-Ok-Some.field-0-is at told in
+    let bytes = c.in-Ok-Some.ensures.bytes session at.past at.asks in
+    let read = rw c.in-Ok-Some.field-0-is at bytes in
     let next = next_of _ _ _ _ _ _ _ _ _ _ _ at read in
     let through =
     went_through session _ _ _ _ _ _ _ _ _ _ _ _ _ _ _ at read c.is_some-synced.ensures
@@ -101,8 +101,8 @@ returns-then-is_close-clause-followed g c =
     rules_with c.args.limits c.args.deadline c.args.ready
     (option_map (λ p. g.C.SvidPicker.picks p.now) c.args.picker) in
     let at = c.events.invariant.session in
-    let told = c.in-Ok-Some.ensures.bytes session at.past at.asks in
-    let read = rw c.in-Ok-Some.field-0-is at told in
+    let bytes = c.in-Ok-Some.ensures.bytes session at.past at.asks in
+    let read = rw c.in-Ok-Some.field-0-is at bytes in
     let through =
     went_through session _ _ _ _ _ _ _ _ _ _ _ _ _ _ _ at read c.is_some-synced.ensures
     c.turn_of-turn.ensures.turn c.in_ok-is_changed.ensures.turn in
@@ -117,8 +117,8 @@ events-preserved g c =
     rules_with c.args.limits c.args.deadline c.args.ready
     (option_map (λ p. g.C.SvidPicker.picks p.now) c.args.picker) in
     let at = c.events.invariant.session in
-    let told = c.in-Ok-Some.ensures.bytes session at.past at.asks in
-    let read = rw c.in-Ok-Some.field-0-is at told in
+    let bytes = c.in-Ok-Some.ensures.bytes session at.past at.asks in
+    let read = rw c.in-Ok-Some.field-0-is at bytes in
     let through =
     went_through session _ _ _ _ _ _ _ _ _ _ _ _ _ _ _ at read c.is_some-synced.ensures
     c.turn_of-turn.ensures.turn c.in_ok-is_changed.ensures.turn in

@@ -30,8 +30,8 @@ pub returns-in-Ok-None-clause-followed : goal.returns-in-Ok-None-clause-followed
 returns-in-Ok-None-clause-followed g c =
     let session : Rules = record { limits = c.args.limits; deadline = c.args.deadline } in
     let at = c.events.invariant.session in
-    let told = c.in-Ok-None.ensures.bytes session at.past at.asks in
-    let read = rw c.in-Ok-None.field-0-is at told in
+    let bytes = c.in-Ok-None.ensures.bytes session at.past at.asks in
+    let read = rw c.in-Ok-None.field-0-is at bytes in
     exit_end _ _ _ _ _ _ _ _ _ _ at (record { held = refl; steps = refl; records = refl }) read.0
     read.1 c.at_end.ensures.answer
 
@@ -47,8 +47,8 @@ pub returns-in_err-is_changed-clause-followed : goal.returns-in_err-is_changed-c
 returns-in_err-is_changed-clause-followed g c =
     let session : Rules = record { limits = c.args.limits; deadline = c.args.deadline } in
     let at = c.events.invariant.session in
-    let told = c.in-Ok-Some.ensures.bytes session at.past at.asks in
-    let read = rw c.in-Ok-Some.field-0-is at told in
+    let bytes = c.in-Ok-Some.ensures.bytes session at.past at.asks in
+    let read = rw c.in-Ok-Some.field-0-is at bytes in
     let next = next_of _ _ _ _ _ _ _ _ _ _ at read in
     let p = err_from_is_err_and c.from_residual-in_err-is_changed.result
     c.from_residual-in_err-is_changed.ensures.1 in
@@ -60,8 +60,8 @@ pub returns-in_err-show-clause-followed : goal.returns-in_err-show-clause-follow
 returns-in_err-show-clause-followed g c =
     let session : Rules = record { limits = c.args.limits; deadline = c.args.deadline } in
     let at = c.events.invariant.session in
-    let told = c.in-Ok-Some.ensures.bytes session at.past at.asks in
-    let read = rw c.in-Ok-Some.field-0-is at told in
+    let bytes = c.in-Ok-Some.ensures.bytes session at.past at.asks in
+    let read = rw c.in-Ok-Some.field-0-is at bytes in
     let next = next_of _ _ _ _ _ _ _ _ _ _ at read in
     let through =
     went_through session _ _ _ _ _ _ _ _ _ _ _ _ _ _ at read c.is_some-synced.ensures
@@ -74,8 +74,8 @@ pub returns-in-Err-put-clause-followed : goal.returns-in-Err-put-clause-followed
 returns-in-Err-put-clause-followed g c =
     let session : Rules = record { limits = c.args.limits; deadline = c.args.deadline } in
     let at = c.events.invariant.session in
-    let told = c.in-Ok-Some.ensures.bytes session at.past at.asks in
-    let read = rw c.in-Ok-Some.field-0-is at told in
+    let bytes = c.in-Ok-Some.ensures.bytes session at.past at.asks in
+    let read = rw c.in-Ok-Some.field-0-is at bytes in
     let next = next_of _ _ _ _ _ _ _ _ _ _ at read in
     let through =
     went_through session _ _ _ _ _ _ _ _ _ _ _ _ _ _ at read c.is_some-synced.ensures
@@ -88,8 +88,8 @@ pub returns-then-is_close-clause-followed : goal.returns-then-is_close-clause-fo
 returns-then-is_close-clause-followed g c =
     let session : Rules = record { limits = c.args.limits; deadline = c.args.deadline } in
     let at = c.events.invariant.session in
-    let told = c.in-Ok-Some.ensures.bytes session at.past at.asks in
-    let read = rw c.in-Ok-Some.field-0-is at told in
+    let bytes = c.in-Ok-Some.ensures.bytes session at.past at.asks in
+    let read = rw c.in-Ok-Some.field-0-is at bytes in
     let through =
     went_through session _ _ _ _ _ _ _ _ _ _ _ _ _ _ at read c.is_some-synced.ensures
     c.turn_of-turn.ensures.turn c.in_ok-is_changed.ensures.turn in
@@ -101,8 +101,8 @@ pub events-preserved : goal.events-preserved
 events-preserved g c =
     let session : Rules = record { limits = c.args.limits; deadline = c.args.deadline } in
     let at = c.events.invariant.session in
-    let told = c.in-Ok-Some.ensures.bytes session at.past at.asks in
-    let read = rw c.in-Ok-Some.field-0-is at told in
+    let bytes = c.in-Ok-Some.ensures.bytes session at.past at.asks in
+    let read = rw c.in-Ok-Some.field-0-is at bytes in
     let through =
     went_through session _ _ _ _ _ _ _ _ _ _ _ _ _ _ at read c.is_some-synced.ensures
     c.turn_of-turn.ensures.turn c.in_ok-is_changed.ensures.turn in

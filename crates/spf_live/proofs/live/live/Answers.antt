@@ -1,7 +1,8 @@
 use Rattle.std.proofs.Common.{◌∙◌, ap, refl, sym, Err, Ok}
 use Rattle.spf_live.specs.declared.error.LiveError.TheVariants as errors
 use Rattle.spf_live.proofs.EndLemmas.{does_by, does_early}
-use Rattle.spf_live.proofs.Failing.{prepare_fails_so, refused_since, runs_fail_by}
+use Rattle.spf_io.proofs.Counts.{Rose-after}
+use Rattle.spf_live.proofs.Failing.{prepare_fails_so, runs_fail_by}
 use Rattle.spf_live.proofs.Following.{failed_follows, followed_by, runs_yielded, unrecorded_follows}
 use Rattle.spf_live.proofs.live.live.Goals as goal
 
@@ -41,7 +42,7 @@ returns-in-Err-default g c = record {
       c.print_source-pass.result.1 c.in-Err-default.e c.print_source-pass.result.0.seen
       c.in-Err-default.is-0 c.print_source-pass.ensures.prints))
       (runs_fail_by _ c.in-Some.options _ _ _ _ _ c.print_source-pass.result.1 c.in-Err-default.e
-      c.in-Err-default.is-0 (refused_since _ _ _ c.in-Ok-prepare.ensures.places)
+      c.in-Err-default.is-0 (Rose-after _ _ _ c.in-Ok-prepare.ensures.places)
       c.print_source-pass.ensures.cause);
 }
 

@@ -17,12 +17,12 @@ returns-in-Some-clause-cause g c =
 pub returns-in-None-clause-fetches : goal.returns-in-None-clause-fetches
 returns-in-None-clause-fetches g c =
     fetched_again g.C.Connector g.C.Link.Link _ _ _ _ c.ask.result c.ask-in-None.result
-    c.told.result c.ask.ensures (sym c.settled.ensures ∙ c.in-None.is) c.ask-in-None.ensures
-    c.told.ensures
+    c.result_of.result c.ask.ensures (sym c.settled.ensures ∙ c.in-None.is) c.ask-in-None.ensures
+    c.result_of.ensures
 
 pub returns-in-None-clause-cause : goal.returns-in-None-clause-cause
 returns-in-None-clause-cause g c =
-    fetch_caused g.C.Connector g.C.Link.Link _ _ _ c.told.result
+    fetch_caused g.C.Connector g.C.Link.Link _ _ _ c.result_of.result
     (fetched_again g.C.Connector g.C.Link.Link _ _ _ _ c.ask.result c.ask-in-None.result
-    c.told.result c.ask.ensures (sym c.settled.ensures ∙ c.in-None.is) c.ask-in-None.ensures
-    c.told.ensures)
+    c.result_of.result c.ask.ensures (sym c.settled.ensures ∙ c.in-None.is) c.ask-in-None.ensures
+    c.result_of.ensures)

@@ -2,8 +2,8 @@ use Rattle.std.proofs.Common.{◌≡◌, ◌⊎◌, ap, ◌∙◌, subst}
 use Rattle.spf_history.specs.declared.entry.Entry.TheVariants as entry
 use Rattle.spf_history.specs.Lists.{is_ended}
 use Rattle.spf_history.specs.Past.{added}
-use Rattle.spf_x509_board.proofs.Publishing.{ended_by, either_end}
-use Rattle.spf_x509_board.proofs.desk.Held.end.Goals as goal
+use Rattle.spf_jwt_board.proofs.Publishing.{ended_by, either_end}
+use Rattle.spf_jwt_board.proofs.desk.DeskWriter.end.Goals as goal
 
 pub returns-clause-whole : goal.returns-clause-whole
 returns-clause-whole g c =

@@ -29,12 +29,12 @@ impl Origin for Brand {
 
 /// The publisher of one call.
 #[derive(Drop)]
-pub(crate) struct Held<'a, D: Disk, N: Origin> {
+pub(crate) struct CallPublisher<'a, D: Disk, N: Origin> {
     inner: HelperPublisher<'a, D>,
     of: PhantomData<N>,
 }
 
-impl<'a, D: Disk, N: Origin> Model for Held<'a, D, N> {
+impl<'a, D: Disk, N: Origin> Model for CallPublisher<'a, D, N> {
     ghost use Rattle.spf_helper.specs.Helping.{Helping};
     ghost use Rattle.spf_helper.specs.Keeping.{IsKept};
 
@@ -46,13 +46,13 @@ impl<'a, D: Disk, N: Origin> Model for Held<'a, D, N> {
         N.past p.inner };
 }
 
-impl<'a, D: Disk, N: Origin> Held<'a, D, N> {
-    pub(crate) fn new(inner: HelperPublisher<'a, D>) -> Held<'a, D, N>
+impl<'a, D: Disk, N: Origin> CallPublisher<'a, D, N> {
+    pub(crate) fn new(inner: HelperPublisher<'a, D>) -> CallPublisher<'a, D, N>
         requires { IsKept D.seen D.may_leave D.moment D.left_since D.failures N.begin N.past
             inner }
         ensures { result ≡ inner.entry }
     {
-        Held {
+        CallPublisher {
             inner,
             of: PhantomData,
         }
@@ -64,12 +64,12 @@ impl<'a, D: Disk, N: Origin> Held<'a, D, N> {
         ensures kept { IsKept D.seen D.may_leave D.moment D.left_since D.failures N.begin N.past
             result }
     {
-        let Held { inner, .. } = self;
+        let CallPublisher { inner, .. } = self;
         inner
     }
 }
 
-impl<'a, D: Disk, N: Origin> Publisher for Held<'a, D, N> {
+impl<'a, D: Disk, N: Origin> Publisher for CallPublisher<'a, D, N> {
     ghost use Rattle.std.specs.Prelude.{Some};
 
     ghost steps = { λ p. Some p.steps };

@@ -1,6 +1,6 @@
 use Rattle.spf_feed.specs.Steps.{plain}
 use Rattle.spf_helper.proofs.KeepingLemmas.{kept_more}
-use Rattle.spf_helper.proofs.held.HeldPublisher.publish.Goals as goal
+use Rattle.spf_helper.proofs.call.CallPublisherPublisher.publish.Goals as goal
 
 pub invariant_of-self : goal.invariant_of-self
 invariant_of-self g c =
