@@ -116,7 +116,7 @@ fn late_ask<R: Wait + Drop>(
 const LINES: &str = "no-rule 0 spiffe://example.org/w\nwithdrawn 1 spiffe://example.org/w\n";
 
 /// Whether the second of two asks is answered by a denial that another pass has read between them.
-fn is_late_denial_told<R: Wait + Drop>(rt: R, alloc: Global) -> Result<bool, Fail> {
+fn is_late_denial_answered<R: Wait + Drop>(rt: R, alloc: Global) -> Result<bool, Fail> {
     let mut out = MemSink::new(alloc, 4096, Vec::new(alloc))?;
     let (mut source, mut pass, desk, _stop) = opened(rt, alloc)?;
     let mut input = late_ask(alloc, &mut source, &mut pass, desk)?;
@@ -126,6 +126,6 @@ fn is_late_denial_told<R: Wait + Drop>(rt: R, alloc: Global) -> Result<bool, Fai
 
 #[test]
 fn denial_between_two_asks(rt: HostRuntime) -> Result<(), Fail> {
-    assert!(rt; is_late_denial_told(rt, rt.alloc())?);
+    assert!(rt; is_late_denial_answered(rt, rt.alloc())?);
     Ok(())
 }

@@ -108,7 +108,7 @@ pub record IsStreamRead (asked : Option ResponseKind) (old new : Ports)
   pub unput : Appends old.held new.held []
 
 -- a `next`, where responses of the kind were asked for
-pub record IsTold (asked : Option ResponseKind) (old new : Ports)
+pub record IsNextResponse (asked : Option ResponseKind) (old new : Ports)
     (result : Result (Option Response) LinkFault) : Type 0 where
   pub answer : Result (Result (Option Response) Refused) FrameError
   pub read : IsStreamRead asked old new answer

@@ -162,7 +162,7 @@ impl<S: Source, K: Sink> WireLink<S, K> {
 
 impl<S: Source, K: Sink> Link for WireLink<S, K> {
     ghost use Rattle.std.specs.Prelude.{None, is_some};
-    ghost use Rattle.spf_wire.specs.Wire.{IsStarted, IsTold};
+    ghost use Rattle.spf_wire.specs.Wire.{IsStarted, IsNextResponse};
 
     ghost refusals = { λ l. l.refused };
 
@@ -187,7 +187,7 @@ impl<S: Source, K: Sink> Link for WireLink<S, K> {
         }) result };
 
     ghost next_gives = { λ old result new.
-        IsTold old.asked
+        IsNextResponse old.asked
         (record {
           left = S.left old.source;
           held = K.held old.sink;
