@@ -98,8 +98,17 @@ fn read_from<'a>(
     }
 }
 
+/// Whether the SVID has the ID of the entry.
+fn is_named(svid: Option<&Arc<X509Svid>>, entry: &SvidEntryView<'_>) -> bool {
+    match svid {
+        Some(svid) => svid.spiffe_id().as_str() == entry.spiffe_id,
+        None => false,
+    }
+}
+
 /// Returns the SVID of the held context that was read from the bytes of the entry, at that index or
-/// beside it. An agent sends the SVIDs of a workload in an order that may change.
+/// beside it. An agent sends the SVIDs of a workload in an order that may change. Where the SVID at
+/// that index has the same ID and other bytes it was renewed, and nothing beside it is looked at.
 pub(crate) fn held_svid<'a>(
     held: Option<&'a X509Context>,
     index: usize,
@@ -108,8 +117,12 @@ pub(crate) fn held_svid<'a>(
     ensures { IfSome result (λ s. svid_of_entry (svid_entry_of entry.now) ≡ Ok (arc_value s.now)) }
 {
     let svids = held?.svids();
-    if let Some(svid) = read_from(svids.get(index), entry) {
+    let standing = svids.get(index);
+    if let Some(svid) = read_from(standing, entry) {
         return Some(svid);
+    }
+    if is_named(standing, entry) {
+        return None;
     }
     if let Some(svid) = read_from(svids.get(index.saturating_add(1)), entry) {
         return Some(svid);
