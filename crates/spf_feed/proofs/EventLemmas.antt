@@ -3,8 +3,7 @@ use Rattle.std.proofs.Common.{◌≡◌, ℕ, Bool, true, false, cond, List, [],
 use Rattle.std.proofs.Common.{refl, sym, ap, ◌∙◌, subst}
 use Rattle.std.specs.Prelude.{◌==◌, length, IsTrue}
 use Rattle.std.specs.Option.{option_map}
-use Rattle.spf_api.specs.Reading.{context_at}
-use Rattle.spf_view.specs.Sessions.{NoFrameAt}
+use Rattle.spf_view.specs.Sessions.{Stream, NoFrameAt}
 use Rattle.spf_view.proofs.FrameLemmas.{raw_same}
 use Rattle.spf_feed.specs.declared.event.SessionEvent.{SessionEvent}
 use Rattle.spf_feed.specs.declared.event.SessionEvent.TheVariants as events
@@ -17,8 +16,6 @@ use Rattle.spf_feed.specs.Frames.{allows, FitsFrame, raw_text, frame_front, NoFr
 use Rattle.spf_feed.specs.Frames.{IsUnread}
 use Rattle.spf_view.proofs.FrontLemmas.{frame_whole}
 use Rattle.std.proofs.lemmas.List.{append-nil}
-use Rattle.spf_feed.specs.Items.{Event, Received, Rules, context_in, item_at}
-use Rattle.spf_feed.specs.Run.{ask_of, stream}
 use Rattle.spf_frame.proofs.Parts.{none_from_front, unread_as}
 
 -- ---- an event whose item is read further
@@ -67,65 +64,72 @@ event_at-map_item {I} {J} f item kind payload =
 -- ---- frames of a session
 
 -- where no frame of an allowed kind begins, none of an allowed event does
-pub none_at : (rules : Rules) (past : List Event) (phase : Phase) (bytes : List ℕ)
-    → ask_of context_in rules past ≡ phase → NoFrame phase bytes
-    → NoFrameAt (stream rules) past bytes
-none_at rules past phase bytes asks none e front rest frame same =
-    none frame.kind frame.payload rest (subst (λ p. allows p frame.kind ≡ true) asks frame.allowed)
+pub none_at : {I T : Type 0} (s : Stream (SessionEvent I) T) (past : List (SessionEvent I))
+    (phase : Phase) (bytes : List ℕ) → s.allows past ≡ allows phase → NoFrame phase bytes
+    → NoFrameAt s past bytes
+none_at s past phase bytes may none e front rest frame same =
+    none frame.kind frame.payload rest (subst (λ p. p frame.kind ≡ true) may frame.allowed)
     frame.short (same ∙ ap (λ l. l ++ rest) frame.text)
 
 -- why no frame was read is also why no event was
-pub event_unread : (rules : Rules) (past : List Event) (phase : Phase) (allowed : Bool)
-    (old new : Option (List ℕ)) (e : FrameError) → ask_of context_in rules past ≡ phase
-    → IsUnread phase allowed old new e → IsEventUnread rules past allowed old new e
-event_unread rules past phase allowed old new e asks h =
-    unread_as (allows phase) ((stream rules).allows past) (NoFrame phase)
-    (NoFrameAt (stream rules) past) allowed old new e (sym (ap allows asks))
-    (λ ys none. none_at rules past phase ys asks none) h
+pub event_unread : {I T : Type 0} (s : Stream (SessionEvent I) T) (past : List (SessionEvent I))
+    (phase : Phase) (allowed : Bool) (old new : Option (List ℕ)) (e : FrameError)
+    → s.allows past ≡ allows phase → IsUnread phase allowed old new e
+    → IsEventUnread s past allowed old new e
+event_unread s past phase allowed old new e may h =
+    unread_as (allows phase) (s.allows past) (NoFrame phase) (NoFrameAt s past) allowed old new e
+    (sym may) (λ ys none. none_at s past phase ys may none) h
 
 -- a frame whose payload lays out nothing is not the frame of an event
-unlaid : (rules : Rules) (past : List Event) (kind : ℕ) (payload : List ℕ) → FitsFrame payload
-    → event_at item_at kind payload ≡ None → (ys : List ℕ)
-    → NoFrameAt (stream rules) past (raw_text kind payload ++ ys)
-unlaid rules past kind payload short none ys e front rest frame same =
+unlaid : {I J T : Type 0} (f : I → J) (lay : List ℕ → Option I) (s : Stream (SessionEvent I) T)
+    (past : List (SessionEvent I)) (kind : ℕ) (payload : List ℕ) → s.event_at ≡ event_at lay
+    → FitsFrame payload → event_at (λ b. option_map f (lay b)) kind payload ≡ None
+    → (ys : List ℕ) → NoFrameAt s past (raw_text kind payload ++ ys)
+unlaid f lay s past kind payload lays short none ys e front rest frame same =
     let parts =
     raw_same kind payload ys frame.kind frame.payload rest short frame.short
     (same ∙ ap (λ l. l ++ rest) frame.text) in
-    let laid : event_at context_at kind payload ≡ Some e =
-    ap (λ k. event_at context_at k payload) parts.0 ∙ ap (event_at context_at frame.kind) parts.1
-    ∙ frame.lays_out in
-    let both : None ≡ option_map (map_item context_in) (Some e) =
-    sym none ∙ event_at-map_item context_in context_at kind payload
-    ∙ ap (option_map (map_item context_in)) laid in
+    let laid : event_at lay kind payload ≡ Some e =
+    ap (λ k. event_at lay k payload) parts.0 ∙ ap (event_at lay frame.kind) parts.1
+    ∙ sym (ap (λ at. at frame.kind frame.payload) lays) ∙ frame.lays_out in
+    let both : None ≡ option_map (map_item f) (Some e) =
+    sym none ∙ event_at-map_item f lay kind payload ∙ ap (option_map (map_item f)) laid in
     absurd cc
 
 -- the event of a frame, as it is received
-pub record Laid (kind : ℕ) (payload : List ℕ) (received : Received) : Type 0 where
-  pub event : Event
-  pub lays_out : event_at context_at kind payload ≡ Some event
-  pub is : received ≡ map_item context_in event
+pub record Laid {I J : Type 0} (f : I → J) (lay : List ℕ → Option I) (kind : ℕ) (payload : List ℕ)
+    (received : SessionEvent J) : Type 0 where
+  pub event : SessionEvent I
+  pub lays_out : event_at lay kind payload ≡ Some event
+  pub is : received ≡ map_item f event
 
-laid_by : (o : Option Event) (kind : ℕ) (payload : List ℕ) (received : Received)
-    → event_at context_at kind payload ≡ o → Some received ≡ option_map (map_item context_in) o
-    → Laid kind payload received
-laid_by None kind payload received is h = absurd cc
-laid_by (Some e) kind payload received is h = record { event = e; lays_out = is; is = cc }
+laid_by : {I J : Type 0} (f : I → J) (lay : List ℕ → Option I) (o : Option (SessionEvent I))
+    (kind : ℕ) (payload : List ℕ) (received : SessionEvent J) → event_at lay kind payload ≡ o
+    → Some received ≡ option_map (map_item f) o → Laid f lay kind payload received
+laid_by f lay None kind payload received is h = absurd cc
+laid_by f lay (Some e) kind payload received is h =
+    record { event = e; lays_out = is; is = cc }
 
-pub laid : (kind : ℕ) (payload : List ℕ) (received : Received)
-    → Some received ≡ event_at item_at kind payload → Laid kind payload received
-laid kind payload received h =
-    laid_by (event_at context_at kind payload) kind payload received refl
-    (h ∙ event_at-map_item context_in context_at kind payload)
+pub laid : {I J : Type 0} (f : I → J) (lay : List ℕ → Option I) (kind : ℕ) (payload : List ℕ)
+    (received : SessionEvent J)
+    → Some received ≡ event_at (λ b. option_map f (lay b)) kind payload
+    → Laid f lay kind payload received
+laid f lay kind payload received h =
+    laid_by f lay (event_at lay kind payload) kind payload received refl
+    (h ∙ event_at-map_item f lay kind payload)
 
 -- ---- what was read
 
-pub read_event : (rules : Rules) (past : List Event) (phase : Phase) (allowed : Bool)
-    (old new : Option (List ℕ)) (kind : ℕ) (payload slice : List ℕ) (received : Received)
-    → ask_of context_in rules past ≡ phase
+pub read_event : {I J T : Type 0} (f : I → J) (lay : List ℕ → Option I)
+    (s : Stream (SessionEvent I) T) (past : List (SessionEvent I)) (phase : Phase) (allowed : Bool)
+    (old new : Option (List ℕ)) (kind : ℕ) (payload slice : List ℕ) (received : SessionEvent J)
+    → s.event_at ≡ event_at lay → s.allows past ≡ allows phase
     → IsRead phase allowed old new (record { kind = kind; payload = payload }) → slice ≡ payload
-    → Some received ≡ event_at item_at kind slice → IsEventRead rules past allowed old new received
-read_event rules past phase allowed old new kind payload slice received asks read same is =
-    let l = laid kind payload received (is ∙ ap (event_at item_at kind) same) in
+    → Some received ≡ event_at (λ b. option_map f (lay b)) kind slice
+    → IsEventRead f s past allowed old new received
+read_event f lay s past phase allowed old new kind payload slice received lays may read same is =
+    let l =
+    laid f lay kind payload received (is ∙ ap (event_at (λ b. option_map f (lay b)) kind) same) in
     record {
       leave = read.leave;
       event = l.event;
@@ -135,65 +139,69 @@ read_event rules past phase allowed old new kind payload slice received asks rea
         payload = payload;
         text = refl;
         short = read.short;
-        allowed = subst (λ p. allows p kind ≡ true) (sym asks) read.kind;
-        lays_out = l.lays_out;
+        allowed = subst (λ p. p kind ≡ true) (sym may) read.kind;
+        lays_out = ap (λ at. at kind payload) lays ∙ l.lays_out;
       };
       taken = read.taken;
       is = l.is;
     }
 
 -- the frame of an allowed kind is read whole
-front_whole : (rules : Rules) (past : List Event) (phase : Phase) (kind : ℕ) (payload ys : List ℕ)
-    → ask_of context_in rules past ≡ phase → IsTrue (allows phase kind) → FitsFrame payload
-    → frame_front ((stream rules).allows past) (raw_text kind payload ++ ys) ≡ raw_text kind payload
-front_whole rules past phase kind payload ys asks may fits =
-    frame_whole ((stream rules).allows past) kind payload ys
-    (subst (λ p. allows p kind ≡ true) (sym asks) may) fits
+front_whole : {I T : Type 0} (s : Stream (SessionEvent I) T) (past : List (SessionEvent I))
+    (phase : Phase) (kind : ℕ) (payload ys : List ℕ) → s.allows past ≡ allows phase
+    → IsTrue (allows phase kind) → FitsFrame payload
+    → frame_front (s.allows past) (raw_text kind payload ++ ys) ≡ raw_text kind payload
+front_whole s past phase kind payload ys may is fits =
+    frame_whole (s.allows past) kind payload ys (subst (λ p. p kind ≡ true) (sym may) is) fits
 
-front_alone : (rules : Rules) (past : List Event) (phase : Phase) (kind : ℕ) (payload : List ℕ)
-    → ask_of context_in rules past ≡ phase → IsTrue (allows phase kind) → FitsFrame payload
-    → frame_front ((stream rules).allows past) (raw_text kind payload) ≡ raw_text kind payload
-front_alone rules past phase kind payload asks may fits =
-    ap (frame_front ((stream rules).allows past)) (sym (append-nil (raw_text kind payload)))
-    ∙ front_whole rules past phase kind payload [] asks may fits
+front_alone : {I T : Type 0} (s : Stream (SessionEvent I) T) (past : List (SessionEvent I))
+    (phase : Phase) (kind : ℕ) (payload : List ℕ) → s.allows past ≡ allows phase
+    → IsTrue (allows phase kind) → FitsFrame payload
+    → frame_front (s.allows past) (raw_text kind payload) ≡ raw_text kind payload
+front_alone s past phase kind payload may is fits =
+    ap (frame_front (s.allows past)) (sym (append-nil (raw_text kind payload)))
+    ∙ front_whole s past phase kind payload [] may is fits
 
-pub read_nothing : (rules : Rules) (past : List Event) (phase : Phase) (allowed : Bool)
+pub read_nothing : {I J T : Type 0} (f : I → J) (lay : List ℕ → Option I)
+    (s : Stream (SessionEvent I) T) (past : List (SessionEvent I)) (phase : Phase) (allowed : Bool)
     (old new : Option (List ℕ)) (kind : ℕ) (payload slice : List ℕ)
-    → ask_of context_in rules past ≡ phase
+    → s.event_at ≡ event_at lay → s.allows past ≡ allows phase
     → IsRead phase allowed old new (record { kind = kind; payload = payload }) → slice ≡ payload
-    → None ≡ event_at item_at kind slice → IsEventUnread rules past allowed old new errors.BadFrame
-read_nothing rules past phase allowed old new kind payload slice asks read same is =
-    let none : event_at item_at kind payload ≡ None =
-    sym (is ∙ ap (event_at item_at kind) same) in (
+    → None ≡ event_at (λ b. option_map f (lay b)) kind slice
+    → IsEventUnread s past allowed old new errors.BadFrame
+read_nothing f lay s past phase allowed old new kind payload slice lays may read same is =
+    let none : event_at (λ b. option_map f (lay b)) kind payload ≡ None =
+    sym (is ∙ ap (event_at (λ b. option_map f (lay b)) kind) same) in (
       read.leave,
       (
         raw_text kind payload,
         read.taken,
         (
           (λ e. absurd cc),
-          front_alone rules past phase kind payload asks read.kind read.short,
+          front_alone s past phase kind payload may read.kind read.short,
           none_from_front
-              (λ ys. NoFrameAt (stream rules) past ys
-              × (frame_front ((stream rules).allows past) ys ≡ raw_text kind payload)) old new
+              (λ ys. NoFrameAt s past ys
+              × (frame_front (s.allows past) ys ≡ raw_text kind payload)) old new
               (raw_text kind payload) read.taken
               (λ ys. (
-                unlaid rules past kind payload read.short none ys,
-                front_whole rules past phase kind payload ys asks read.kind read.short,
+                unlaid f lay s past kind payload lays read.short none ys,
+                front_whole s past phase kind payload ys may read.kind read.short,
               )),
         ),
       ),
     )
 
 -- memory ran out over the payload of a frame
-pub read_stopped : (rules : Rules) (past : List Event) (phase : Phase) (allowed : Bool)
-    (old new : Option (List ℕ)) (kind : ℕ) (payload : List ℕ) → ask_of context_in rules past ≡ phase
+pub read_stopped : {I T : Type 0} (s : Stream (SessionEvent I) T) (past : List (SessionEvent I))
+    (phase : Phase) (allowed : Bool) (old new : Option (List ℕ)) (kind : ℕ) (payload : List ℕ)
+    → s.allows past ≡ allows phase
     → IsRead phase allowed old new (record { kind = kind; payload = payload })
-    → IsEventUnread rules past allowed old new errors.OutOfMemory
-read_stopped rules past phase allowed old new kind payload asks read = (
+    → IsEventUnread s past allowed old new errors.OutOfMemory
+read_stopped s past phase allowed old new kind payload may read = (
   read.leave,
   (
     raw_text kind payload,
     read.taken,
-    front_alone rules past phase kind payload asks read.kind read.short,
+    front_alone s past phase kind payload may read.kind read.short,
   ),
 )

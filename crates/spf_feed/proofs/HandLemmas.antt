@@ -6,9 +6,8 @@ use Rattle.spf_view.proofs.FollowLemmas.{grows_nil, grows_none}
 use Rattle.spf_feed.specs.Records.{RecordAppends, AppendsOnce}
 use Rattle.std.specs.Prelude.{IsErr}
 use Rattle.std.specs.Option.{option_to_list}
-use Rattle.spf_feed.specs.declared.record.MetricsRecord.{MetricsRecord}
-use Rattle.spf_feed.specs.Steps.{PlainStep}
-use Rattle.spf_feed.specs.Following.{HandsOn, TurnState, StoppedShort, IsTaken}
+use Rattle.spf_view.specs.Steps.{Step}
+use Rattle.spf_feed.specs.Handing.{HandsOn, TurnState, StoppedShort, IsTaken}
 
 -- nothing yet
 pub none_yet : {X : Type 0} (old : Option (List X)) (more : List X) → GrowsUpTo old old more true
@@ -62,25 +61,26 @@ all_grown old new more cut h = record {
 }
 
 -- memory ran out before a step was handed on
-pub step_unpublished : {E : Type 0} (step : PlainStep) (records : List MetricsRecord)
-    (old new : TurnState) (r : Result Bool E) → IsErr r
+pub step_unpublished : {M L D R E : Type 0} (same : M → M → Bool) (step : Step M L D)
+    (records : List R) (old new : TurnState M L D R) (r : Result Bool E) → IsErr r
     → GrowsUpTo old.steps new.steps (step ∷ []) true → new.records ≡ old.records
-    → IsTaken (Some step) records old new r
+    → IsTaken same (Some step) records old new r
 unfolding none_since
-step_unpublished step records old new (Ok b) bad a same = absurd cc
-step_unpublished step records old new (Err e) bad a same = record {
+step_unpublished same step records old new (Ok b) bad a is = absurd cc
+step_unpublished same step records old new (Err e) bad a is = record {
   steps_are = a;
-  records_are = none_since old.records new.records records same;
+  records_are = none_since old.records new.records records is;
   steps_first = λ lt. absurd (omega arith);
 }
 
 -- memory ran out over the records of a step
-pub step_unrecorded : {E : Type 0} (step : PlainStep) (records : List MetricsRecord)
-    (old new : TurnState) (r : Result Bool E) → IsErr r → Grows old.steps new.steps (step ∷ [])
-    → GrowsUpTo old.records new.records records true → IsTaken (Some step) records old new r
+pub step_unrecorded : {M L D R E : Type 0} (same : M → M → Bool) (step : Step M L D)
+    (records : List R) (old new : TurnState M L D R) (r : Result Bool E) → IsErr r
+    → Grows old.steps new.steps (step ∷ []) → GrowsUpTo old.records new.records records true
+    → IsTaken same (Some step) records old new r
 unfolding all_grown
-step_unrecorded step records old new (Ok b) bad a c = absurd cc
-step_unrecorded step records old new (Err e) bad a c =
+step_unrecorded same step records old new (Ok b) bad a c = absurd cc
+step_unrecorded same step records old new (Err e) bad a c =
     record {
       steps_are = all_grown old.steps new.steps (step ∷ []) true a;
       records_are = c;
@@ -88,8 +88,9 @@ step_unrecorded step records old new (Err e) bad a c =
     }
 
 -- memory ran out over the records of a turn without a step
-pub records_short : (records : List MetricsRecord) (old new : TurnState) → new.steps ≡ old.steps
-    → GrowsUpTo old.records new.records records true → StoppedShort None records old new
+pub records_short : {M L D R : Type 0} (records : List R) (old new : TurnState M L D R)
+    → new.steps ≡ old.steps → GrowsUpTo old.records new.records records true
+    → StoppedShort None records old new
 unfolding all_grown
 records_short records old new same c =
     record {
@@ -100,8 +101,8 @@ records_short records old new same c =
     }
 
 -- memory ran out before anything was handed on
-pub nothing_done : (step : Option PlainStep) (records : List MetricsRecord) (state : TurnState)
-    → StoppedShort step records state state
+pub nothing_done : {M L D R : Type 0} (step : Option (Step M L D)) (records : List R)
+    (state : TurnState M L D R) → StoppedShort step records state state
 unfolding none_yet
 nothing_done step records state = record {
   steps_are = none_yet state.steps (option_to_list step);

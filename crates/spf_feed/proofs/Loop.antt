@@ -103,7 +103,7 @@ pub exit_unread : (rules : Rules) (max_frames : ℕ) (old cur new : Ports PlainS
     (count : ℕ) (kept : Option (Kept Material Denial)) (moment : Option ℤ) (phase : Phase)
     (line : LineView) (e : FrameError)
     (at : LoopAt rules max_frames old cur count kept moment phase line) → OnlyRead cur new
-    → IsEventUnread rules at.past (ltb count max_frames) cur.left new.left e
+    → IsEventUnread (stream rules) at.past (ltb count max_frames) cur.left new.left e
     → Followed (stream rules) (outputs rules) max_frames old new (end_for (Err (error_at count e)))
 exit_unread rules max_frames old cur new count kept moment phase line errors.TooLong at same h =
     followed_long (stream rules) (outputs rules) max_frames old cur new at.past count h.1.0
@@ -124,7 +124,8 @@ pub next_of : (rules : Rules) (max_frames : ℕ) (old cur : Ports PlainStep Metr
     (kept : Option (Kept Material Denial)) (moment : Option ℤ) (phase : Phase) (line : LineView)
     (after : Option (List ℕ)) (received : Received)
     (at : LoopAt rules max_frames old cur count kept moment phase line)
-    (read : IsEventRead rules at.past (ltb count max_frames) cur.left after received)
+    (read : IsEventRead context_in (stream rules) at.past (ltb count max_frames) cur.left after
+    received)
     → IsNext (stream rules) max_frames cur.left after at.past count read.event
 next_of rules max_frames old cur count kept moment phase line after received at read =
     record {
@@ -447,7 +448,7 @@ pub went_through : (rules : Rules) (max_frames : ℕ) (old cur : Ports PlainStep
     (line : LineView) (after : Option (List ℕ)) (allowed : Bool) (received : Received)
     (new : TurnState) (b synced : Bool) (turn : Turn)
     (at : LoopAt rules max_frames old cur count kept moment phase line)
-    (read : IsEventRead rules at.past allowed cur.left after received)
+    (read : IsEventRead context_in (stream rules) at.past allowed cur.left after received)
     → synced ≡ is_some kept
     → IsTurn (received_refusal rules.deadline synced received)
     (received_outcome rules synced moment received) (received_records synced rules.limits received)
@@ -467,7 +468,7 @@ pub exit_turn : (rules : Rules) (max_frames : ℕ) (old cur new : Ports PlainSte
     (line : LineView) (allowed : Bool) (received : Received)
     (x : FollowError) (synced : Bool) (turn : Turn)
     (at : LoopAt rules max_frames old cur count kept moment phase line)
-    (read : IsEventRead rules at.past allowed cur.left new.left received)
+    (read : IsEventRead context_in (stream rules) at.past allowed cur.left new.left received)
     → IsNext (stream rules) max_frames cur.left new.left at.past count read.event
     → synced ≡ is_some kept
     → IsTurn (received_refusal rules.deadline synced received)
@@ -499,7 +500,7 @@ pub lined_on : (rules : Rules) (max_frames : ℕ) (old cur : Ports PlainStep Met
     (count : ℕ) (kept : Option (Kept Material Denial)) (moment moment' : Option ℤ) (phase : Phase)
     (line line' : LineView) (after : Option (List ℕ)) (allowed : Bool) (received : Received)
     (new : TurnState) (b : Bool) (at : LoopAt rules max_frames old cur count kept moment phase line)
-    (read : IsEventRead rules at.past allowed cur.left after received)
+    (read : IsEventRead context_in (stream rules) at.past allowed cur.left after received)
     → IsThrough rules at.past read.event (state_of kept cur) new b
     → moment' ≡ option_or (received_moment received) moment
     → IsShownAfter line line' new.kept b moment'
@@ -521,7 +522,8 @@ pub loop_on : (rules : Rules) (max_frames : ℕ) (old cur new : Ports PlainStep 
     (count : ℕ) (kept kept' : Option (Kept Material Denial)) (moment moment' : Option ℤ)
     (phase phase' : Phase) (line line' put_line : LineView) (b synced : Bool) (received : Received)
     (at : LoopAt rules max_frames old cur count kept moment phase line)
-    (read : IsEventRead rules at.past (ltb count max_frames) cur.left new.left received)
+    (read : IsEventRead context_in (stream rules) at.past (ltb count max_frames) cur.left new.left
+    received)
     → IsThrough rules at.past read.event (state_of kept cur) (state_of kept' new) b
     → IsLined rules at.past read.event count moment' kept' line'
     → Appends cur.held new.held (decimal (count + 1) ++ line'.text)
@@ -545,7 +547,8 @@ pub exit_close : (rules : Rules) (max_frames : ℕ) (old cur new : Ports PlainSt
     (count : ℕ) (kept kept' : Option (Kept Material Denial)) (moment moment' : Option ℤ)
     (phase : Phase) (line line' : LineView) (b : Bool) (received : Received)
     (at : LoopAt rules max_frames old cur count kept moment phase line)
-    (read : IsEventRead rules at.past (ltb count max_frames) cur.left new.left received)
+    (read : IsEventRead context_in (stream rules) at.past (ltb count max_frames) cur.left new.left
+    received)
     → IsThrough rules at.past read.event (state_of kept cur) (state_of kept' new) b
     → IsLined rules at.past read.event count moment' kept' line'
     → Appends cur.held new.held (decimal (count + 1) ++ line'.text) → received_close received ≡ true

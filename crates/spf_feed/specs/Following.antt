@@ -1,19 +1,16 @@
 -- Following a session: reading an event, taking its turn, its line, and how it ends.
-use Rattle.std.specs.Prelude.{◌≡◌, ℕ, ◌+◌, ℤ, ◌≤◌, ◌<◌, Bool, true, false, IsTrue, List, [], ◌∷◌}
-use Rattle.std.specs.Prelude.{length, Option, None, Some, Result, Ok, Err, IfErr, if◌then◌else◌}
-use Rattle.std.specs.Option.{option_to_list}
+use Rattle.std.specs.Prelude.{◌≡◌, ℕ, ◌+◌, ℤ, ◌≤◌, Bool, true, false, IsTrue, List, [], Option}
+use Rattle.std.specs.Prelude.{None, Some, Result, Ok, Err, IfErr}
 use Rattle.std.specs.Io.KnownBytes.{Consumes, IsAtEnd}
 use Rattle.spf_io.specs.Outside.{Rose}
 use Rattle.spf_view.specs.Views.{Waiting}
-use Rattle.spf_view.specs.Standing.{Kept, is_change}
-use Rattle.spf_view.specs.Keeping.{kept_with_any}
-use Rattle.spf_view.specs.Sessions.{IsFrame, NoFrameAt, Grows, GrowsUpTo, Ports, Followed}
+use Rattle.spf_view.specs.Standing.{Kept}
+use Rattle.spf_view.specs.Sessions.{Stream, IsFrame, NoFrameAt, Ports, Followed}
 use Rattle.spf_feed.specs.declared.follow_error.FollowError.{FollowError}
 use Rattle.spf_feed.specs.declared.follow_error.FollowError.TheVariants as follow_errors
 use Rattle.spf_frame.specs.declared.error.FrameError.{FrameError}
 use Rattle.spf_frame.specs.declared.error.FrameError.TheVariants as errors
 use Rattle.spf_feed.specs.declared.following.Change.{Change}
-use Rattle.spf_feed.specs.declared.following.Change.TheVariants as change
 use Rattle.spf_feed.specs.declared.limits.ResourceLimits.{ResourceLimits}
 use Rattle.spf_feed.specs.declared.record.MetricsRecord.{MetricsRecord}
 use Rattle.spf_feed.specs.declared.record.MetricsRecord.TheVariants as records
@@ -23,10 +20,13 @@ use Rattle.spf_feed.specs.declared.turn.Terminal.TheVariants as ends
 use Rattle.spf_feed.specs.declared.turn.Turn.{Turn}
 use Rattle.spf_feed.specs.declared.turn.Turn.TheVariants as turns
 use Rattle.spf_feed.specs.Events.{map_item}
-use Rattle.spf_feed.specs.Items.{Event, Received, Rules, context_in}
+use Rattle.spf_feed.specs.declared.event.SessionEvent.{SessionEvent}
+use Rattle.spf_feed.specs.Items.{Rules}
 use Rattle.spf_feed.specs.Numbered.{LineView, ShowsKept}
 use Rattle.spf_feed.specs.Shown.{shown_text}
 use Rattle.spf_feed.specs.Frames.{Unread}
+pub use Rattle.spf_feed.specs.Handing.{HandsOn, is_changed}
+use Rattle.spf_feed.specs.Handing as handing
 use Rattle.spf_feed.specs.Run.{stream, outputs, end_for}
 use Rattle.spf_feed.specs.Steps.{Material, PlainStep, Accept, Deny, same_material}
 use Rattle.spf_feed.specs.Turns.{listed}
@@ -58,20 +58,21 @@ pub record FailuresHaveCauses (old new : FailureCounts) (r : Result ℕ FollowEr
 
 -- ---- reading an event
 
--- the event that was read, after a history, as it is received
-pub record IsEventRead (rules : Rules) (past : List Event) (allowed : Bool)
-    (old new : Option (List ℕ)) (received : Received) : Type 0 where
+-- the event that was read, after a history, as it is received: its item is read further by `f`
+pub record IsEventRead {I J T : Type 0} (f : I → J) (s : Stream (SessionEvent I) T)
+    (past : List (SessionEvent I)) (allowed : Bool) (old new : Option (List ℕ))
+    (received : SessionEvent J) : Type 0 where
   pub leave : IsTrue allowed
-  pub event : Event
+  pub event : SessionEvent I
   pub front : List ℕ
-  pub frame : IsFrame (stream rules) past front event
+  pub frame : IsFrame s past front event
   pub taken : Consumes old new front
-  pub is : received ≡ map_item context_in event
+  pub is : received ≡ map_item f event
 
 -- why no event was read, and what was taken
-abbrev pub IsEventUnread : Rules → List Event → Bool → Option (List ℕ) → Option (List ℕ)
-    → FrameError → Type 0
-IsEventUnread rules past = Unread ((stream rules).allows past) (NoFrameAt (stream rules) past)
+abbrev pub IsEventUnread : {E T : Type 0} → Stream E T → List E → Bool → Option (List ℕ)
+    → Option (List ℕ) → FrameError → Type 0
+IsEventUnread s past = Unread (s.allows past) (NoFrameAt s past)
 
 -- the error that a session ends with, where no event was read after `count` of them
 abbrev pub error_at : ℕ → FrameError → FollowError
@@ -80,12 +81,14 @@ error_at count errors.BadFrame = follow_errors.BadFrame (count + 1)
 error_at count errors.ReadFault = follow_errors.ReadFault
 error_at count errors.OutOfMemory = follow_errors.OutOfMemory
 
-abbrev pub EventRead : Rules → List Event → Bool → Option (List ℕ) → Option (List ℕ)
-    → Result (Option Received) FrameError → Type 0
-EventRead rules past allowed old new (Ok None) = Consumes old new [] × IsAtEnd old
-EventRead rules past allowed old new (Ok (Some received)) =
-    IsEventRead rules past allowed old new received
-EventRead rules past allowed old new (Err e) = IsEventUnread rules past allowed old new e
+-- what a call that reads an event returns and takes
+abbrev pub EventRead : {I J T : Type 0} → (I → J) → Stream (SessionEvent I) T
+    → List (SessionEvent I) → Bool → Option (List ℕ) → Option (List ℕ)
+    → Result (Option (SessionEvent J)) FrameError → Type 0
+EventRead f s past allowed old new (Ok None) = Consumes old new [] × IsAtEnd old
+EventRead f s past allowed old new (Ok (Some received)) =
+    IsEventRead f s past allowed old new received
+EventRead f s past allowed old new (Err e) = IsEventUnread s past allowed old new e
 
 -- an event is read, or a bad frame is reported, only where a frame is allowed
 abbrev pub OnlyAllowed : {X : Type 0} → Bool → Result (Option X) FrameError → Type 0
@@ -98,61 +101,34 @@ OnlyAllowed allowed (Err errors.OutOfMemory) = Unit {0}
 
 -- ---- handing on
 
--- the list is handed on, or a beginning of it where memory runs out
-abbrev pub HandsOn : {X T E : Type 0} → Option (List X) → Option (List X) → Result T E → List X
-    → Type 0
-HandsOn old new (Ok done) more = Grows old new more
-HandsOn old new (Err e) more = GrowsUpTo old new more true
-
 -- what a step does to what is kept, where anything is
 abbrev pub change_of : Option (Kept Material Denial) → PlainStep → Change
-change_of None step = change.Opened
-change_of (Some kept) step =
-    if is_change same_material kept.view step then change.Changed else change.Unchanged
-
-abbrev pub is_changed : Change → Bool
-is_changed change.Opened = true
-is_changed change.Changed = true
-is_changed change.Unchanged = false
+change_of = handing.change_of same_material
 
 -- an update is recorded where something was visible before it and something else is now
 abbrev pub update_of : Change → List MetricsRecord
-update_of change.Opened = []
-update_of change.Changed = records.Update ∷ []
-update_of change.Unchanged = []
+update_of = handing.update_of records.Update
 
 -- whether something else is visible after a step, where there is one
 abbrev pub changes_any : Option (Kept Material Denial) → Option PlainStep → Bool
-changes_any kept None = false
-changes_any kept (Some step) = is_changed (change_of kept step)
+changes_any = handing.changes_any same_material
 
--- what a turn may change: what is kept, and what the
--- publisher and the recorder hold, where they say so
-pub record TurnState : Type 0 where
-  pub kept : Option (Kept Material Denial)
-  pub steps : Option (List PlainStep)
-  pub records : Option (List MetricsRecord)
+-- what a turn may change
+abbrev pub TurnState : Type 0
+TurnState = handing.TurnState Material ResourceLimits Denial MetricsRecord
 
--- A turn with this step, where it has one, and these records went through.
-pub record WentThrough (step : Option PlainStep) (records : List MetricsRecord)
-    (old new : TurnState) (changed : Bool) : Type 0 where
-  pub steps_are : Grows old.steps new.steps (option_to_list step)
-  pub records_are : Grows old.records new.records records
-  pub kept_is : new.kept ≡ kept_with_any same_material old.kept step
-  -- whether something else is visible
-  pub changed_is : changed ≡ changes_any old.kept step
+-- a turn with this step, where it has one, and these records went through
+abbrev pub WentThrough : Option PlainStep → List MetricsRecord → TurnState → TurnState → Bool
+    → Type 0
+WentThrough = handing.WentThrough same_material
 
--- Memory ran out over it: a record is handed on only after the step.
-pub record StoppedShort (step : Option PlainStep) (records : List MetricsRecord)
-    (old new : TurnState) : Type 0 where
-  pub steps_are : GrowsUpTo old.steps new.steps (option_to_list step) true
-  pub records_are : GrowsUpTo old.records new.records records true
-  pub steps_first : 0 < records_are.count → steps_are.count ≡ length (option_to_list step)
+-- memory ran out over it
+abbrev pub StoppedShort : Option PlainStep → List MetricsRecord → TurnState → TurnState → Type 0
+StoppedShort = handing.StoppedShort
 
 abbrev pub IsTaken : {E : Type 0} → Option PlainStep → List MetricsRecord → TurnState → TurnState
     → Result Bool E → Type 0
-IsTaken step records old new (Ok changed) = WentThrough step records old new changed
-IsTaken step records old new (Err e) = StoppedShort step records old new
+IsTaken = handing.IsTaken same_material
 
 -- an error says that memory ran out
 abbrev pub IsMemory : {T : Type 0} → Result T FollowError → Type 0

@@ -2,6 +2,7 @@ pub mod Errors
 pub mod Events
 pub mod Following
 pub mod Frames
+pub mod Handing
 pub mod Items
 pub mod Limits
 pub mod Lines

@@ -71,7 +71,8 @@ fn next_event<S: Source, W: Sharing<S>>(
     ensures cause { FailureHasCause (S.failures source.old) (S.failures source.new) result }
     ensures allowed { OnlyAllowed allowed result }
     ensures bytes { (rules : Rules) (past : List SessionOf) → ask_of context_in rules past ≡ phase
-        → EventRead rules past allowed (S.left source.old) (S.left source.new) result }
+        → EventRead context_in (stream rules) past allowed (S.left source.old) (S.left source.new)
+        result }
 {
     let kind = match next_frame(source, payload, phase, allowed)? {
         Some(kind) => kind,

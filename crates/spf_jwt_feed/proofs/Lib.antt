@@ -1,5 +1,3 @@
-pub mod EventLemmas
-pub mod HandLemmas
 pub mod LineLemmas
 pub mod Loop
 pub mod PlainLines

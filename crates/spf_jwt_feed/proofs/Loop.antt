@@ -41,7 +41,8 @@ use Rattle.spf_feed.proofs.HandLemmas.{none_since, all_grown}
 use Rattle.spf_feed.proofs.TurnLemmas.{closes-map_item}
 use Rattle.spf_jwt_feed.specs.declared.record.JwtMetricsRecord.{JwtMetricsRecord}
 use Rattle.spf_jwt_feed.specs.declared.turn.Turn.{Turn}
-use Rattle.spf_jwt_feed.specs.Following.{changes_any, IsEventRead, IsEventUnread, TurnState}
+use Rattle.spf_feed.specs.Following.{IsEventRead, IsEventUnread}
+use Rattle.spf_jwt_feed.specs.Following.{changes_any, TurnState}
 use Rattle.spf_jwt_feed.specs.Following.{TurnTaken, IsLineOf, IsShownAfter}
 use Rattle.spf_jwt_feed.specs.Items.{Event, Received, Rules, subject, subject_by, item_in}
 use Rattle.spf_jwt_feed.specs.Received.{received_ask, received_refusal, received_outcome}
@@ -110,7 +111,7 @@ exit_end rules max_frames old cur new count kept phase line r at same took end i
 pub exit_unread : (rules : Rules) (max_frames : ℕ) (old cur new : Sides) (count : ℕ) (kept : Held)
     (phase : Phase) (line : List ℕ) (e : FrameError)
     (at : LoopAt rules max_frames old cur count kept phase line) → OnlyRead cur new
-    → IsEventUnread rules at.past (ltb count max_frames) cur.left new.left e
+    → IsEventUnread (stream rules) at.past (ltb count max_frames) cur.left new.left e
     → Followed (stream rules) (outputs rules) max_frames old new (end_for (Err (error_at count e)))
 exit_unread rules max_frames old cur new count kept phase line errors.TooLong at same h =
     followed_long (stream rules) (outputs rules) max_frames old cur new at.past count h.1.0
@@ -130,7 +131,8 @@ exit_unread rules max_frames old cur new count kept phase line errors.OutOfMemor
 pub next_of : (rules : Rules) (max_frames : ℕ) (old cur : Sides) (count : ℕ) (kept : Held)
     (phase : Phase) (line : List ℕ) (after : Option (List ℕ)) (received : Received)
     (at : LoopAt rules max_frames old cur count kept phase line)
-    (read : IsEventRead rules at.past (ltb count max_frames) cur.left after received)
+    (read : IsEventRead item_in (stream rules) at.past (ltb count max_frames) cur.left after
+    received)
     → IsNext (stream rules) max_frames cur.left after at.past count read.event
 next_of rules max_frames old cur count kept phase line after received at read =
     record {
@@ -371,7 +373,8 @@ synced_close rules past (events.Moment x) is none = absurd cc
 pub exit_close : (rules : Rules) (max_frames : ℕ) (old cur new : Sides) (count : ℕ)
     (kept kept' : Held) (phase : Phase) (line line' : List ℕ) (b : Bool) (received : Received)
     (at : LoopAt rules max_frames old cur count kept phase line)
-    (read : IsEventRead rules at.past (ltb count max_frames) cur.left new.left received)
+    (read : IsEventRead item_in (stream rules) at.past (ltb count max_frames) cur.left new.left
+    received)
     → IsThrough rules at.past read.event (state_of kept cur) (state_of kept' new) b
     → IsLined rules at.past read.event count kept' line'
     → Appends cur.held new.held (decimal (count + 1) ++ line') → received_close received ≡ true
@@ -412,7 +415,7 @@ pub went_through : (rules : Rules) (max_frames : ℕ) (old cur : Sides) (count :
     (phase : Phase) (line : List ℕ) (after : Option (List ℕ)) (allowed : Bool) (received : Received)
     (new : TurnState) (b synced : Bool) (turn : Turn)
     (at : LoopAt rules max_frames old cur count kept phase line)
-    (read : IsEventRead rules at.past allowed cur.left after received)
+    (read : IsEventRead item_in (stream rules) at.past allowed cur.left after received)
     → synced ≡ is_some kept
     → IsTurn (received_refusal rules.deadline synced received)
     (received_outcome rules.limits synced received) (received_records synced rules.limits received)
@@ -431,7 +434,7 @@ pub exit_turn : (rules : Rules) (max_frames : ℕ) (old cur new : Sides) (count 
     (kept kept' : Held) (phase : Phase) (line : List ℕ) (allowed : Bool) (received : Received)
     (x : FollowError) (synced : Bool) (turn : Turn)
     (at : LoopAt rules max_frames old cur count kept phase line)
-    (read : IsEventRead rules at.past allowed cur.left new.left received)
+    (read : IsEventRead item_in (stream rules) at.past allowed cur.left new.left received)
     → IsNext (stream rules) max_frames cur.left new.left at.past count read.event
     → synced ≡ is_some kept
     → IsTurn (received_refusal rules.deadline synced received)
@@ -462,7 +465,8 @@ exit_turn rules max_frames old cur new count kept kept' phase line allowed recei
 pub loop_on : (rules : Rules) (max_frames : ℕ) (old cur new : Sides) (count : ℕ)
     (kept kept' : Held) (phase phase' : Phase) (line line' put_line : List ℕ) (b synced : Bool)
     (received : Received) (at : LoopAt rules max_frames old cur count kept phase line)
-    (read : IsEventRead rules at.past (ltb count max_frames) cur.left new.left received)
+    (read : IsEventRead item_in (stream rules) at.past (ltb count max_frames) cur.left new.left
+    received)
     → IsThrough rules at.past read.event (state_of kept cur) (state_of kept' new) b
     → IsLined rules at.past read.event count kept' line'
     → Appends cur.held new.held (decimal (count + 1) ++ line')

@@ -27,7 +27,6 @@ use Rattle.spf_feed.proofs.Plain.{Plain, behind, texts_plain, decimal_plain, hex
 use Rattle.spf_feed.proofs.PlainNames.{bound, as_read, name_plain}
 use Rattle.spf_feed.proofs.PlainContexts.{PlainEntry, each_kept, all_map, entries_plain, last_holds}
 use Rattle.spf_feed.proofs.PlainLines.{denial_plain, numbered}
-use Rattle.spf_jwt_feed.specs.declared.event.JwtItem.{JwtItem}
 use Rattle.spf_jwt_feed.specs.declared.event.JwtItem.TheVariants as item
 use Rattle.spf_jwt_feed.specs.Items.{Event, Rules, subject, item_by, item_in, item_set, bundles_in}
 use Rattle.spf_jwt_feed.specs.Run.{outputs}

@@ -10,7 +10,7 @@ ghost use Rattle.spf_feed.specs.declared.follow_error.FollowError.TheVariants as
 ghost use Rattle.spf_feed.specs.Records.{RecordAppends, AppendsOnce};
 ghost use Rattle.spf_feed.specs.Run.{end_for};
 ghost use Rattle.spf_feed.specs.Following.{is_failure, FailuresHaveCauses, OnlyAllowed, HandsOn};
-ghost use Rattle.spf_feed.specs.Following.{is_changed};
+ghost use Rattle.spf_feed.specs.Following.{is_changed, EventRead};
 ghost use Rattle.spf_feed.specs.Following as feed;
 ghost use Rattle.spf_jwt.specs.Bundle.{set_eq};
 ghost use Rattle.spf_jwt_feed.specs.Items.{Event, Rules, item_in};
@@ -18,7 +18,7 @@ ghost use Rattle.spf_jwt_feed.specs.Received.{received_close};
 ghost use Rattle.spf_jwt_feed.specs.Run.{ask_of, stream, outputs};
 ghost use Rattle.spf_jwt_feed.specs.Steps.{plain, is_accept, HasStep, MayFollow};
 ghost use Rattle.spf_jwt_feed.specs.Turns.{MayTake, listed};
-ghost use Rattle.spf_jwt_feed.specs.Following.{EventRead, IsShownAfter, IsTaken, change_of};
+ghost use Rattle.spf_jwt_feed.specs.Following.{IsShownAfter, IsTaken, change_of};
 ghost use Rattle.spf_jwt_feed.specs.Following.{update_of, TurnTaken};
 
 use crate::event::JwtReceived;
@@ -57,7 +57,8 @@ fn next_event<S: Source>(
     ensures cause { FailureHasCause (S.failures source.old) (S.failures source.new) result }
     ensures allowed { OnlyAllowed allowed result }
     ensures bytes { (rules : Rules) (past : List Event) → ask_of item_in rules past ≡ phase
-        → EventRead rules past allowed (S.left source.old) (S.left source.new) result }
+        → EventRead item_in (stream rules) past allowed (S.left source.old) (S.left source.new)
+        result }
 {
     let kind = match next_frame(source, payload, &phase, allowed)? {
         Some(kind) => kind,

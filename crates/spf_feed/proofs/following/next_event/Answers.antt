@@ -1,5 +1,9 @@
-use Rattle.std.proofs.Common.{sym, ◌∙◌}
+use Rattle.std.proofs.Common.{refl, sym, ap, ◌∙◌}
 use Rattle.std.proofs.lemmas.Result.{err_from_is_err_and}
+use Rattle.spf_api.specs.Reading.{context_at}
+use Rattle.spf_feed.specs.Frames.{allows}
+use Rattle.spf_feed.specs.Items.{context_in}
+use Rattle.spf_feed.specs.Run.{stream}
 use Rattle.spf_feed.proofs.EventLemmas.{event_unread, read_event, read_nothing, read_stopped}
 use Rattle.spf_feed.proofs.following.next_event.Goals as goal
 
@@ -12,14 +16,16 @@ pub returns-in-Ok-Some-clause-bytes : goal.returns-in-Ok-Some-clause-bytes
 returns-in-Ok-Some-clause-bytes g c =
     let read = rw c.in-Some.is at c.in_ok-kind.ensures.bytes in
     λ rules past asks.
-    read_event rules past _ _ _ _ _ _ _ _ asks read c.as_slice.ensures.value
+    read_event context_in context_at (stream rules) past _ _ _ _ _ _ _ _ refl (ap allows asks) read
+    c.as_slice.ensures.value
     (sym c.in-Ok-Some.field-0-is ∙ c.in-Ok-Some.ensures)
 
 pub returns-in-Ok-None-clause-bytes : goal.returns-in-Ok-None-clause-bytes
 returns-in-Ok-None-clause-bytes g c =
     let read = rw c.in-Some.is at c.in_ok-kind.ensures.bytes in
     λ rules past asks.
-    read_nothing rules past _ _ _ _ _ _ _ asks read c.as_slice.ensures.value
+    read_nothing context_in context_at (stream rules) past _ _ _ _ _ _ _ refl (ap allows asks) read
+    c.as_slice.ensures.value
     (sym c.in-Ok-None.field-0-is ∙ c.in-Ok-None.ensures)
 
 pub returns-in_err-kind-clause-bytes : goal.returns-in_err-kind-clause-bytes
@@ -27,9 +33,10 @@ returns-in_err-kind-clause-bytes g c =
     let p = err_from_is_err_and c.from_residual.result c.from_residual.ensures.1 in
     λ rules past asks.
     rw (p.1, p.2)
-    (event_unread rules past _ _ _ _ c.in_err-kind.field-0.0 asks c.in_err-kind.ensures.bytes)
+    (event_unread (stream rules) past _ _ _ _ c.in_err-kind.field-0.0 (ap allows asks)
+    c.in_err-kind.ensures.bytes)
 
 pub returns-in-Err-clause-bytes : goal.returns-in-Err-clause-bytes
 returns-in-Err-clause-bytes g c =
     let read = rw c.in-Some.is at c.in_ok-kind.ensures.bytes in
-    λ rules past asks. read_stopped rules past _ _ _ _ _ _ asks read
+    λ rules past asks. read_stopped (stream rules) past _ _ _ _ _ _ (ap allows asks) read

@@ -1,6 +1,6 @@
 use Rattle.std.proofs.Common.{refl}
 use Rattle.std.proofs.lemmas.Result.{err_from_is_err_and}
-use Rattle.spf_jwt_feed.proofs.HandLemmas.{records_short, nothing_done}
+use Rattle.spf_feed.proofs.HandLemmas.{records_short, nothing_done}
 use Rattle.spf_jwt_feed.proofs.following.take.Goals as goal
 
 pub returns-in_err-record_all-in-Passed-clause-turn
