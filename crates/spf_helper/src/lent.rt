@@ -8,8 +8,8 @@ ghost use Rattle.spf_feed.specs.declared.follow_error.FollowError.TheVariants as
 ghost use Rattle.spf_helper.specs.declared.helper_error.HelperError.TheVariants as errors;
 ghost use Rattle.spf_helper.specs.Runs.{Ended, LeavesBeside, Ran};
 
-use crate::following::follow_disk;
 use crate::call::Origin;
+use crate::following::follow_disk;
 use crate::helper_error::HelperError;
 use spf_disk::Disk;
 use spf_feed::ResourceLimits;

@@ -7,7 +7,7 @@ ghost use Rattle.spf_history.specs.Lists.{is_ended};
 ghost use Rattle.spf_feed.specs.Steps.{MayFollow};
 ghost use Rattle.spf_x509_board.specs.Steps.{Legal};
 
-use crate::desk::{Desk, Ended, DeskWriter};
+use crate::desk::{Desk, DeskWriter, Ended};
 use crate::kind::X509;
 use crate::pass::Pass;
 use spf_board::open_board;
