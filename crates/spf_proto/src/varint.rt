@@ -24,10 +24,15 @@ fn varint_within(max: u32, bytes: &[u8]) -> Option<(u64, &[u8])>
     Some((value, rest))
 }
 
-/// Reads the varint at the start of the bytes, which is below 2^64 and at most ten octets long.
+/// Reads the varint at the start of the bytes, which is below 2^64 and at most ten octets long. Most
+/// have one octet.
+#[inline(always)]
 pub(crate) fn read_varint(bytes: &[u8]) -> Option<(u64, &[u8])>
     ensures exact { option_map (λ x. (x.0, x.1.now)) result ≡ varint_at bytes.now }
     ensures shorter { IfSome result (λ x. length x.1.now < length bytes.now) }
 {
-    varint_within(MAX_VARINT, bytes)
+    match bytes {
+        [octet, rest @ ..] if *octet < 128 => Some((*octet as u64, rest)),
+        _ => varint_within(MAX_VARINT, bytes),
+    }
 }
