@@ -1,6 +1,7 @@
 //! The octets of a message, gathered as they come.
 
-ghost use Rattle.std.specs.Prelude.{◌≡◌, ◌<◌, ◌≤◌, ◌==◌, [], OnOk, length, take};
+ghost use Rattle.std.specs.Prelude.{◌≡◌, ◌<◌, ◌≤◌, ◌==◌, ◌+◌, ◌^◌, [], OnOk, length, max};
+ghost use Rattle.std.specs.Prelude.{take};
 ghost use Rattle.spf_proto.specs.Taking.{Came, IsSome, StopHasCause};
 
 use crate::lent::LentSource;
@@ -29,12 +30,13 @@ impl Model for Incoming {
     ghost invariant = { λ s. s.filled ≤ vec_len s.buffer };
 }
 
-/// Makes room behind the first octets, no more than as many again where they are many.
+/// Makes room behind the octets that came: for as many again, or for a chunk.
 fn make_room(buffer: &mut Vec<u8>, filled: usize) -> Result<(), OutOfMemory>
     requires within { filled ≤ length buffer.old.items }
     ensures kept { take filled buffer.new.items ≡ take filled buffer.old.items }
     ensures within { filled ≤ length buffer.new.items }
     ensures room { OnOk result (filled < length buffer.new.items) }
+    ensures bounded { length buffer.new.items ≤ length buffer.old.items + max filled (2 ^ 16) }
 {
     if filled < buffer.len() {
         return Ok(());

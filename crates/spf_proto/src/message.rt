@@ -113,7 +113,8 @@ fn without_repeats<'a>(
     entries: Vec<BundleEntryView<'a>>,
 ) -> Result<Vec<BundleEntryView<'a>>, OutOfMemory>
     ensures { IfOk result
-        (λ v. map bundle_entry_of v.items ≡ last_of_each (map bundle_entry_of entries.entry.items)) }
+        (λ v. map bundle_entry_of v.items
+        ≡ last_of_each (map bundle_entry_of entries.entry.items)) }
 {
     if entries.len() < 2 {
         return Ok(entries);

@@ -78,7 +78,8 @@ impl<'p, T: LentSource, C: SvidPicker, N: Origin> Model for Translator<'p, T, C,
       failures = s.failed;
     } };
 
-    ghost invariant = { λ s. (s.at ≤ vec_len s.latest.frames) × (ForSome s.picker (λ p. C.can_pick p.now))
+    ghost invariant = { λ s. (s.at ≤ vec_len s.latest.frames)
+        × (ForSome s.picker (λ p. C.can_pick p.now))
         × (N.begin.rules ≡ rules_with s.acceptance.limits None s.acceptance.ready
         (option_map (λ p. C.picks p.now) s.picker))
         × (N.begin.start ≡ s.acceptance.start)

@@ -24,8 +24,8 @@ fn varint_within(max: u32, bytes: &[u8]) -> Option<(u64, &[u8])>
     Some((value, rest))
 }
 
-/// Reads the varint at the start of the bytes, which is below 2^64 and at most ten octets long. Most
-/// have one or two.
+/// Reads the varint at the start of the bytes, which is below 2^64 and at most ten octets long.
+/// Most have one or two.
 #[inline(always)]
 pub(crate) fn read_varint(bytes: &[u8]) -> Option<(u64, &[u8])>
     ensures exact { option_map (λ x. (x.0, x.1.now)) result ≡ varint_at bytes.now }
