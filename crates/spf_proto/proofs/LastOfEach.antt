@@ -1,6 +1,6 @@
 -- Of entries with the same name the last is kept.
 use Rattle.std.proofs.Common.{◌≡◌, ◌∙◌, ℕ, List, [], ◌∷◌, ◌++◌, Bool, true, false, cond, refl, sym}
-use Rattle.std.proofs.Common.{ap, append_assoc, Bor, map, reverse}
+use Rattle.std.proofs.Common.{◌<◌, ap, append_assoc, arith, Bor, length, map, reverse}
 use Rattle.std.proofs.lemmas.List.{reverse-append}
 use Rattle.std.specs.Prelude.{nat_eq, ◌||◌}
 use Rattle.std.specs.Cmp.Lexicographic.{pointwise, texts_ties}
@@ -78,3 +78,10 @@ kept_last entries left kept result names none is k =
     ap (λ (l : List BundleEntryView). l ++ k.done) (sym none) ∙ k.all in
     ap (map bundle_entry_of) is ∙ sym k.last
     ∙ ap (λ (l : List BundleEntryView). last_of_each (map bundle_entry_of l)) done
+
+-- a list that is too short to have a name twice
+pub last_of_few : (entries : List BundleEntryView) → length entries < 2
+    → last_of_each (map bundle_entry_of entries) ≡ map bundle_entry_of entries
+last_of_few [] few = refl
+last_of_few (e ∷ []) few = refl
+last_of_few (e ∷ f ∷ es) few = absurd (omega (arith, few))

@@ -1,7 +1,10 @@
 -- How a message is translated.
 use Rattle.std.proofs.Common.{◌≡◌, ◌∙◌, ℕ, ◌^◌, ◌≤◌, ◌<◌, Bool, true, false, cond, List, [], ◌∷◌}
-use Rattle.std.proofs.Common.{length, Option, Some, None, refl, ap, arith}
+use Rattle.std.proofs.Common.{◌+◌, ◌-◌, ◌++◌, length, take, drop, Option, Some, None, refl, ap}
+use Rattle.std.proofs.Common.{append_assoc, arith, length-append}
+use Rattle.std.specs.Int.{w32, to_be_bytes}
 use Rattle.std.specs.Prelude.{nat_lt}
+use Rattle.std.proofs.Math.Seq.{take-append_seam, drop-append_seam}
 use Rattle.std.proofs.lemmas.Bool.Decides.{nat_tests}
 use Rattle.spf_io.specs.Option.{◌>>=◌}
 use Rattle.spf_view.specs.Frames.{sized}
@@ -10,17 +13,60 @@ use Rattle.spf_api.specs.Layout.{context_payload, field_text}
 use Rattle.spf_proto.specs.Message.{context_message}
 use Rattle.spf_proto.specs.Body.{fits, response_of}
 use Rattle.spf_proto.specs.Translated.{client_frames, message_frames}
-use Rattle.spf_proto.specs.Translating.{item_frames}
+use Rattle.spf_proto.specs.Translating.{item_frames, ArePut, IsLengthPut}
+use Rattle.spf_frame.specs.declared.frame_kind.TheConstants.{ITEM}
 
 pub client_is : 1 ∷ 0 ∷ 0 ∷ 0 ∷ 0 ∷ 3 ∷ 0 ∷ 0 ∷ 0 ∷ 0 ∷ [] ≡ client_frames
 unfolding client_frames sized
 client_is = refl
 
-pub frames_made : (is_open : Bool) (r : ContextResponse) (payload frames : List ℕ)
-    → payload ≡ context_payload r → frames ≡ item_frames is_open payload
-    → frames ≡ message_frames is_open r
+-- an item whose length is put in the place of four octets
+pub frames_put : (is_open : Bool) (payload start zeros old new : List ℕ) (at : ℕ) (put : Bool)
+    → start ≡ cond is_open [] client_frames ++ ITEM ∷ [] → at ≡ length start → length zeros ≡ 4
+    → old ≡ (start ++ zeros) ++ payload → IsLengthPut at old new put
+    → ArePut is_open payload new put
+unfolding item_frames field_text
+frames_put is_open payload start zeros old new at true start_is at_is four is (short, made) =
+    let size : length old ≡ at + 4 + length payload =
+    omega (
+      arith,
+      ap length is,
+      length-append (start ++ zeros) payload,
+      length-append start zeros,
+      at_is,
+      four,
+    ) in
+    let rest : length old - at - 4 ≡ length payload = omega (arith, size) in
+    let seam : at + 4 ≡ length (start ++ zeros) =
+    omega (arith, length-append start zeros, at_is, four) in
+    let front : take at old ≡ start =
+    (λ j. take (at_is j) (is j)) ∙ ap (take (length start)) (append_assoc start zeros payload)
+    ∙ take-append_seam start (zeros ++ payload) in
+    let back : drop (at + 4) old ≡ payload =
+    (λ j. drop (seam j) (is j)) ∙ drop-append_seam (start ++ zeros) payload in (
+      omega (arith, size, short),
+      made
+          ∙ (λ j. (front j ++ to_be_bytes w32 (rest j)) ++ back j)
+          ∙ append_assoc start (to_be_bytes w32 (length payload)) payload
+          ∙ ap (λ (l : List ℕ). l ++ (to_be_bytes w32 (length payload) ++ payload)) start_is
+          ∙ append_assoc (cond is_open [] client_frames) (ITEM ∷ [])
+          (to_be_bytes w32 (length payload) ++ payload),
+    )
+frames_put is_open payload start zeros old new at false start_is at_is four is long =
+    omega (
+      arith,
+      long,
+      ap length is,
+      length-append (start ++ zeros) payload,
+      length-append start zeros,
+      at_is,
+      four,
+    )
+
+pub frames_made : (is_open : Bool) (r : ContextResponse) (frames : List ℕ)
+    → frames ≡ item_frames is_open (context_payload r) → frames ≡ message_frames is_open r
 unfolding item_frames message_frames sized field_text
-frames_made is_open r payload frames is made = made ∙ ap (item_frames is_open) is
+frames_made is_open r frames made = made
 
 -- a message that is longer than one may be says nothing
 pub response_long : (octets : List ℕ) → 2 ^ 24 < length octets → response_of octets ≡ None

@@ -9,10 +9,10 @@ use Rattle.spf_proto.specs.Translating.{IsMade}
 -- where there is one, the frames are those of that message, from where the session stood
 abbrev pub IsLatest : Rules → ℤ → Latest → Type 0
 IsLatest rules start l =
-    ForSome l.stood (λ p. IsMade rules start p.0 p.1 (drop 5 l.message.items) l.frames.items)
+    ForSome l.stood (λ p. IsMade rules start p.0 p.1 (drop 5 l.message) l.frames.items)
 
 -- the message is the last one again, from the same place
 pub record IsAgain (l : Latest) (before : Position) (message : List ℕ) (after : Position)
     : Type 0 where
   pub stood : l.stood ≡ Some (before, after)
-  pub same : l.message.items ≡ message
+  pub same : l.message ≡ message

@@ -1,6 +1,8 @@
 -- How a message is translated.
-use Rattle.std.specs.Prelude.{◌≡◌, ℕ, ℤ, Bool, if◌then◌else◌, List, [], ◌∷◌, ◌++◌, Option, Some}
+use Rattle.std.specs.Prelude.{◌≡◌, ◌≤◌, ◌<◌, ◌+◌, ◌-◌, ◌^◌, ℕ, ℤ, Bool, true, false}
+use Rattle.std.specs.Prelude.{if◌then◌else◌, List, [], ◌∷◌, ◌++◌, length, take, drop, Option, Some}
 use Rattle.std.specs.Prelude.{None}
+use Rattle.std.specs.Int.{w32, to_be_bytes}
 use Rattle.std.specs.Prelude.{Result, Ok, Err}
 use Rattle.spf_proto.specs.declared.taking.Stop.{Stop}
 use Rattle.spf_proto.specs.declared.taking.Stop.TheVariants as stops
@@ -20,6 +22,19 @@ standing p = record { is_open = p.is_open; synced = p.synced }
 -- the frames of an item with this payload
 unfoldable pub item_frames : Bool → List ℕ → List ℕ
 item_frames is_open payload = (if is_open then [] else client_frames) ++ ITEM ∷ field_text payload
+
+-- the payload of the item is as long as a frame may hold, and these are its frames; or it is longer
+abbrev pub ArePut : Bool → List ℕ → List ℕ → Bool → Type 0
+ArePut is_open payload frames true =
+    (length payload ≤ 2 ^ 24) × (frames ≡ item_frames is_open payload)
+ArePut is_open payload frames false = 2 ^ 24 < length payload
+
+-- the length of what stands behind four octets takes their place, unless no frame may hold so much
+abbrev pub IsLengthPut : ℕ → List ℕ → List ℕ → Bool → Type 0
+IsLengthPut at old new true =
+    (length old ≤ at + 4 + 2 ^ 24)
+    × (new ≡ take at old ++ to_be_bytes w32 (length old - at - 4) ++ drop (at + 4) old)
+IsLengthPut at old new false = at + 4 + 2 ^ 24 < length old
 
 -- the octets are a message, whose frames these are
 pub record IsMade (rules : Rules) (start : ℤ) (before after : Position) (octets frames : List ℕ)

@@ -1,6 +1,6 @@
 //! Following the body of a gRPC response: messages of updates, one after another.
 
-ghost use Rattle.std.specs.Prelude.{◌≡◌, ◌<◌, ◌^◌, None, IfOk, IsTrue, int_le, pos, vec_len, false};
+ghost use Rattle.std.specs.Prelude.{◌≡◌, ◌<◌, ◌^◌, None, IfOk, IsTrue, int_le, pos, false};
 ghost use Rattle.std.specs.Option.{ForSome, option_map};
 ghost use Rattle.spf_feed.specs.Items.{rules_with};
 ghost use Rattle.spf_proto.specs.Translated.{moment_frame};
@@ -19,9 +19,6 @@ use spf_feed::{
 use spf_io::{OutOfMemory, Sink, Source};
 use std::alloc::Global;
 use std::marker::Brand;
-
-/// How many octets are read at once.
-const CHUNK: usize = 1 << 16;
 
 /// Whether a moment is at the deadline, or past it.
 fn is_due(deadline: Option<i64>, start: i64) -> bool
@@ -42,22 +39,6 @@ fn frame_of(alloc: Global, seconds: u64) -> Result<Vec<u8>, OutOfMemory>
     frame.extend_from_slice(&[frame_kind::MOMENT, 0, 0, 0, 8])?;
     frame.extend_from_slice(&seconds.to_be_bytes())?;
     Ok(frame)
-}
-
-/// The buffer that octets are read into.
-fn chunk_of(alloc: Global) -> Result<Vec<u8>, OutOfMemory>
-    ensures { IfOk result (λ v. 0 < vec_len v) }
-{
-    let mut chunk = Vec::new(alloc);
-    chunk.resize(CHUNK, 0)?;
-    Ok(chunk)
-}
-
-/// The buffers of a translation that begins at a moment.
-fn buffers(alloc: Global, seconds: u64) -> Result<(Vec<u8>, Vec<u8>), OutOfMemory>
-    ensures { IfOk result (λ b. (0 < vec_len b.0) × (b.1.items ≡ moment_frame seconds)) }
-{
-    Ok((chunk_of(alloc)?, frame_of(alloc, seconds)?))
 }
 
 /// Follows the messages of a source that is lent, and returns the source.
@@ -106,7 +87,7 @@ fn follow_lent<N: Origin, T: LentSource, K: Sink, P: Publisher, M: MetricsRecord
           records = M.records recorder.new;
         }) result.0 }
 {
-    let Ok((chunk, frames)) = buffers(alloc, seconds) else {
+    let Ok(frames) = frame_of(alloc, seconds) else {
         return (Err(ProtoError::Follow(FollowError::OutOfMemory)), source);
     };
     let mut translator = Translator::<'_, T, C, N>::new(
@@ -115,7 +96,6 @@ fn follow_lent<N: Origin, T: LentSource, K: Sink, P: Publisher, M: MetricsRecord
         acceptance,
         picker,
         max_messages,
-        chunk,
         frames,
     );
     let followed = follow_x509_sharing::<Translator<'_, T, C, N>, K, P, M, C, LastRead>(

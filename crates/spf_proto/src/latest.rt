@@ -6,6 +6,7 @@ ghost use Rattle.spf_feed.specs.Items.{rules_with};
 ghost use Rattle.spf_proto.specs.Translating.{IsMadeOrStopped};
 ghost use Rattle.spf_proto.specs.Latest.{IsLatest, IsAgain};
 
+use crate::incoming::Incoming;
 use crate::taking::Stop;
 use crate::translating::{Acceptance, Position, frames_of};
 use spf_feed::SvidPicker;
@@ -16,12 +17,11 @@ use std::mem;
 /// The last message that was translated, with the five octets before it.
 #[derive(Drop)]
 pub(crate) struct Latest {
-    pub(crate) message: Vec<u8>,
+    pub(crate) message: Incoming,
     /// Where the session stood before and after it. None where the frames are those of no message.
     pub(crate) stood: Option<(Position, Position)>,
     /// The last context that was read.
     pub(crate) held: Option<X509Context>,
-    pub(crate) payload: Vec<u8>,
     pub(crate) frames: Vec<u8>,
 }
 
@@ -32,10 +32,9 @@ impl Latest {
         ensures stood { result.stood ≡ None }
     {
         Latest {
-            message: Vec::new(alloc),
+            message: Incoming::new(alloc),
             stood: None,
             held: None,
-            payload: Vec::new(alloc),
             frames,
         }
     }
@@ -64,11 +63,11 @@ pub(crate) fn translate<C: SvidPicker>(
     acceptance: Acceptance,
     picker: Option<&C>,
     position: Position,
-    message: &mut Vec<u8>,
+    message: &mut Incoming,
     latest: &mut Latest,
 ) -> Result<Position, Stop>
     requires picker { ForSome picker (λ p. C.can_pick p.now) }
-    requires head { 5 ≤ length message.old.items }
+    requires head { 5 ≤ length message.old }
     requires latest { IsLatest
         (rules_with acceptance.limits None acceptance.ready
         (option_map (λ p. C.picks p.now) picker)) acceptance.start latest.old }
@@ -78,7 +77,7 @@ pub(crate) fn translate<C: SvidPicker>(
     ensures made { IsMadeOrStopped
         (rules_with acceptance.limits None acceptance.ready
         (option_map (λ p. C.picks p.now) picker.entry)) acceptance.start position
-        (drop 5 message.old.items) latest.new.frames.items result }
+        (drop 5 message.old) latest.new.frames.items result }
     ensures kept { OnErr result (message.new ≡ message.old) }
 {
     if let Some(after) = latest.after(position, message.as_slice()) {
@@ -90,9 +89,8 @@ pub(crate) fn translate<C: SvidPicker>(
         acceptance,
         picker,
         position,
-        &message[5..],
+        &message.as_slice()[5..],
         &mut latest.held,
-        &mut latest.payload,
         &mut latest.frames,
     ) {
         Ok(Some(after)) => {

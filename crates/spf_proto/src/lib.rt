@@ -6,6 +6,7 @@ mod arguments;
 mod entry;
 mod following;
 mod frame_end;
+mod incoming;
 mod latest;
 pub mod laws;
 mod lent;

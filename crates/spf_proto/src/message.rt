@@ -107,6 +107,21 @@ fn last_of_each<'a>(
     Ok(kept)
 }
 
+/// The same of a list that may be handed on as it is.
+fn without_repeats<'a>(
+    alloc: Global,
+    entries: Vec<BundleEntryView<'a>>,
+) -> Result<Vec<BundleEntryView<'a>>, OutOfMemory>
+    ensures { IfOk result
+        (λ v. map bundle_entry_of v.items
+        ≡ last_of_each (map bundle_entry_of entries.entry.items)) }
+{
+    if entries.len() < 2 {
+        return Ok(entries);
+    }
+    last_of_each(alloc, entries.as_slice())
+}
+
 /// Reads a message. Returns None where the bytes are not one.
 #[tactic(auto, unfolding(crate::specs::Message::context_message))]
 pub fn read_message<'a>(
@@ -119,7 +134,7 @@ pub fn read_message<'a>(
         return Ok(None);
     };
     Ok(Some(ContextView {
-        federated: List::new(last_of_each(alloc, members.federated.as_slice())?),
+        federated: List::new(without_repeats(alloc, members.federated)?),
         svids: List::new(members.svids),
         crls: List::new(members.crls),
     }))

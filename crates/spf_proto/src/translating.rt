@@ -1,19 +1,21 @@
 //! The frames that a message stands for.
 
-ghost use Rattle.std.specs.Prelude.{◌≡◌, [], IfOk, OnOk, Some, None, false, is_some};
+ghost use Rattle.std.specs.Prelude.{◌≡◌, ◌+◌, ◌≤◌, [], IfOk, OnOk, Some, None, false, is_some};
+ghost use Rattle.std.specs.Prelude.{length};
 ghost use Rattle.std.specs.Prelude.{if◌then◌else◌};
 ghost use Rattle.std.specs.Option.{ForSome, option_map};
 ghost use Rattle.spf_api.specs.Views.{context_of};
+ghost use Rattle.spf_proto.specs.Payloads.{IsContext, context_payload};
 ghost use Rattle.spf_feed.specs.Items.{IsReceived, context_in, rules_with};
 ghost use Rattle.spf_feed.specs.Items as items_spec;
 ghost use Rattle.spf_feed.specs.Pick.{usable};
 ghost use Rattle.spf_feed.specs.Steps.{chosen_of};
 ghost use Rattle.spf_proto.specs.Translated.{is_accepted, standing_after};
-ghost use Rattle.spf_proto.specs.Translating.{standing, client_frames, item_frames};
+ghost use Rattle.spf_proto.specs.Translating.{standing, client_frames, ArePut, IsLengthPut};
 ghost use Rattle.spf_proto.specs.Translating.{IsTranslated};
 
 use crate::message::read_message;
-use crate::payload::{put_bytes, put_context};
+use crate::payload::put_context;
 use spf_api::{ContextView, WorkloadApiError, context_from_view_sharing};
 use spf_feed::{Ready, ResourceLimits, SvidPicker, frame_kind, select_svid, validate_limits};
 use spf_io::OutOfMemory;
@@ -160,15 +162,38 @@ fn frames_before(is_open: bool) -> &'static [u8]
     if is_open { &[] } else { &CLIENT }
 }
 
-/// Puts the frames of an update with this payload.
-#[tactic(auto, unfolding(crate::specs::Translating::item_frames))]
-fn put_frames(frames: &mut Vec<u8>, is_open: bool, payload: &[u8]) -> Result<(), OutOfMemory>
-    ensures { OnOk result (frames.new.items ≡ item_frames is_open payload.now) }
+/// Writes the length of the payload into the four octets at `at`, behind which it begins. Returns
+/// false where it is too long for a frame.
+fn put_length(frames: &mut Vec<u8>, at: usize) -> bool
+    requires room { at + 4 ≤ length frames.old.items }
+    ensures { IsLengthPut at frames.old.items frames.new.items result }
+{
+    let length = frames.len() - at - 4;
+    if length > MAX_PAYLOAD {
+        return false;
+    }
+    frames[at..at + 4].copy_from_slice(&(length as u32).to_be_bytes());
+    true
+}
+
+/// Puts the frames of an update in place of what the buffer held. Returns false where its payload
+/// is too long for a frame.
+fn put_frames(
+    frames: &mut Vec<u8>,
+    is_open: bool,
+    view: &ContextView<'_>,
+) -> Result<bool, OutOfMemory>
+    ensures fits { OnOk result (IsContext (context_of view.now)) }
+    ensures frames { IfOk result
+        (λ put. ArePut is_open (context_payload (context_of view.now)) frames.new.items put) }
 {
     frames.clear();
     frames.extend_from_slice(frames_before(is_open))?;
     frames.push(frame_kind::ITEM)?;
-    put_bytes(frames, payload)
+    let at = frames.len();
+    frames.extend_from_slice(&[0; 4])?;
+    put_context(frames, view)?;
+    Ok(put_length(frames, at))
 }
 
 /// Puts the frames of a message in place of what the buffer held, and returns where the session
@@ -181,7 +206,6 @@ pub(crate) fn frames_of<C: SvidPicker>(
     position: Position,
     octets: &[u8],
     held: &mut Option<X509Context>,
-    payload: &mut Vec<u8>,
     frames: &mut Vec<u8>,
 ) -> Result<Option<Position>, OutOfMemory>
     requires { ForSome picker (λ p. C.can_pick p.now) }
@@ -196,12 +220,9 @@ pub(crate) fn frames_of<C: SvidPicker>(
     let Some(view) = read_message(alloc, octets)? else {
         return Ok(None);
     };
-    payload.clear();
-    put_context(payload, &view)?;
-    if payload.len() > MAX_PAYLOAD {
+    if !put_frames(frames, position.is_open, &view)? {
         return Ok(None);
     }
-    put_frames(frames, position.is_open, payload.as_slice())?;
     let context = read_context(alloc, &view, held.as_ref())?;
     Ok(Some(position_after(acceptance, picker, position, context, held)))
 }

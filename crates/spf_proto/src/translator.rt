@@ -15,6 +15,7 @@ ghost use Rattle.std.specs.Option.{ForSome, option_map};
 ghost use Rattle.spf_feed.specs.Items.{rules_with};
 
 use crate::frame_end::FrameEnd;
+use crate::incoming::Incoming;
 use crate::latest::{Latest, translate};
 use crate::lent::LentSource;
 use crate::proto_error::ProtoError;
@@ -37,9 +38,6 @@ impl Origin for Brand {
     ghost begin = { no_beginning };
 }
 
-/// How many octets are read at once.
-const CHUNK: usize = 1 << 16;
-
 /// The translating source. It fails where a message is bad, where there are too many messages,
 /// where memory runs out and where its own source failed, and keeps the reason.
 #[derive(Drop)]
@@ -48,8 +46,7 @@ pub(crate) struct Translator<'p, T: LentSource, C: SvidPicker, N: Origin> {
     alloc: Global,
     acceptance: Acceptance,
     picker: Option<&'p C>,
-    chunk: Vec<u8>,
-    got: Vec<u8>,
+    got: Incoming,
     latest: Latest,
     at: usize,
     allowed: u32,
@@ -73,7 +70,7 @@ impl<'p, T: LentSource, C: SvidPicker, N: Origin> Model for Translator<'p, T, C,
     ghost view = { λ s. record {
       source = s.source;
       ready = drop s.at s.latest.frames.items;
-      got = s.got.items;
+      got = s.got;
       allowed = s.allowed;
       standing = standing s.position;
       ended = s.ended;
@@ -81,7 +78,7 @@ impl<'p, T: LentSource, C: SvidPicker, N: Origin> Model for Translator<'p, T, C,
       failures = s.failed;
     } };
 
-    ghost invariant = { λ s. (s.at ≤ vec_len s.latest.frames) × (0 < vec_len s.chunk)
+    ghost invariant = { λ s. (s.at ≤ vec_len s.latest.frames)
         × (ForSome s.picker (λ p. C.can_pick p.now))
         × (N.begin.rules ≡ rules_with s.acceptance.limits None s.acceptance.ready
         (option_map (λ p. C.picks p.now) s.picker))
@@ -89,7 +86,7 @@ impl<'p, T: LentSource, C: SvidPicker, N: Origin> Model for Translator<'p, T, C,
         × IsTranslator T.loan T.left T.failures N.begin (record {
           source = s.source;
           ready = drop s.at s.latest.frames.items;
-          got = s.got.items;
+          got = s.got;
           allowed = s.allowed;
           standing = standing s.position;
           ended = s.ended;
@@ -101,17 +98,15 @@ impl<'p, T: LentSource, C: SvidPicker, N: Origin> Model for Translator<'p, T, C,
 }
 
 impl<'p, T: LentSource, C: SvidPicker, N: Origin> Translator<'p, T, C, N> {
-    /// A translation that has not begun: these octets are ready, and `chunk` is what is read into.
+    /// A translation that has not begun: these octets are ready.
     pub(crate) fn new(
         alloc: Global,
         source: T,
         acceptance: Acceptance,
         picker: Option<&'p C>,
         allowed: u32,
-        chunk: Vec<u8>,
         frames: Vec<u8>,
     ) -> Translator<'p, T, C, N>
-        requires chunk { 0 < vec_len chunk }
         requires picker { ForSome picker (λ p. C.can_pick p.now) }
         requires begin { N.begin ≡ record {
           loan = T.loan source;
@@ -129,8 +124,7 @@ impl<'p, T: LentSource, C: SvidPicker, N: Origin> Translator<'p, T, C, N> {
             alloc,
             acceptance,
             picker,
-            chunk,
-            got: Vec::new(alloc),
+            got: Incoming::new(alloc),
             latest: Latest::none(alloc, frames),
             at: 0,
             allowed,
@@ -205,12 +199,7 @@ impl<'p, T: LentSource, C: SvidPicker, N: Origin> Translator<'p, T, C, N> {
         ensures stopped { IfErr result
             (λ s. IsStopped T.left T.failures N.begin self.new (Some s)) }
     {
-        let taken = take_message(
-            &mut self.source,
-            self.chunk.as_mut_slice(),
-            &mut self.got,
-            self.allowed,
-        );
+        let taken = take_message(&mut self.source, &mut self.got, self.allowed);
         match taken {
             Ok(Progress::More) => unreachable!(),
             Ok(Progress::End) => {

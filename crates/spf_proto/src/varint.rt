@@ -25,9 +25,17 @@ fn varint_within(max: u32, bytes: &[u8]) -> Option<(u64, &[u8])>
 }
 
 /// Reads the varint at the start of the bytes, which is below 2^64 and at most ten octets long.
+/// Most have one or two.
+#[inline(always)]
 pub(crate) fn read_varint(bytes: &[u8]) -> Option<(u64, &[u8])>
     ensures exact { option_map (λ x. (x.0, x.1.now)) result ≡ varint_at bytes.now }
     ensures shorter { IfSome result (λ x. length x.1.now < length bytes.now) }
 {
-    varint_within(MAX_VARINT, bytes)
+    match bytes {
+        [octet, rest @ ..] if *octet < 128 => Some((*octet as u64, rest)),
+        [low, high, rest @ ..] if *high < 128 => {
+            Some((128 * *high as u64 + (*low - 128) as u64, rest))
+        }
+        _ => varint_within(MAX_VARINT, bytes),
+    }
 }

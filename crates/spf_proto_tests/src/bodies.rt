@@ -150,3 +150,20 @@ fn truncated_bodies(rt: HostRuntime) -> Result<(), Fail> {
     }
     Ok(())
 }
+
+/// A message of one unknown field that is longer than buffers are at first, and then one more.
+fn long_body(alloc: Global) -> Result<Vec<u8>, Fail> {
+    let mut bytes = octets(alloc, "00000493e4 4ae0a712")?;
+    bytes.resize(300_009, 0)?;
+    let more = octets(alloc, Q)?;
+    bytes.extend_from_slice(more.as_slice())?;
+    Ok(bytes)
+}
+
+#[test]
+fn long_message(rt: HostRuntime) -> Result<(), Fail> {
+    let (result, lines) = followed_octets(rt.alloc(), long_body(rt.alloc())?, 10)?;
+    assert_eq!(rt; result, Ok(7));
+    assert_eq!(rt; count(lines.as_slice()), 7);
+    Ok(())
+}

@@ -33,7 +33,7 @@ returns-clause-followed g c =
     let fits = c.ranges.max_messages.fits in omega (arith, max, fits) in
     let due = ap (is_due c.args.deadline) (sym c.requires.moment) ∙ c.requires.early in
     let frames = begun_left g.T.LentSource.left g.N.Origin.begin rules c.args.seconds c.args.source
-    _ c.args.max_messages _ c.new-translator.ensures.begun c.in-Ok.ensures.1
+    _ c.args.max_messages _ c.new-translator.ensures.begun c.in-Ok.ensures
     (ap (λ (b : Beginning). b.rules) begin) start (sym (ap (λ (b : Beginning). b.left) begin))
     (sym max) in
     followed_since rules g.N.Origin.begin _ _ _ c.result_of-result.result begin

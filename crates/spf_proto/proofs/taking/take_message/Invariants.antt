@@ -4,11 +4,10 @@ use Rattle.spf_proto.proofs.taking.take_message.Given as goal
 
 abbrev pub invariant-loop : goal.invariant-loop
 invariant-loop g l =
-    SoFar (g.T.LentSource.left l.initial.source) (g.T.LentSource.left l.source) l.initial.got.items
-    l.got.items
+    SoFar (g.T.LentSource.left l.initial.source) (g.T.LentSource.left l.source) l.initial.got
+    l.got
     × (g.T.LentSource.failures l.initial.source ≤ g.T.LentSource.failures l.source)
     × (g.T.LentSource.loan l.source ≡ g.T.LentSource.loan l.initial.source)
-    × (length l.chunk ≡ length l.initial.chunk)
 
 abbrev pub decreases-loop : goal.decreases-loop
-decreases-loop g l = 5 + 2 ^ 24 - length l.got.items
+decreases-loop g l = 5 + 2 ^ 24 - length l.got

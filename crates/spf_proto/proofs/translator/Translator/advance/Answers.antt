@@ -13,12 +13,11 @@ invariant_of-self-in-Ok-Whole g c =
       i.1,
       i.2,
       i.3,
-      i.4,
       came_translating g.T.LentSource.loan g.T.LentSource.left g.T.LentSource.failures
           g.N.Origin.begin _ c.args.self.now c.take_message-taken.new.source
-          c.take_message-taken.new.got.items c.self.view_is i.5 c.requires.going
+          c.take_message-taken.new.got c.self.view_is i.4 c.requires.going
           c.requires.unended taken.came taken.loan taken.cause.later taken.sized,
-      i.6,
+      i.5,
     )
 
 pub invariant_of-self-in-Err : goal.invariant_of-self-in-Err
@@ -29,22 +28,21 @@ invariant_of-self-in-Err g c =
       i.1,
       i.2,
       i.3,
-      i.4,
       came_translating g.T.LentSource.loan g.T.LentSource.left g.T.LentSource.failures
           g.N.Origin.begin _ c.args.self.now c.take_message-taken.new.source
-          c.take_message-taken.new.got.items c.self.view_is i.5 c.requires.going
+          c.take_message-taken.new.got c.self.view_is i.4 c.requires.going
           c.requires.unended taken.came taken.loan taken.cause.later taken.sized,
-      i.6,
+      i.5,
     )
 
 pub returns-in-Ok-End-clause-at_end : goal.returns-in-Ok-End-clause-at_end
 returns-in-Ok-End-clause-at_end g c =
-    let ended : (c.take_message-taken.new.got.items ≡ [])
+    let ended : (c.take_message-taken.new.got ≡ [])
     × IsAtEnd (g.T.LentSource.left c.take_message-taken.new.source) = search rules in
     let t : Translating g.row.T.Denot = record {
       source = c.take_message-taken.new.source;
       ready = drop c.self.inside.at c.self.inside.latest.frames.items;
-      got = c.take_message-taken.new.got.items;
+      got = c.take_message-taken.new.got;
       allowed = c.self.inside.allowed;
       standing = standing c.self.inside.position;
       ended = true;

@@ -20,6 +20,6 @@ returns-then-self-len-clause-at_end g c =
 
 pub returns-then-self-clause-at_end : goal.returns-then-self-clause-at_end
 returns-then-self-clause-at_end g c =
-    let ended = c.self.invariant.5.at_end c.if-self.true in
+    let ended = c.self.invariant.4.at_end c.if-self.true in
     λ ready. at_end_left g.T.LentSource.left g.N.Origin.begin.rules g.N.Origin.begin.start _
     c.args.self.now c.self.view_is (ap (λ r. r.ready) c.self.view_is ∙ ready) ended.0 ended.1

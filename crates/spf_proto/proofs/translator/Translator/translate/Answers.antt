@@ -11,13 +11,12 @@ invariant_of-self g c =
       i.1,
       i.2,
       i.3,
-      i.4,
       after_translating g.T.LentSource.loan g.T.LentSource.left g.T.LentSource.failures
           g.N.Origin.begin _ c.args.self.now _ _ _ _ _ c.translate-made.new.latest.frames.items
-          c.clear.new.self.items c.self.view_is i.5 c.requires.going c.requires.whole
+          c.clear.new.self c.self.view_is i.4 c.requires.going c.requires.whole
           c.requires.allowed
           refl
-          made c.clear.ensures.items,
+          made c.clear.ensures,
       c.translate-made.ensures.latest,
     )
 
@@ -26,10 +25,10 @@ returns-in-Ok-clause-left g c =
     let made = rw c.in-Ok.is at c.translate-made.ensures.made in
     let i = c.self.invariant in
     left_translating g.T.LentSource.left g.N.Origin.begin _ c.args.self.now _ _ _ _ _
-    c.translate-made.new.latest.frames.items c.clear.new.self.items c.self.view_is refl i.3 i.4
+    c.translate-made.new.latest.frames.items c.clear.new.self c.self.view_is refl i.2 i.3
     c.requires.ready c.requires.whole c.requires.allowed
     refl
-    made c.clear.ensures.items
+    made c.clear.ensures
 
 pub returns-in-Ok-clause-ready : goal.returns-in-Ok-clause-ready
 returns-in-Ok-clause-ready g c =
