@@ -5,7 +5,7 @@ use Rattle.std.specs.Prelude.{ℤ, is_some, IsTrue, IfSome}
 use Rattle.std.specs.Borrow.{Bor}
 use Rattle.std.specs.Option.{option_or, option_map, option_to_list}
 use Rattle.std.proofs.lemmas.List.{append-nil}
-use Rattle.spf_view.specs.Views.{has_synced, outcome, Accepted, Denied, Passed}
+use Rattle.spf_view.specs.Views.{has_synced, outcome}
 use Rattle.spf_view.specs.Keeping.{IsAt, kept_with_any}
 use Rattle.spf_view.specs.Sessions.{Grows}
 use Rattle.spf_view.specs.Standing.{Kept}

@@ -26,6 +26,7 @@ use spf_io::OutOfMemory;
 use spf_pace::AttemptEnd;
 use std::alloc::Global;
 use std::marker::Model;
+use std::mem::drop;
 use std::snapshot;
 use std::sync::Arc;
 
@@ -148,7 +149,13 @@ fn foresee<K: SvidPicker>(
 {
     let received = received_of(alloc, event)?;
     let phase = phase_after(place.phase, synced, &received);
-    let end = end_of(alloc, phase, place.gave_accepted, &received)?;
+    let end = match end_of(alloc, phase, place.gave_accepted, &received) {
+        Ok(end) => end,
+        Err(OutOfMemory) => {
+            drop(received);
+            return Err(OutOfMemory);
+        }
+    };
     let moment = moment_after(place.moment, &received);
     let turn = turn_of(rules, picker.as_ref(), synced, place.moment, received);
     let is_accepted = is_accepted(&turn);
@@ -424,9 +431,10 @@ impl<P: Publisher + Drop, M: MetricsRecorder + Drop, K: SvidPicker + Drop> Sessi
     {
         self.stuck = true;
         if self.events.reserve(1).is_err() {
+            drop(event);
             return Err(Stop::OutOfMemory);
         }
-        let taken = take(
+        let taken = match take(
             self.alloc,
             &mut self.publisher,
             &mut self.snapshot,
@@ -434,7 +442,13 @@ impl<P: Publisher + Drop, M: MetricsRecorder + Drop, K: SvidPicker + Drop> Sessi
             self.rules,
             &self.picker,
             &event,
-        )?;
+        ) {
+            Ok(taken) => taken,
+            Err(stop) => {
+                drop(event);
+                return Err(stop);
+            }
+        };
         self.events.push_reserved(event);
         record_all(&mut self.recorder, taken.records)?;
         self.stuck = false;

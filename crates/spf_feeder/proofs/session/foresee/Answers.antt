@@ -11,7 +11,7 @@ returns-clause-foresees g c =
     let lent = ap (rules_with set.limits set.deadline set.ready)
     (lent_picker g.K.SvidPicker.picks c.as_ref.result c.args.picker.now (search rules)) in
     foresees_by rule _ c.args.synced c.args.place c.args.event.now c.in_ok-received.received _
-    c.in_ok-end.end c.is_accepted-is_accepted.result lent c.in_ok-received.ensures
+    c.in-Ok.end c.is_accepted-is_accepted.result lent c.in_ok-received.ensures
     c.turn_of-turn.ensures.turn c.moment_after-moment.ensures c.phase_after-phase.ensures
-    c.is_accepted-is_accepted.ensures c.gave_after.ensures c.in_ok-end.ensures
+    c.is_accepted-is_accepted.ensures c.gave_after.ensures c.in-Ok.ensures
     c.unless.ensures

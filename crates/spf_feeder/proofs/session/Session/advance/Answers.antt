@@ -1,6 +1,5 @@
 use Rattle.std.proofs.Common.{◌≡◌, ◌++◌, ◌∷◌, [], List, refl, sym, ap, subst}
-use Rattle.std.proofs.Common.{true, false, reverse}
-use Rattle.std.proofs.lemmas.Result.{err_from_is_err_and}
+use Rattle.std.proofs.Common.{true, reverse}
 use Rattle.std.specs.Prelude.{◌||◌}
 use Rattle.spf_feed.specs.Items.{Event, Rules, context_in}
 use Rattle.spf_feed.specs.Run.{ask_of, stream}
@@ -11,34 +10,32 @@ use Rattle.spf_feeder.proofs.RunLemmas.{advanced_of, going_at, is_going}
 use Rattle.spf_feeder.proofs.RunLemmas.{published_still, pushed, stopped_of}
 use Rattle.spf_feeder.proofs.session.Session.advance.Goals as goal
 
-pub returns-in_err-taken-clause-published : goal.returns-in_err-taken-clause-published
-returns-in_err-taken-clause-published g c =
+pub returns-in-Err-clause-published : goal.returns-in-Err-clause-published
+returns-in-Err-clause-published g c =
     let before = c.self.inside in
     let rule : Rules = rules_by g.K.SvidPicker.picks before.rules before.picker in
     published_still rule before.events.items _ _ _ c.reserve.ensures.items
-    c.in_err-taken.ensures.refused c.self.invariant.1
+    c.in-Err.ensures.refused c.self.invariant.1
 
-pub returns-in_err-taken-clause-advances : goal.returns-in_err-taken-clause-advances
-returns-in_err-taken-clause-advances g c =
+pub returns-in-Err-clause-advances : goal.returns-in-Err-clause-advances
+returns-in-Err-clause-advances g c =
     let before = c.self.inside in
     let rule : Rules = rules_by g.K.SvidPicker.picks before.rules before.picker in
     let same : rule ≡ rules_by g.K.SvidPicker.picks c.args.self.now.settings c.args.self.now.picker
     =
     ap (λ old. rules_by g.K.SvidPicker.picks old.settings old.picker) c.self.view_is in
     let going = is_going _ c.args.self.now c.self.view_is c.requires.going in
-    let p = err_from_is_err_and c.from_residual.result c.from_residual.ensures.1 in
-    rw (p.1, p.2)
-    (stopped_of g.M.MetricsRecorder.records rule _ _ _ _ _ _ _ _ _ same c.self.view_is
-    (c.in_err-taken.ensures.takes before.events.items c.self.invariant.1
-    (c.self.invariant.2 going)) c.reserve.ensures.items refl)
+    stopped_of g.M.MetricsRecorder.records rule _ _ _ _ _ _ _ _ _ same c.self.view_is
+    (c.in-Err.ensures.takes before.events.items c.self.invariant.1
+    (c.self.invariant.2 going)) c.reserve.ensures.items refl
 
-pub invariant_of-self-in_err-taken : goal.invariant_of-self-in_err-taken
-invariant_of-self-in_err-taken g c =
+pub invariant_of-self-in-Err : goal.invariant_of-self-in-Err
+invariant_of-self-in-Err g c =
     let before = c.self.inside in
     let rule : Rules = rules_by g.K.SvidPicker.picks before.rules before.picker in (
       c.self.invariant.0,
       published_still rule before.events.items _ _ _ c.reserve.ensures.items
-          c.in_err-taken.ensures.refused c.self.invariant.1,
+          c.in-Err.ensures.refused c.self.invariant.1,
       λ f. absurd cc,
       subst (λ run. IsOrderly rule (reverse run)) (sym {A = List Event} c.reserve.ensures.items)
           c.self.invariant.3,
@@ -52,7 +49,7 @@ returns-in_err-record_all-clause-published g c =
     pushed before.events.items _ _ c.args.event c.push_reserved.ensures.items
     c.reserve.ensures.items in
     let going = is_going _ c.args.self.now c.self.view_is c.requires.going in
-    let done = c.in_ok-taken.ensures.takes before.events.items c.self.invariant.1
+    let done = c.in-Ok.ensures.takes before.events.items c.self.invariant.1
     (c.self.invariant.2 going) in
     subst (λ run. Published (g.P.Publisher.steps c.take.new.publisher) rule run) (sym items)
     done.published
@@ -66,7 +63,7 @@ invariant_of-self-in_err-record_all g c =
     pushed before.events.items _ _ c.args.event c.push_reserved.ensures.items
     c.reserve.ensures.items in
     let going = is_going _ c.args.self.now c.self.view_is c.requires.going in
-    let done = c.in_ok-taken.ensures.takes before.events.items c.self.invariant.1
+    let done = c.in-Ok.ensures.takes before.events.items c.self.invariant.1
     (c.self.invariant.2 going) in (
       c.self.invariant.0,
       subst (λ run. Published (g.P.Publisher.steps c.take.new.publisher) rule run) (sym items)
@@ -90,7 +87,7 @@ returns-clause-published g c =
     pushed before.events.items _ _ c.args.event c.push_reserved.ensures.items
     c.reserve.ensures.items in
     let going = is_going _ c.args.self.now c.self.view_is c.requires.going in
-    let done = c.in_ok-taken.ensures.takes before.events.items c.self.invariant.1
+    let done = c.in-Ok.ensures.takes before.events.items c.self.invariant.1
     (c.self.invariant.2 going) in
     subst (λ run. Published (g.P.Publisher.steps c.take.new.publisher) rule run) (sym items)
     done.published
@@ -104,7 +101,7 @@ invariant_of-self-2 g c =
     pushed before.events.items _ _ c.args.event c.push_reserved.ensures.items
     c.reserve.ensures.items in
     let going = is_going _ c.args.self.now c.self.view_is c.requires.going in
-    let done = c.in_ok-taken.ensures.takes before.events.items c.self.invariant.1
+    let done = c.in-Ok.ensures.takes before.events.items c.self.invariant.1
     (c.self.invariant.2 going) in (
       c.self.invariant.0,
       subst (λ run. Published (g.P.Publisher.steps c.take.new.publisher) rule run) (sym items)
@@ -132,5 +129,5 @@ returns-clause-advances g c =
     =
     ap (λ old. rules_by g.K.SvidPicker.picks old.settings old.picker) c.self.view_is in
     advanced_of g.M.MetricsRecorder.records rule _ _ _ _ _ _ _ _ _ _ _ _ same c.self.view_is
-    (c.in_ok-taken.ensures.takes before.events.items c.self.invariant.1
+    (c.in-Ok.ensures.takes before.events.items c.self.invariant.1
     (c.self.invariant.2 going)) items refl c.in_ok-record_all.ensures
