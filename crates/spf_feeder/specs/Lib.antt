@@ -6,4 +6,5 @@ pub mod Kept
 pub mod Opened
 pub mod Orderly
 pub mod Pacing
+pub mod Taking
 pub mod Times

@@ -15,6 +15,7 @@ use spf_feed::{Event, Phase, SessionEvent};
 use spf_io::{OutOfMemory, Text};
 use spf_link::{Connector, Headers, Link, MetadataAdder, NoInterceptor, Request};
 use std::alloc::Global;
+use std::mem::drop;
 
 /// The displayed text of a connection that was lost or never made.
 fn connect_message(alloc: Global, e: &TransportConnectError) -> Result<Text, OutOfMemory>
@@ -45,7 +46,10 @@ pub fn stream_headers(alloc: Global) -> Result<Headers, OutOfMemory>
     let mut headers = Headers::new(alloc);
     match MetadataAdder::new(NoInterceptor).call(&mut headers) {
         Ok(()) => Ok(headers),
-        Err(_) => Err(OutOfMemory),
+        Err(e) => {
+            drop(e);
+            Err(OutOfMemory)
+        }
     }
 }
 

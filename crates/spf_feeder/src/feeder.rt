@@ -22,6 +22,7 @@ use spf_link::{Connector, Link};
 use spf_pace::AttemptEnd;
 use std::alloc::Global;
 use std::marker::Model;
+use std::mem::drop;
 use std::snapshot;
 
 /// Asks a connector and its link, and publishes what they yield: one ask a turn, whose step is
@@ -223,7 +224,10 @@ where
         let _ = &self.alloc;
         match asked {
             Ok(end) => Ok(end),
-            Err(_) => Err(OutOfMemory),
+            Err(stop) => {
+                drop(stop);
+                Err(OutOfMemory)
+            }
         }
     }
 

@@ -1,7 +1,7 @@
 //! An event as it is received: its item is read down to its context.
 
-ghost use Rattle.std.specs.Prelude.{◌≡◌, IfOk};
-ghost use Rattle.std.specs.Option.{option_map};
+ghost use Rattle.std.specs.Prelude.{◌≡◌, Err, IfOk};
+ghost use Rattle.spf_api.specs.Errors.{is_memory_api};
 ghost use Rattle.spf_feed.specs.Events.{map_item};
 ghost use Rattle.spf_feed.specs.Items.{IsReceived, context_in};
 
@@ -10,6 +10,7 @@ use spf_feed::{Event, Received};
 use spf_io::{OutOfMemory, Text};
 use spf_x509::X509Context;
 use std::alloc::Global;
+use std::mem::drop;
 
 pub(crate) fn copy_of_status(
     alloc: Global,
@@ -38,6 +39,24 @@ fn copy_of_fault(alloc: Global, fault: &ClientFault) -> Result<ClientFault, OutO
     }
 }
 
+fn is_out_of_memory(e: &WorkloadApiError) -> bool
+    ensures { result ≡ is_memory_api e.now }
+{
+    matches!(e, WorkloadApiError::OutOfMemory)
+}
+
+/// What a context that was not read leaves: none where a rule is broken.
+fn refused(e: WorkloadApiError) -> Result<Option<X509Context>, OutOfMemory>
+    ensures { IsReceived (Err e) result }
+{
+    let is_memory = is_out_of_memory(&e);
+    drop(e);
+    if is_memory {
+        return Err(OutOfMemory);
+    }
+    Ok(None)
+}
+
 /// The context that was read, none where a rule is broken.
 fn received(
     parsed: Result<X509Context, WorkloadApiError>,
@@ -46,8 +65,7 @@ fn received(
 {
     match parsed {
         Ok(context) => Ok(Some(context)),
-        Err(WorkloadApiError::OutOfMemory) => Err(OutOfMemory),
-        Err(_) => Ok(None),
+        Err(e) => refused(e),
     }
 }
 

@@ -1,17 +1,18 @@
 //! The core of a feeder: the events so far, what they published, and where they stand.
 
 ghost use Rattle.std.specs.Prelude.{◌≡◌, ◌∷◌, [], true, false, None, Some, IsTrue, IfOk, OnOk};
-ghost use Rattle.std.specs.Prelude.{IfSome, reverse, is_some, if◌then◌else◌, ◌||◌};
+ghost use Rattle.std.specs.Prelude.{IfErr, IfSome, List, reverse, is_some, if◌then◌else◌, ◌||◌};
 ghost use Rattle.std.specs.Arc.{arc_value};
 ghost use Rattle.std.specs.Option.{ForSome};
 ghost use Rattle.spf_view.specs.Views.{has_synced};
-ghost use Rattle.spf_feed.specs.Items.{context_in, subject};
+ghost use Rattle.spf_feed.specs.Items.{Event as SessionOf, context_in, subject};
 ghost use Rattle.spf_feed.specs.Run.{ask_of};
 ghost use Rattle.spf_feed.specs.Following.{update_of};
 ghost use Rattle.spf_feed.specs.Steps.{HasStep};
 ghost use Rattle.spf_feed.specs.Turns.{MayTake, listed};
-ghost use Rattle.spf_feeder.specs.Kept.{Advances, Published, PublishesTurn, accepts, core_of};
-ghost use Rattle.spf_feeder.specs.Kept.{rules_by};
+ghost use Rattle.spf_feeder.specs.Kept.{Advances, Going, Published, PublishesTurn, accepts};
+ghost use Rattle.spf_feeder.specs.Kept.{core_of, rules_by};
+ghost use Rattle.spf_feeder.specs.Taking.{Foresees, Takes};
 ghost use Rattle.spf_feeder.specs.Orderly.{IsOrderly, does_answer, is_moment};
 
 use crate::attempt::{end_of, gave_after};
@@ -25,6 +26,7 @@ use spf_io::OutOfMemory;
 use spf_pace::AttemptEnd;
 use std::alloc::Global;
 use std::marker::Model;
+use std::mem::drop;
 use std::snapshot;
 use std::sync::Arc;
 
@@ -108,6 +110,105 @@ fn is_accepted(turn: &Turn) -> bool
     matches!(turn, Turn::Accepted { .. })
 }
 
+/// An accepted item ends no attempt.
+fn unless(is_accepted: bool, end: Option<AttemptEnd>) -> Option<AttemptEnd>
+    ensures { result ≡ (if is_accepted then None else end) }
+{
+    if is_accepted { None } else { end }
+}
+
+/// Where a session stands after its events, its snapshot aside.
+#[derive(Clone, Copy)]
+struct Place {
+    moment: Option<i64>,
+    phase: Phase,
+    gave_accepted: bool,
+}
+
+/// What an event is to do: its turn, where it leaves the session, and how it ends the attempt.
+#[derive(Drop)]
+struct Foreseen {
+    turn: Turn,
+    place: Place,
+    end: Option<AttemptEnd>,
+}
+
+/// What an event is to do, where an item was accepted before it or not.
+fn foresee<K: SvidPicker>(
+    alloc: Global,
+    rules: SessionRules,
+    picker: &Option<K>,
+    synced: bool,
+    place: Place,
+    event: &Event,
+) -> Result<Foreseen, OutOfMemory>
+    requires { ForSome picker.now K.can_pick }
+    ensures may { IfOk result (λ f. MayTake rules.limits synced f.turn) }
+    ensures foresees { IfOk result
+        (Foresees (rules_by K.picks rules picker.now) synced place event.now) }
+{
+    let received = received_of(alloc, event)?;
+    let phase = phase_after(place.phase, synced, &received);
+    let end = match end_of(alloc, phase, place.gave_accepted, &received) {
+        Ok(end) => end,
+        Err(OutOfMemory) => {
+            drop(received);
+            return Err(OutOfMemory);
+        }
+    };
+    let moment = moment_after(place.moment, &received);
+    let turn = turn_of(rules, picker.as_ref(), synced, place.moment, received);
+    let is_accepted = is_accepted(&turn);
+    let place = Place {
+        moment,
+        phase,
+        gave_accepted: gave_after(place.gave_accepted, is_accepted, event),
+    };
+    Ok(Foreseen {
+        turn,
+        place,
+        end: unless(is_accepted, end),
+    })
+}
+
+/// What an event that was taken leaves to do: its records, and the end of the attempt.
+#[derive(Clone, Copy)]
+struct Taken {
+    records: Records,
+    end: Option<AttemptEnd>,
+}
+
+/// Takes one more event: its step is published. After a refusal nothing is.
+fn take<P: Publisher, K: SvidPicker>(
+    alloc: Global,
+    publisher: &mut P,
+    snapshot: &mut Option<Snapshot>,
+    place: &mut Place,
+    rules: SessionRules,
+    picker: &Option<K>,
+    event: &Event,
+) -> Result<Taken, Stop>
+    requires picker { ForSome picker.now K.can_pick }
+    requires synced { IsTrue (is_some snapshot.old) → HasStep (P.steps publisher.old) }
+    ensures target { P.target publisher.new ≡ P.target publisher.old }
+    ensures refused { IfErr result (λ _. P.steps publisher.new ≡ P.steps publisher.old) }
+    ensures takes { (run : List SessionOf)
+        → Published (P.steps publisher.old) (rules_by K.picks rules picker.now) run
+        → Going (rules_by K.picks rules picker.now) run (P.steps publisher.old) snapshot.old
+        place.old.moment place.old.phase place.old.gave_accepted
+        → Takes (rules_by K.picks rules picker.now) run event.now result snapshot.new
+        (P.steps publisher.new) place.new }
+{
+    let Foreseen {
+        turn,
+        place: next,
+        end,
+    } = foresee(alloc, rules, picker, snapshot.is_some(), *place, event)?;
+    let records = publish_turn(alloc, publisher, snapshot, rules.limits, turn)?;
+    *place = next;
+    Ok(Taken { records, end })
+}
+
 /// What is left of a session.
 #[derive(Drop)]
 pub struct SessionParts<P: Publisher + Drop, K: SvidPicker + Drop> {
@@ -129,9 +230,7 @@ pub(crate) struct Session<P: Publisher + Drop, M: MetricsRecorder + Drop, K: Svi
     rules: SessionRules,
     events: Vec<Event>,
     snapshot: Option<Snapshot>,
-    moment: Option<i64>,
-    phase: Phase,
-    gave_accepted: bool,
+    place: Place,
     stuck: bool,
 }
 
@@ -149,7 +248,7 @@ impl<P: Publisher + Drop, M: MetricsRecorder + Drop, K: SvidPicker + Drop> Model
     ghost invariant = { λ s. ForSome s.picker K.can_pick
         × Published (P.steps s.publisher) (rules_by K.picks s.rules s.picker) s.events.items
         × (s.stuck ≡ false → Going (rules_by K.picks s.rules s.picker) s.events.items
-        (P.steps s.publisher) s.snapshot s.moment s.phase s.gave_accepted)
+        (P.steps s.publisher) s.snapshot s.place.moment s.place.phase s.place.gave_accepted)
         × IsOrderly (rules_by K.picks s.rules s.picker) (reverse s.events.items) };
 }
 
@@ -175,9 +274,11 @@ impl<P: Publisher + Drop, M: MetricsRecorder + Drop, K: SvidPicker + Drop> Sessi
             rules,
             events: Vec::new(alloc),
             snapshot: None,
-            moment: None,
-            phase: Phase::Client,
-            gave_accepted: false,
+            place: Place {
+                moment: None,
+                phase: Phase::Client,
+                gave_accepted: false,
+            },
             stuck: false,
         }
     }
@@ -194,7 +295,7 @@ impl<P: Publisher + Drop, M: MetricsRecorder + Drop, K: SvidPicker + Drop> Sessi
         ensures { result ≡ ask_of context_in (rules_by K.picks self.now.settings self.now.picker)
             (reverse self.now.run) }
     {
-        self.phase
+        self.place.phase
     }
 
     pub(crate) fn is_synced(&self) -> bool
@@ -260,9 +361,7 @@ impl<P: Publisher + Drop, M: MetricsRecorder + Drop, K: SvidPicker + Drop> Sessi
             rules,
             events,
             snapshot,
-            moment,
-            phase,
-            gave_accepted,
+            place,
             stuck,
         } = self;
         let session = Session {
@@ -273,9 +372,7 @@ impl<P: Publisher + Drop, M: MetricsRecorder + Drop, K: SvidPicker + Drop> Sessi
             rules,
             events,
             snapshot,
-            moment,
-            phase,
-            gave_accepted,
+            place,
             stuck,
         };
         (session, before)
@@ -334,42 +431,27 @@ impl<P: Publisher + Drop, M: MetricsRecorder + Drop, K: SvidPicker + Drop> Sessi
     {
         self.stuck = true;
         if self.events.reserve(1).is_err() {
+            drop(event);
             return Err(Stop::OutOfMemory);
         }
-        let synced = self.snapshot.is_some();
-        let received = received_of(self.alloc, &event)?;
-        let next = phase_after(self.phase, synced, &received);
-        let end = end_of(self.alloc, next, self.gave_accepted, &received)?;
-        let after = moment_after(self.moment, &received);
-        let turn = turn_of(
-            self.rules,
-            self.picker.as_ref(),
-            synced,
-            self.moment,
-            received,
-        );
-        let is_accepted = is_accepted(&turn);
-        let limits = self.rules.limits;
-        let records = publish_turn(
+        let taken = match take(
             self.alloc,
             &mut self.publisher,
             &mut self.snapshot,
-            limits,
-            turn,
-        )?;
-        self.gave_accepted = gave_after(self.gave_accepted, is_accepted, &event);
+            &mut self.place,
+            self.rules,
+            &self.picker,
+            &event,
+        ) {
+            Ok(taken) => taken,
+            Err(stop) => {
+                drop(event);
+                return Err(stop);
+            }
+        };
         self.events.push_reserved(event);
-        self.phase = next;
-        self.moment = after;
-        record_all(&mut self.recorder, records)?;
+        record_all(&mut self.recorder, taken.records)?;
         self.stuck = false;
-        Ok(unless(is_accepted, end))
+        Ok(taken.end)
     }
-}
-
-/// An accepted item ends no attempt.
-fn unless(is_accepted: bool, end: Option<AttemptEnd>) -> Option<AttemptEnd>
-    ensures { result ≡ (if is_accepted then None else end) }
-{
-    if is_accepted { None } else { end }
 }

@@ -14,6 +14,7 @@ use spf_feed::{MetricsRecorder, Publisher, SvidPicker};
 use spf_link::Connector;
 use spf_pace::Pace;
 use spf_system::Pause;
+use std::mem::drop;
 use std::sync::Wait;
 
 /// Asks once, and pauses where that ended an attempt.
@@ -119,7 +120,10 @@ where
         }
         match paced_ask(feeder, pace, random, pause) {
             Ok(()) => {}
-            Err(_) => return None,
+            Err(stop) => {
+                drop(stop);
+                return None;
+            }
         }
     }
     unreachable!()

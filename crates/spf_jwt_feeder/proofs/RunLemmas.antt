@@ -39,9 +39,12 @@ use Rattle.spf_jwt_feed.specs.Turns.{IsTurn, listed}
 use Rattle.spf_jwt_feed.proofs.Turned.{IsThrough, step_after, turn_at, went}
 use Rattle.spf_jwt_feed.proofs.TurnLemmas.{asked-map_item}
 use Rattle.spf_jwt_feeder.specs.Attempts.{attempt_end, gave_accepted}
-use Rattle.spf_jwt_feeder.specs.Kept.{Advanced, Advances, Core, Going, Published, PublishesTurn}
-use Rattle.spf_jwt_feeder.specs.Kept.{StepAppended}
+use Rattle.spf_jwt_feeder.specs.declared.session.Foreseen.{Foreseen}
+use Rattle.spf_jwt_feeder.specs.declared.session.Place.{Place}
+use Rattle.spf_jwt_feeder.specs.Kept.{Advanced, Advances, Core, Ended, Going, Published}
+use Rattle.spf_jwt_feeder.specs.Kept.{PublishesTurn, StepAppended, Stopped}
 use Rattle.spf_jwt_feeder.specs.Kept.{WentBy, accepts}
+use Rattle.spf_jwt_feeder.specs.Taking.{AdvancedBy, Foresees, Takes}
 
 -- ---- the step and the records of a turn
 
@@ -127,20 +130,38 @@ TurnOf rules kept e turn =
     (received_outcome rules.limits (is_some kept) (map_item item_in e))
     (received_records (is_some kept) rules.limits (map_item item_in e)) turn
 
-pub turn_as : (rules : Rules) (kept : Option (Kept BundleSet Denial)) (synced : Bool)
-    (e : Event) (received : Received) (turn : Turn)
-    → synced ≡ is_some kept → received ≡ map_item item_in e
+-- the turn that was found for the event as it was received
+turn_as : (rules : Rules) (synced : Bool) (e : Event) (received : Received) (turn : Turn)
+    → received ≡ map_item item_in e
     → IsTurn (received_refusal rules.deadline synced received)
     (received_outcome rules.limits synced received) (received_records synced rules.limits received)
-    turn → TurnOf rules kept e turn
-turn_as rules kept synced e received turn q r h =
+    turn
+    → IsTurn (received_refusal rules.deadline synced (map_item item_in e))
+    (received_outcome rules.limits synced (map_item item_in e))
+    (received_records synced rules.limits (map_item item_in e)) turn
+turn_as rules synced e received turn is h =
     subst (λ x.
-    IsTurn (received_refusal rules.deadline (is_some kept) x)
-    (received_outcome rules.limits (is_some kept) x)
-    (received_records (is_some kept) rules.limits x) turn) r
-    (subst (λ b.
-    IsTurn (received_refusal rules.deadline b received) (received_outcome rules.limits b received)
-    (received_records b rules.limits received) turn) q h)
+    IsTurn (received_refusal rules.deadline synced x) (received_outcome rules.limits synced x)
+    (received_records synced rules.limits x) turn) is h
+
+pub foresees_by : (rules : Rules) (synced : Bool) (place : Place) (e : Event) (received : Received)
+    (seen : Foreseen) (end : Option AttemptEnd) (accepted : Bool) → received ≡ map_item item_in e
+    → IsTurn (received_refusal rules.deadline synced received)
+    (received_outcome rules.limits synced received) (received_records synced rules.limits received)
+    seen.turn → seen.place.phase ≡ received_ask place.phase synced received
+    → accepted ≡ accepts seen.turn
+    → seen.place.gave_accepted ≡ gave_with place.gave_accepted accepted e
+    → end ≡ end_with seen.place.phase place.gave_accepted received
+    → seen.end ≡ cond accepted None end → Foresees rules synced place e seen
+foresees_by rules synced place e received seen end accepted is h phase accepts_is gives ends unless
+    = record {
+      turn = turn_as rules synced e received seen.turn is h;
+      phase = phase ∙ ap (λ r. received_ask place.phase synced r) is;
+      gave = gives ∙ ap (λ b. gave_with place.gave_accepted b e) accepts_is;
+      end_is = unless ∙ ap (λ b. cond b None end) accepts_is
+          ∙ ap (λ o. cond (accepts seen.turn) None o)
+          (ends ∙ ap (λ r. end_with seen.place.phase place.gave_accepted r) is);
+    }
 
 pub turn_done : (rules : Rules) (run : List Event) (e : Event) (turn : Turn)
     (kept kept' : Option (Kept BundleSet Denial)) (steps steps' : Option (List PlainStep))
@@ -287,79 +308,55 @@ end_is rules run e turn kept kept' steps steps' records phase phase' gave end en
 
 -- ---- all of it
 
-pub record AdvancedBy (rules : Rules) (run : List Event) (e : Event)
-    (kept : Option (Kept BundleSet Denial)) (steps : Option (List PlainStep))
-    (records : Records) (phase : Phase) (gave : Bool) (end : Option AttemptEnd) :
-    Type 0 where
-  pub published : Published steps rules (run ++ e ∷ [])
-  pub going : Going rules (run ++ e ∷ []) steps kept phase gave
-  pub none : (stream rules).refusal (reverse run) e ≡ None
-  pub records_are : listed records ≡ (outputs rules).records (reverse run) e
-  pub end_is : end ≡ attempt_end rules (reverse run) e
-
-pub advanced_by : (rules : Rules) (run : List Event) (e : Event) (received : Received)
-    (turn : Turn) (kept kept' : Option (Kept BundleSet Denial))
-    (steps steps' : Option (List PlainStep))
-    (records : Records) (phase phase' : Phase)
-    (gave gave' synced accepted : Bool) (end end' : Option AttemptEnd) → Published steps rules run
-    → Going rules run steps kept phase gave → synced ≡ is_some kept
-    → received ≡ map_item item_in e
-    → IsTurn (received_refusal rules.deadline synced received)
-    (received_outcome rules.limits synced received) (received_records synced rules.limits received)
-    turn → WentBy rules.limits turn kept steps records kept' steps'
-    → phase' ≡ received_ask phase synced received
-    → accepted ≡ accepts turn → gave' ≡ gave_with gave accepted e
-    → (IsTrue (is_some kept') → HasStep steps') → end ≡ end_with phase' gave received
-    → end' ≡ cond accepted None end
-    → AdvancedBy rules run e kept' steps' records phase' gave' end'
-advanced_by rules run e received turn kept kept' steps steps' records phase phase' gave gave' synced
-    accepted end end' p g is_synced is_received h w ask accepts_is gives step ends unless =
-    let turned = turn_as rules kept synced e received turn is_synced is_received h in
-    let done =
-    turn_done rules run e turn kept kept' steps steps' records phase gave g turned w in
-    let asks : phase' ≡ received_ask phase (is_some kept) (map_item item_in e) =
-    ask ∙ (λ i. received_ask phase (is_synced i) (is_received i)) in
+pub advanced_by : (rules : Rules) (run : List Event) (e : Event) (synced : Bool) (place : Place)
+    (seen : Foreseen) (kept kept' : Option (Kept BundleSet Denial))
+    (steps steps' : Option (List PlainStep)) (records : Records) → synced ≡ is_some kept
+    → Foresees rules synced place e seen
+    → WentBy rules.limits seen.turn kept steps records kept' steps'
+    → (IsTrue (is_some kept') → HasStep steps') → Published steps rules run
+    → Going rules run steps kept place.phase place.gave_accepted
+    → AdvancedBy rules run e kept' steps' records seen.place.phase seen.place.gave_accepted seen.end
+advanced_by rules run e synced place seen kept kept' steps steps' records is h w step p g =
+    let at = subst (λ b. Foresees rules b place e seen) is h in
+    let done = turn_done rules run e seen.turn kept kept' steps steps' records place.phase
+    place.gave_accepted g at.turn w in
     record {
-      published = published_more rules run e turn kept kept' steps steps' records done p;
-      going = going_more rules run e turn kept kept' steps steps' records phase phase' gave gave' g
-          done asks (gives ∙ ap (λ b. gave_with gave b e) accepts_is) step;
+      published = published_more rules run e seen.turn kept kept' steps steps' records done p;
+      going = going_more rules run e seen.turn kept kept' steps steps' records place.phase
+          seen.place.phase place.gave_accepted seen.place.gave_accepted g done at.phase at.gave
+          step;
       none = done.none;
       records_are = done.records_are;
-      end_is = end_is rules run e turn kept kept' steps steps' records phase phase' gave end end' g
-          done asks (ends ∙ ap (λ r. end_with phase' gave r) is_received)
-          (unless ∙ ap (λ b. cond b None end) accepts_is);
+      end_is = end_is rules run e seen.turn kept kept' steps steps' records place.phase
+          seen.place.phase place.gave_accepted
+          (end_with seen.place.phase place.gave_accepted (map_item item_in e)) seen.end g done
+          at.phase refl at.end_is;
     }
 
 -- a turn that was refused
-pub refused_by : {P M : Type 0} (recorded : M → Option (List JwtMetricsRecord))
-    (rules : Rules) (run : List Event) (e : Event) (received : Received) (turn : Turn)
-    (kept kept' : Option (Kept BundleSet Denial)) (steps steps' : Option (List PlainStep))
-    (phase : Phase) (gave synced : Bool) (stop : Stop) (old new : Core P M)
-    → Going rules run steps kept phase gave → synced ≡ is_some kept
-    → received ≡ map_item item_in e
-    → IsTurn (received_refusal rules.deadline synced received)
-    (received_outcome rules.limits synced received) (received_records synced rules.limits received)
-    turn → PublishesTurn rules.limits turn kept steps (Err stop) kept' steps' → old.run ≡ run
-    → new.run ≡ run → new.stuck ≡ true → Advances recorded rules old e (Err stop) new
-refused_by recorded rules run e received turn kept kept' steps steps' phase gave synced
-    (stops.Terminal end) old new g is_synced is_received h p was is stuck =
-    let turned = turn_as rules kept synced e received turn is_synced is_received h in
-    let at = turn_at rules (reverse run) g.moment kept e turn g.at turned in
-    let ended : IsTurn ((stream rules).refusal (reverse run) e)
-    (outcome (subject rules) e (reverse run))
-    (records_by item_in (has_synced (subject rules) (reverse run)) rules.limits e)
-    (turns.Terminal end) =
+pub refused_by : (rules : Rules) (run : List Event) (e : Event) (synced : Bool)
+    (place after : Place) (seen : Foreseen) (kept kept' : Option (Kept BundleSet Denial))
+    (steps steps' : Option (List PlainStep)) (stop : Stop) → synced ≡ is_some kept
+    → Foresees rules synced place e seen
+    → PublishesTurn rules.limits seen.turn kept steps (Err stop) kept' steps'
+    → Going rules run steps kept place.phase place.gave_accepted
+    → Takes rules run e (Err stop) kept' steps' after
+refused_by rules run e synced place after seen kept kept' steps steps' (stops.Terminal end) is h p
+    g =
+    let past = reverse run in
+    let at = subst (λ b. Foresees rules b place e seen) is h in
+    let turn = turn_at rules past g.moment kept e seen.turn g.at at.turn in
     subst (λ t.
-    IsTurn ((stream rules).refusal (reverse run) e) (outcome (subject rules) e (reverse run))
-    (records_by item_in (has_synced (subject rules) (reverse run)) rules.limits e) t) p.0 at in
-    record {
-      run_is = is ∙ sym was;
-      stuck_is = stuck;
-      refused = subst (λ r. (stream rules).refusal (reverse r) e ≡ Some end) (sym was) ended;
-    }
-refused_by recorded rules run e received turn kept kept' steps steps' phase gave synced
-    stops.OutOfMemory old new g is_synced is_received h p was is stuck =
-    record { run_is = inl (is ∙ sym was); stuck_is = stuck }
+    IsTurn ((stream rules).refusal past e) (outcome (subject rules) e past)
+    (records_by item_in (has_synced (subject rules) past) rules.limits e) t) p.0 turn
+refused_by rules run e synced place after seen kept kept' steps steps' stops.OutOfMemory is h p g =
+    tt
+
+pub unpublished : (limits : JwtResourceLimits) (turn : Turn)
+    (kept kept' : Option (Kept BundleSet Denial)) (steps steps' : Option (List PlainStep))
+    (stop : Stop) → PublishesTurn limits turn kept steps (Err stop) kept' steps' → steps' ≡ steps
+unpublished limits turn kept kept' steps steps' (stops.Terminal end) h = h.1
+unpublished limits turn kept kept' steps steps' stops.OutOfMemory h = h
 
 pub going_at : (rules : Rules) (run run' : List Event) (steps : Option (List PlainStep))
     (kept : Option (Kept BundleSet Denial)) (phase : Phase) (gave : Bool)
@@ -368,7 +365,23 @@ pub going_at : (rules : Rules) (run run' : List Event) (steps : Option (List Pla
 going_at rules run run' steps kept phase gave same g =
     subst (λ l. Going rules l steps kept phase gave) (sym same) g
 
--- the same of the core as contracts see it
+-- ---- of the core as contracts see it
+
+pub pushed : (old mid new : List Event) (e : Event) → new ≡ mid ++ e ∷ [] → mid ≡ old
+    → new ≡ old ++ e ∷ []
+pushed old mid new e is same = is ∙ ap (λ l. l ++ e ∷ []) same
+
+pub is_going : {P M : Type 0} (before old : Core P M) → before ≡ old → old.stuck ≡ false
+    → before.stuck ≡ false
+is_going {P} {M} before old is going = ap (λ (c : Core P M). c.stuck) is ∙ going
+
+pub published_still : (rules : Rules) (run run' : List Event)
+    (steps steps' : Option (List PlainStep)) → run' ≡ run → steps' ≡ steps
+    → Published steps rules run → Published steps' rules run'
+published_still rules run run' steps steps' longer same p =
+    subst (λ l. Published steps' rules l) (sym longer)
+    (subst (λ s. Published s rules run) (sym same) p)
+
 pub advanced_of : {P M : Type 0} (recorded : M → Option (List JwtMetricsRecord))
     (rules seen : Rules)
     (old before new : Core P M) (e : Event) (kept : Option (Kept BundleSet Denial))
@@ -390,9 +403,17 @@ advanced_of {P} {M} recorded rules seen old before new e kept steps records phas
           done.records_are grown;
     }))
 
-pub refused_of : {P M : Type 0} (recorded : M → Option (List JwtMetricsRecord))
-    (rules seen : Rules)
-    (old new : Core P M) (e : Event) (stop : Stop) → rules ≡ seen
-    → Advances recorded rules old e (Err stop) new → Advances recorded seen old e (Err stop) new
-refused_of recorded rules seen old new e stop same h =
-    subst (λ r. Advances recorded r old e (Err stop) new) same h
+pub stopped_of : {P M : Type 0} (recorded : M → Option (List JwtMetricsRecord))
+    (rules seen : Rules) (old before new : Core P M) (e : Event)
+    (kept : Option (Kept BundleSet Denial)) (steps : Option (List PlainStep)) (place : Place)
+    (stop : Stop) → rules ≡ seen → before ≡ old
+    → Takes rules before.run e (Err stop) kept steps place → new.run ≡ before.run
+    → new.stuck ≡ true → Advances recorded seen old e (Err stop) new
+stopped_of {P} {M} recorded rules seen old before new e kept steps place (stops.Terminal end) same
+    is refused run stuck =
+    subst (λ r. Ended r old e end new) same
+    (subst (λ (o : Core P M). Ended rules o e end new) is
+    (record { run_is = run; stuck_is = stuck; refused = refused }))
+stopped_of {P} {M} recorded rules seen old before new e kept steps place stops.OutOfMemory same is
+    refused run stuck =
+    subst (λ (o : Core P M). Stopped o e new) is (record { run_is = inl run; stuck_is = stuck })

@@ -1,5 +1,5 @@
 -- A feeder: a connector and its link, and the run of what they yield.
-use Rattle.std.specs.Prelude.{◌≡◌, true, List, ◌∷◌, [], ◌++◌, reverse, Option, None}
+use Rattle.std.specs.Prelude.{◌≡◌, true, List, ◌∷◌, [], ◌++◌, reverse, Option}
 use Rattle.std.specs.Prelude.{Some, Result, Ok, Err, ◌⊎◌}
 use Rattle.spf_io.specs.declared.memory.OutOfMemory.{OutOfMemory}
 use Rattle.spf_api.specs.declared.response.ResponseKind.{ResponseKind}
@@ -9,7 +9,6 @@ use Rattle.spf_link.specs.declared.connector.Connector as connectors
 use Rattle.spf_link.specs.declared.link.Link as links
 use Rattle.spf_pace.specs.declared.pacer.AttemptEnd.{AttemptEnd}
 use Rattle.spf_feed.specs.declared.phase.Phase.{Phase}
-use Rattle.spf_feed.specs.declared.phase.Phase.TheVariants as phases
 use Rattle.spf_feeder.specs.declared.session.Stop.{Stop}
 use Rattle.spf_feeder.specs.declared.session.Stop.TheVariants as stops
 use Rattle.spf_feeder.specs.Asking.{Asked, kind_wanted}

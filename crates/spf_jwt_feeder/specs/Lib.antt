@@ -6,3 +6,4 @@ pub mod Kept
 pub mod Opened
 pub mod Orderly
 pub mod Pacing
+pub mod Taking

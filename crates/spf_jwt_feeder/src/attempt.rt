@@ -13,15 +13,22 @@ use spf_io::OutOfMemory;
 use spf_jwt_feed::{JwtEvent, JwtReceived};
 use spf_pace::AttemptEnd;
 use std::alloc::Global;
+use std::mem::drop;
+
+fn is_no_identity(answer: &WorkloadApiError) -> bool
+    ensures { result ≡ spec.is_no_identity answer.now }
+{
+    matches!(answer, WorkloadApiError::NoIdentityIssued)
+}
 
 /// Whether the status says that no identity is issued.
 fn says_no_identity(alloc: Global, status: &GrpcStatusError) -> Result<bool, OutOfMemory>
     ensures { IfOk result (λ b. b ≡ is_no_identity (status_reading status.now)) }
 {
-    match WorkloadApiError::from_status(copy_of_status(alloc, status)?) {
-        WorkloadApiError::NoIdentityIssued => Ok(true),
-        _ => Ok(false),
-    }
+    let answer = WorkloadApiError::from_status(copy_of_status(alloc, status)?);
+    let says = is_no_identity(&answer);
+    drop(answer);
+    Ok(says)
 }
 
 fn failure_says_no_identity(alloc: Global, fault: &ClientFault) -> Result<bool, OutOfMemory>

@@ -24,6 +24,7 @@ use spf_link::Connector;
 use spf_pace::{Pace, ReconnectConfig};
 use spf_system::{Clock, Pause};
 use std::alloc::Global;
+use std::mem::drop;
 use std::sync::Wait;
 use std::time::Duration;
 
@@ -100,10 +101,17 @@ where
         deadline: deadline_of(first, opening.timeout),
     };
     let mut feeder = JwtFeeder::new(alloc, connector, publisher, recorder, settings);
-    feeder.take_moment(first)?;
+    if let Err(stop) = feeder.take_moment(first) {
+        drop(feeder);
+        return Err(stop);
+    }
     let mut pace = Pace::new(alloc, opening.bounds);
     match synchronise(rt, &mut feeder, &mut pace, random, clock, pause, delay) {
         Ok(()) => Ok((feeder, pace)),
-        Err(stop) => Err(stop),
+        Err(stop) => {
+            drop(feeder);
+            drop(pace);
+            Err(stop)
+        }
     }
 }

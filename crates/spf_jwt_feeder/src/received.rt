@@ -1,6 +1,7 @@
 //! An event as it is received: its item is read.
 
-ghost use Rattle.std.specs.Prelude.{◌≡◌, IfOk};
+ghost use Rattle.std.specs.Prelude.{◌≡◌, Err, IfOk};
+ghost use Rattle.spf_api.specs.Errors.{is_memory_api};
 ghost use Rattle.spf_feed.specs.Events.{map_item};
 ghost use Rattle.spf_jwt_feed.specs.Items.{IsReceived, item_in};
 
@@ -9,6 +10,7 @@ use spf_io::{OutOfMemory, Text};
 use spf_jwt::{JwtBundleSet, jwt_bundle_set_from};
 use spf_jwt_feed::{JwtEvent, JwtItem, JwtReceived};
 use std::alloc::Global;
+use std::mem::drop;
 
 pub(crate) fn copy_of_status(
     alloc: Global,
@@ -37,14 +39,31 @@ fn copy_of_fault(alloc: Global, fault: &ClientFault) -> Result<ClientFault, OutO
     }
 }
 
+fn is_out_of_memory(e: &WorkloadApiError) -> bool
+    ensures { result ≡ is_memory_api e.now }
+{
+    matches!(e, WorkloadApiError::OutOfMemory)
+}
+
+/// What key sets that were not read leave: a broken item where a rule is broken.
+fn refused(e: WorkloadApiError) -> Result<JwtItem, OutOfMemory>
+    ensures { IsReceived (Err e) result }
+{
+    let is_memory = is_out_of_memory(&e);
+    drop(e);
+    if is_memory {
+        return Err(OutOfMemory);
+    }
+    Ok(JwtItem::Broken)
+}
+
 /// The item whose key sets were read.
 fn received(parsed: Result<JwtBundleSet, WorkloadApiError>) -> Result<JwtItem, OutOfMemory>
     ensures { IsReceived parsed result }
 {
     match parsed {
         Ok(set) => Ok(JwtItem::Bundles(set)),
-        Err(WorkloadApiError::OutOfMemory) => Err(OutOfMemory),
-        Err(_) => Ok(JwtItem::Broken),
+        Err(e) => refused(e),
     }
 }
 

@@ -1,16 +1,17 @@
 //! The core of a feeder: the events so far, what they published, and where they stand.
 
 ghost use Rattle.std.specs.Prelude.{◌≡◌, ◌∷◌, [], true, false, None, Some, IsTrue, IfOk, OnOk};
-ghost use Rattle.std.specs.Prelude.{IfSome, reverse, is_some, if◌then◌else◌, ◌||◌};
+ghost use Rattle.std.specs.Prelude.{IfErr, IfSome, List, reverse, is_some, if◌then◌else◌, ◌||◌};
 ghost use Rattle.std.specs.Arc.{arc_value};
 ghost use Rattle.spf_view.specs.Views.{has_synced};
-ghost use Rattle.spf_jwt_feed.specs.Items.{item_in, subject};
+ghost use Rattle.spf_jwt_feed.specs.Items.{Event as SessionOf, item_in, subject};
 ghost use Rattle.spf_jwt_feed.specs.Run.{ask_of};
 ghost use Rattle.spf_jwt_feed.specs.Following.{update_of};
 ghost use Rattle.spf_jwt_feed.specs.Steps.{HasStep};
 ghost use Rattle.spf_jwt_feed.specs.Turns.{MayTake, listed};
-ghost use Rattle.spf_jwt_feeder.specs.Kept.{Advances, Published, PublishesTurn, accepts, core_of};
-ghost use Rattle.spf_jwt_feeder.specs.Kept.{rules_of};
+ghost use Rattle.spf_jwt_feeder.specs.Kept.{Advances, Going, Published, PublishesTurn, accepts};
+ghost use Rattle.spf_jwt_feeder.specs.Kept.{core_of, rules_of};
+ghost use Rattle.spf_jwt_feeder.specs.Taking.{Foresees, Takes};
 ghost use Rattle.spf_feeder.specs.Orderly.{does_answer, is_moment};
 ghost use Rattle.spf_jwt_feeder.specs.Orderly.{IsOrderly};
 
@@ -27,6 +28,7 @@ use spf_jwt_feed::{
 use spf_pace::AttemptEnd;
 use std::alloc::Global;
 use std::marker::Model;
+use std::mem::drop;
 use std::snapshot;
 use std::sync::Arc;
 
@@ -97,6 +99,97 @@ fn is_accepted(turn: &Turn) -> bool
     matches!(turn, Turn::Accepted(_))
 }
 
+/// An accepted item ends no attempt.
+fn unless(is_accepted: bool, end: Option<AttemptEnd>) -> Option<AttemptEnd>
+    ensures { result ≡ (if is_accepted then None else end) }
+{
+    if is_accepted { None } else { end }
+}
+
+/// Where a session stands after its events, its snapshot aside.
+#[derive(Clone, Copy)]
+struct Place {
+    phase: Phase,
+    gave_accepted: bool,
+}
+
+/// What an event is to do: its turn, where it leaves the session, and how it ends the attempt.
+#[derive(Drop)]
+struct Foreseen {
+    turn: Turn,
+    place: Place,
+    end: Option<AttemptEnd>,
+}
+
+/// What an event is to do, where an item was accepted before it or not.
+fn foresee(
+    alloc: Global,
+    rules: JwtSessionRules,
+    synced: bool,
+    place: Place,
+    event: &JwtEvent,
+) -> Result<Foreseen, OutOfMemory>
+    ensures may { IfOk result (λ f. MayTake rules.limits synced f.turn) }
+    ensures foresees { IfOk result (Foresees (rules_of rules) synced place event.now) }
+{
+    let received = received_of(alloc, event)?;
+    let phase = phase_after(place.phase, synced, &received);
+    let end = match end_of(alloc, phase, place.gave_accepted, &received) {
+        Ok(end) => end,
+        Err(OutOfMemory) => {
+            drop(received);
+            return Err(OutOfMemory);
+        }
+    };
+    let turn = turn_of(rules.limits, rules.deadline, synced, received);
+    let is_accepted = is_accepted(&turn);
+    let place = Place {
+        phase,
+        gave_accepted: gave_after(place.gave_accepted, is_accepted, event),
+    };
+    Ok(Foreseen {
+        turn,
+        place,
+        end: unless(is_accepted, end),
+    })
+}
+
+/// What an event that was taken leaves to do: its records, and the end of the attempt.
+#[derive(Clone, Copy)]
+struct Taken {
+    records: Records,
+    end: Option<AttemptEnd>,
+}
+
+/// Takes one more event: its step is published. After a refusal nothing is.
+fn take<P: JwtPublisher>(
+    alloc: Global,
+    publisher: &mut P,
+    snapshot: &mut Option<JwtSnapshot>,
+    place: &mut Place,
+    rules: JwtSessionRules,
+    event: &JwtEvent,
+) -> Result<Taken, Stop>
+    requires synced { IsTrue (is_some snapshot.old) → HasStep (P.steps publisher.old) }
+    ensures target { P.target publisher.new ≡ P.target publisher.old }
+    ensures refused { IfErr result (λ _. P.steps publisher.new ≡ P.steps publisher.old) }
+    ensures takes { (run : List SessionOf)
+        → Published (P.steps publisher.old) (rules_of rules) run
+        → Going (rules_of rules) run (P.steps publisher.old) snapshot.old place.old.phase
+        place.old.gave_accepted
+        → Takes (rules_of rules) run event.now result snapshot.new (P.steps publisher.new)
+        place.new }
+{
+    let Foreseen {
+        turn,
+        place: next,
+        end,
+    } = foresee(alloc, rules, snapshot.is_some(), *place, event)?;
+    let records = publish_turn(alloc, publisher, snapshot, rules.limits, turn)?;
+    *place = next;
+    Ok(Taken { records, end })
+}
+
 /// What is left of a session.
 #[derive(Drop)]
 pub struct JwtSessionParts<P: JwtPublisher + Drop> {
@@ -116,8 +209,7 @@ pub(crate) struct Session<P: JwtPublisher + Drop, M: JwtMetricsRecorder + Drop> 
     rules: JwtSessionRules,
     events: Vec<JwtEvent>,
     snapshot: Option<JwtSnapshot>,
-    phase: Phase,
-    gave_accepted: bool,
+    place: Place,
     stuck: bool,
 }
 
@@ -132,7 +224,7 @@ impl<P: JwtPublisher + Drop, M: JwtMetricsRecorder + Drop> Model for Session<P, 
 
     ghost invariant = { λ s. Published (P.steps s.publisher) (rules_of s.rules) s.events.items
         × (s.stuck ≡ false → Going (rules_of s.rules) s.events.items (P.steps s.publisher)
-        s.snapshot s.phase s.gave_accepted)
+        s.snapshot s.place.phase s.place.gave_accepted)
         × IsOrderly (rules_of s.rules) (reverse s.events.items) };
 }
 
@@ -155,8 +247,10 @@ impl<P: JwtPublisher + Drop, M: JwtMetricsRecorder + Drop> Session<P, M> {
             rules,
             events: Vec::new(alloc),
             snapshot: None,
-            phase: Phase::Client,
-            gave_accepted: false,
+            place: Place {
+                phase: Phase::Client,
+                gave_accepted: false,
+            },
             stuck: false,
         }
     }
@@ -173,7 +267,7 @@ impl<P: JwtPublisher + Drop, M: JwtMetricsRecorder + Drop> Session<P, M> {
         ensures { result ≡ ask_of item_in (rules_of self.now.settings)
             (reverse self.now.run) }
     {
-        self.phase
+        self.place.phase
     }
 
     pub(crate) fn is_synced(&self) -> bool
@@ -231,8 +325,7 @@ impl<P: JwtPublisher + Drop, M: JwtMetricsRecorder + Drop> Session<P, M> {
             rules,
             events,
             snapshot,
-            phase,
-            gave_accepted,
+            place,
             stuck,
         } = self;
         let session = Session {
@@ -242,8 +335,7 @@ impl<P: JwtPublisher + Drop, M: JwtMetricsRecorder + Drop> Session<P, M> {
             rules,
             events,
             snapshot,
-            phase,
-            gave_accepted,
+            place,
             stuck,
         };
         (session, before)
@@ -297,34 +389,26 @@ impl<P: JwtPublisher + Drop, M: JwtMetricsRecorder + Drop> Session<P, M> {
     {
         self.stuck = true;
         if self.events.reserve(1).is_err() {
+            drop(event);
             return Err(Stop::OutOfMemory);
         }
-        let synced = self.snapshot.is_some();
-        let received = received_of(self.alloc, &event)?;
-        let next = phase_after(self.phase, synced, &received);
-        let end = end_of(self.alloc, next, self.gave_accepted, &received)?;
-        let limits = self.rules.limits;
-        let turn = turn_of(limits, self.rules.deadline, synced, received);
-        let is_accepted = is_accepted(&turn);
-        let records = publish_turn(
+        let taken = match take(
             self.alloc,
             &mut self.publisher,
             &mut self.snapshot,
-            limits,
-            turn,
-        )?;
-        self.gave_accepted = gave_after(self.gave_accepted, is_accepted, &event);
+            &mut self.place,
+            self.rules,
+            &event,
+        ) {
+            Ok(taken) => taken,
+            Err(stop) => {
+                drop(event);
+                return Err(stop);
+            }
+        };
         self.events.push_reserved(event);
-        self.phase = next;
-        record_all(&mut self.recorder, records)?;
+        record_all(&mut self.recorder, taken.records)?;
         self.stuck = false;
-        Ok(unless(is_accepted, end))
+        Ok(taken.end)
     }
-}
-
-/// An accepted item ends no attempt.
-fn unless(is_accepted: bool, end: Option<AttemptEnd>) -> Option<AttemptEnd>
-    ensures { result ≡ (if is_accepted then None else end) }
-{
-    if is_accepted { None } else { end }
 }

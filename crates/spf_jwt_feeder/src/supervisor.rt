@@ -15,6 +15,7 @@ use spf_jwt_feed::{JwtMetricsRecorder, JwtPublisher};
 use spf_link::Connector;
 use spf_pace::Pace;
 use spf_system::Pause;
+use std::mem::drop;
 use std::sync::Wait;
 
 /// Asks once, and pauses where that ended an attempt.
@@ -116,7 +117,10 @@ where
         }
         match paced_ask(feeder, pace, random, pause) {
             Ok(()) => {}
-            Err(_) => return None,
+            Err(stop) => {
+                drop(stop);
+                return None;
+            }
         }
     }
     unreachable!()

@@ -50,15 +50,15 @@ returns-in-Ok-clause-clock g c =
     (gives_moment _ _ c.next_moment-first.result [] _ c.next_moment-first.ensures.moment run)
     c.in-Ok.ensures.clock
 
-pub returns-in-Err-clause-ended : goal.returns-in-Err-clause-ended
-returns-in-Err-clause-ended g c =
-    let moment = c.in_ok-take_moment.ensures in record {
+pub returns-in-Err-synchronise-clause-ended : goal.returns-in-Err-synchronise-clause-ended
+returns-in-Err-synchronise-clause-ended g c =
+    let moment = c.take_moment.ensures in record {
       deadline = c.deadline_of.result;
       counts = search rules;
       run = c.synchronise.new.feeder.core.run;
-      stops = stops_as _ _ c.synchronise.new.feeder.core.run c.in-Err.stop
+      stops = stops_as _ _ c.synchronise.new.feeder.core.run c.in-Err-synchronise.stop
           (λ i. rules_by g.K.SvidPicker.picks
           ((moment.settings ∙ ap (λ k. k.settings) c.new-feeder.ensures.core) i)
           ((moment.picker ∙ ap (λ k. k.picker) c.new-feeder.ensures.core) i))
-          c.in-Err.ensures.ended;
+          c.in-Err-synchronise.ensures.ended;
     }

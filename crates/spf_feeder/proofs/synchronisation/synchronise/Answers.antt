@@ -1,4 +1,4 @@
-use Rattle.std.proofs.Common.{◌≡◌, true, reverse, sym, ap, ◌∙◌, subst}
+use Rattle.std.proofs.Common.{◌≡◌, reverse, sym, ap, ◌∙◌, subst}
 use Rattle.std.proofs.lemmas.Result.{err_from_is_err_and}
 use Rattle.spf_view.specs.Views.{has_synced}
 use Rattle.spf_feed.specs.Items.{Rules, subject}

@@ -1,31 +1,57 @@
-use Rattle.std.proofs.Common.{rules, ◌≡◌, ◌++◌, ◌∷◌, [], refl, sym, ap, subst}
-use Rattle.std.proofs.lemmas.Result.{err_from_is_err_and}
-use Rattle.spf_jwt_feed.specs.Items.{Rules}
+use Rattle.std.proofs.Common.{◌≡◌, ◌++◌, ◌∷◌, [], List, refl, sym, ap, subst}
 use Rattle.std.proofs.Common.{true, reverse}
 use Rattle.std.specs.Prelude.{◌||◌}
-use Rattle.spf_jwt_feed.specs.Items.{item_in}
+use Rattle.spf_jwt_feed.specs.Items.{Event, Rules, item_in}
 use Rattle.spf_jwt_feed.specs.Run.{ask_of, stream}
-use Rattle.spf_jwt_feeder.specs.Kept.{Published, rules_of}
 use Rattle.spf_feeder.specs.Orderly.{does_answer, is_moment}
-use Rattle.spf_jwt_feeder.specs.Orderly.{IsOrderly}
 use Rattle.spf_feeder.proofs.OrderLemmas.{orderly_more}
-use Rattle.spf_jwt_feeder.proofs.RunLemmas.{advanced_by, advanced_of, going_at}
-use Rattle.spf_jwt_feeder.proofs.RunLemmas.{refused_by, refused_of}
+use Rattle.spf_jwt_feeder.specs.Kept.{Published, rules_of}
+use Rattle.spf_jwt_feeder.specs.Orderly.{IsOrderly}
+use Rattle.spf_jwt_feeder.proofs.RunLemmas.{advanced_of, going_at, is_going}
+use Rattle.spf_jwt_feeder.proofs.RunLemmas.{published_still, pushed, stopped_of}
 use Rattle.spf_jwt_feeder.proofs.session.Session.advance.Goals as goal
+
+pub returns-in-Err-clause-published : goal.returns-in-Err-clause-published
+returns-in-Err-clause-published g c =
+    let before = c.self.inside in
+    let rule : Rules = rules_of before.rules in
+    published_still rule before.events.items _ _ _ c.reserve.ensures.items
+    c.in-Err.ensures.refused c.self.invariant.0
+
+pub returns-in-Err-clause-advances : goal.returns-in-Err-clause-advances
+returns-in-Err-clause-advances g c =
+    let before = c.self.inside in
+    let rule : Rules = rules_of before.rules in
+    let same : rule ≡ rules_of c.args.self.now.settings =
+    ap (λ old. rules_of old.settings) c.self.view_is in
+    let going = is_going _ c.args.self.now c.self.view_is c.requires.going in
+    stopped_of g.M.JwtMetricsRecorder.records rule _ _ _ _ _ _ _ _ _ same c.self.view_is
+    (c.in-Err.ensures.takes before.events.items c.self.invariant.0
+    (c.self.invariant.1 going)) c.reserve.ensures.items refl
+
+pub invariant_of-self-in-Err : goal.invariant_of-self-in-Err
+invariant_of-self-in-Err g c =
+    let before = c.self.inside in
+    let rule : Rules = rules_of before.rules in (
+      published_still rule before.events.items _ _ _ c.reserve.ensures.items
+          c.in-Err.ensures.refused c.self.invariant.0,
+      λ f. absurd cc,
+      subst (λ run. IsOrderly rule (reverse run)) (sym {A = List Event} c.reserve.ensures.items)
+          c.self.invariant.2,
+    )
 
 pub returns-in_err-record_all-clause-published : goal.returns-in_err-record_all-clause-published
 returns-in_err-record_all-clause-published g c =
     let before = c.self.inside in
     let rule : Rules = rules_of before.rules in
     let items : c.push_reserved.new.self.items ≡ before.events.items ++ c.args.event ∷ [] =
-    search rules in
-    let done = advanced_by rule before.events.items c.args.event _ _ _ _ _ _ _ _ _ _ _ _ _ _ _
-    c.self.invariant.0 (c.self.invariant.1 (search rules)) c.is_some-synced.ensures
-    c.in_ok-received.ensures c.turn_of-turn.ensures.turn c.in_ok-records.ensures.published
-    c.phase_after-next.ensures c.is_accepted-is_accepted.ensures
-    c.gave_after-self-inside.ensures c.in_ok-records.ensures.synced c.in_ok-end.ensures refl in
-    subst (λ run. Published (g.P.JwtPublisher.steps c.publish_turn.new.publisher) rule run)
-    (sym items) done.published
+    pushed before.events.items _ _ c.args.event c.push_reserved.ensures.items
+    c.reserve.ensures.items in
+    let going = is_going _ c.args.self.now c.self.view_is c.requires.going in
+    let done = c.in-Ok.ensures.takes before.events.items c.self.invariant.0
+    (c.self.invariant.1 going) in
+    subst (λ run. Published (g.P.JwtPublisher.steps c.take.new.publisher) rule run) (sym items)
+    done.published
 
 pub invariant_of-self-in_err-record_all : goal.invariant_of-self-in_err-record_all
 unfolding IsOrderly
@@ -33,14 +59,12 @@ invariant_of-self-in_err-record_all g c =
     let before = c.self.inside in
     let rule : Rules = rules_of before.rules in
     let items : c.push_reserved.new.self.items ≡ before.events.items ++ c.args.event ∷ [] =
-    search rules in
-    let done = advanced_by rule before.events.items c.args.event _ _ _ _ _ _ _ _ _ _ _ _ _ _ _
-    c.self.invariant.0 (c.self.invariant.1 (search rules)) c.is_some-synced.ensures
-    c.in_ok-received.ensures c.turn_of-turn.ensures.turn c.in_ok-records.ensures.published
-    c.phase_after-next.ensures c.is_accepted-is_accepted.ensures
-    c.gave_after-self-inside.ensures c.in_ok-records.ensures.synced c.in_ok-end.ensures refl in (
-      subst (λ run. Published (g.P.JwtPublisher.steps c.publish_turn.new.publisher) rule run)
-          (sym items)
+    pushed before.events.items _ _ c.args.event c.push_reserved.ensures.items
+    c.reserve.ensures.items in
+    let going = is_going _ c.args.self.now c.self.view_is c.requires.going in
+    let done = c.in-Ok.ensures.takes before.events.items c.self.invariant.0
+    (c.self.invariant.1 going) in (
+      subst (λ run. Published (g.P.JwtPublisher.steps c.take.new.publisher) rule run) (sym items)
           done.published,
       λ f. absurd cc,
       subst (λ run. IsOrderly rule (reverse run)) (sym items)
@@ -58,15 +82,13 @@ returns-clause-published g c =
     let before = c.self.inside in
     let rule : Rules = rules_of before.rules in
     let items : c.push_reserved.new.self.items ≡ before.events.items ++ c.args.event ∷ [] =
-    search rules in
-    let done = advanced_by rule before.events.items c.args.event _ _ _ _ _ _ _ _ _ _ _ _ _ _ _
-    c.self.invariant.0 (c.self.invariant.1 (search rules)) c.is_some-synced.ensures
-    c.in_ok-received.ensures c.turn_of-turn.ensures.turn c.in_ok-records.ensures.published
-    c.phase_after-next.ensures c.is_accepted-is_accepted.ensures
-    c.gave_after-self-inside.ensures c.in_ok-records.ensures.synced c.in_ok-end.ensures
-    c.unless.ensures in
-    subst (λ run. Published (g.P.JwtPublisher.steps c.publish_turn.new.publisher) rule run)
-    (sym items) done.published
+    pushed before.events.items _ _ c.args.event c.push_reserved.ensures.items
+    c.reserve.ensures.items in
+    let going = is_going _ c.args.self.now c.self.view_is c.requires.going in
+    let done = c.in-Ok.ensures.takes before.events.items c.self.invariant.0
+    (c.self.invariant.1 going) in
+    subst (λ run. Published (g.P.JwtPublisher.steps c.take.new.publisher) rule run) (sym items)
+    done.published
 
 pub invariant_of-self-2 : goal.invariant_of-self-2
 unfolding IsOrderly
@@ -74,15 +96,12 @@ invariant_of-self-2 g c =
     let before = c.self.inside in
     let rule : Rules = rules_of before.rules in
     let items : c.push_reserved.new.self.items ≡ before.events.items ++ c.args.event ∷ [] =
-    search rules in
-    let done = advanced_by rule before.events.items c.args.event _ _ _ _ _ _ _ _ _ _ _ _ _ _ _
-    c.self.invariant.0 (c.self.invariant.1 (search rules)) c.is_some-synced.ensures
-    c.in_ok-received.ensures c.turn_of-turn.ensures.turn c.in_ok-records.ensures.published
-    c.phase_after-next.ensures c.is_accepted-is_accepted.ensures
-    c.gave_after-self-inside.ensures c.in_ok-records.ensures.synced c.in_ok-end.ensures
-    c.unless.ensures in (
-      subst (λ run. Published (g.P.JwtPublisher.steps c.publish_turn.new.publisher) rule run)
-          (sym items)
+    pushed before.events.items _ _ c.args.event c.push_reserved.ensures.items
+    c.reserve.ensures.items in
+    let going = is_going _ c.args.self.now c.self.view_is c.requires.going in
+    let done = c.in-Ok.ensures.takes before.events.items c.self.invariant.0
+    (c.self.invariant.1 going) in (
+      subst (λ run. Published (g.P.JwtPublisher.steps c.take.new.publisher) rule run) (sym items)
           done.published,
       λ f. going_at rule _ _ _ _ _ _ items done.going,
       subst (λ run. IsOrderly rule (reverse run)) (sym items)
@@ -100,32 +119,11 @@ returns-clause-advances g c =
     let before = c.self.inside in
     let rule : Rules = rules_of before.rules in
     let items : c.push_reserved.new.self.items ≡ before.events.items ++ c.args.event ∷ [] =
-    search rules in
-    let done = advanced_by rule before.events.items c.args.event _ _ _ _ _ _ _ _ _ _ _ _ _ _ _
-    c.self.invariant.0 (c.self.invariant.1 (search rules)) c.is_some-synced.ensures
-    c.in_ok-received.ensures c.turn_of-turn.ensures.turn c.in_ok-records.ensures.published
-    c.phase_after-next.ensures c.is_accepted-is_accepted.ensures
-    c.gave_after-self-inside.ensures c.in_ok-records.ensures.synced c.in_ok-end.ensures
-    c.unless.ensures in
-    let same : rule ≡ rules_of c.args.self.now.settings
-    =
+    pushed before.events.items _ _ c.args.event c.push_reserved.ensures.items
+    c.reserve.ensures.items in
+    let going = is_going _ c.args.self.now c.self.view_is c.requires.going in
+    let same : rule ≡ rules_of c.args.self.now.settings =
     ap (λ old. rules_of old.settings) c.self.view_is in
-    advanced_of g.M.JwtMetricsRecorder.records rule _ _ _ _ _ _ _ _ _ _ _ same c.self.view_is done
-    items
-    refl c.in_ok-record_all.ensures
-
-pub returns-in_err-records-clause-advances : goal.returns-in_err-records-clause-advances
-returns-in_err-records-clause-advances g c =
-    let before = c.self.inside in
-    let rule : Rules = rules_of before.rules in
-    let same : rule ≡ rules_of c.args.self.now.settings
-    =
-    ap (λ old. rules_of old.settings) c.self.view_is in
-    let p = err_from_is_err_and c.from_residual-in_err-records.result
-    c.from_residual-in_err-records.ensures.1 in
-    rw (p.1, p.2)
-    (refused_of g.M.JwtMetricsRecorder.records rule _ _ _ _ _ same
-    (refused_by g.M.JwtMetricsRecorder.records rule before.events.items c.args.event _ _ _ _ _ _ _ _
-    _ _ _ _ (c.self.invariant.1 (search rules)) c.is_some-synced.ensures
-    c.in_ok-received.ensures c.turn_of-turn.ensures.turn c.in_err-records.ensures.published
-    (ap (λ old. old.run) (sym c.self.view_is)) c.reserve.ensures.items refl))
+    advanced_of g.M.JwtMetricsRecorder.records rule _ _ _ _ _ _ _ _ _ _ _ same c.self.view_is
+    (c.in-Ok.ensures.takes before.events.items c.self.invariant.0
+    (c.self.invariant.1 going)) items refl c.in_ok-record_all.ensures
