@@ -197,7 +197,8 @@ yields_once : {S L : Type 0} (connector : connectors.Ghosts S L) (link : links.G
     → Yields connector.members link.answers rules (run ++ e ∷ []) new first
 unfolding AllYielded left_after
 yields_once connector link rules run old new e first once ready yields =
-    let more = yields_more OutOfMemory contexts (ask_of context_in rules) connector link run old new e
+    let more = yields_more OutOfMemory contexts (ask_of context_in rules) connector link run old new
+    e
     first once ready yields.yielded yields.rest in
     record { yielded = more.0; rest = more.1 }
 

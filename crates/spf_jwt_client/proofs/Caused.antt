@@ -36,13 +36,13 @@ later_rose a b c le (inr max) = inr max
 
 module _ {S L : Type 0} (connector : connectors.Ghosts S L) (link : links.Ghosts L) where
   obtained_later : (old : S) (kept : Option (Client L))
-      (client : Result (Client L) WorkloadApiError) (behind : S)
-      → Obtains connector link old kept client behind
-      → connector.refusals old ≤ connector.refusals behind
-  obtained_later old (Some k) client behind obtains =
-      let same : connector.refusals behind ≡ connector.refusals old =
+      (client : Result (Client L) WorkloadApiError) (mid : S)
+      → Obtains connector link old kept client mid
+      → connector.refusals old ≤ connector.refusals mid
+  obtained_later old (Some k) client mid obtains =
+      let same : connector.refusals mid ≡ connector.refusals old =
       ap connector.refusals obtains.1 in omega arith
-  obtained_later old None client behind obtains = obtains.connected.cause.later
+  obtained_later old None client mid obtains = obtains.connected.cause.later
 
   -- without a client the connector refused, unless memory ran out
   refused : (answer : Result L ClientFault) (before now : ℕ) → HasClientCause before now answer
@@ -55,12 +55,12 @@ module _ {S L : Type 0} (connector : connectors.Ghosts S L) (link : links.Ghosts
   refused (Err (client.Status s)) before now cause e read is = cause.refused tt
   refused (Err (client.Unreachable text)) before now cause e read is = cause.refused tt
 
-  no_client : (old : S) (kept : Option (Client L)) (e : WorkloadApiError) (behind : S)
-      → Obtains connector link old kept (Err e) behind
+  no_client : (old : S) (kept : Option (Client L)) (e : WorkloadApiError) (mid : S)
+      → Obtains connector link old kept (Err e) mid
       → IsOfConnector {T = Svid} (Err (source_of_api e))
-      → Rose (connector.refusals old) (connector.refusals behind)
-  no_client old (Some k) e behind obtains is = let none : Err e ≡ Ok k = obtains.0 in absurd cc
-  no_client old None e behind obtains is =
+      → Rose (connector.refusals old) (connector.refusals mid)
+  no_client old (Some k) e mid obtains is = let none : Err e ≡ Ok k = obtains.0 in absurd cc
+  no_client old None e mid obtains is =
       refused obtains.answer _ _ obtains.connected.cause e obtains.read is
 
   -- an ask that had a client did not fail for the connector
@@ -70,25 +70,25 @@ module _ {S L : Type 0} (connector : connectors.Ghosts S L) (link : links.Ghosts
   had_client (Err e) is = not_of_connector e is
 
   module _ (request : Request) where
-    asked_over : (client : Result (Client L) WorkloadApiError) (old behind : S)
+    asked_over : (client : Result (Client L) WorkloadApiError) (old mid : S)
         (result : Result Svid AskFault) (new : Fetcher S L)
-        → connector.refusals old ≤ connector.refusals behind
+        → connector.refusals old ≤ connector.refusals mid
         → ((e : WorkloadApiError) → client ≡ Err e
         → IsOfConnector {T = Svid} (Err (source_of_api e))
-        → Rose (connector.refusals old) (connector.refusals behind))
-        → AsksOver link request client behind result new
+        → Rose (connector.refusals old) (connector.refusals mid))
+        → AsksOver link request client mid result new
         → HasFetchCause (connector.refusals old) (connector.refusals new.connector)
         (broken_as fault_error result)
-    asked_over (Ok c) old behind result new later rose asks =
-        let same : connector.refusals new.connector ≡ connector.refusals behind =
+    asked_over (Ok c) old mid result new later rose asks =
+        let same : connector.refusals new.connector ≡ connector.refusals mid =
         ap (λ (h : Fetcher S L). connector.refusals h.connector) asks.kept in
         record {
           later = subst (λ n. connector.refusals old ≤ n) (sym same) later;
           refused = λ is. absurd (had_client asks.answer
               (subst (λ r. IsOfConnector (broken_as fault_error r)) asks.returned is));
         }
-    asked_over (Err e) old behind result new later rose asks =
-        let same : connector.refusals new.connector ≡ connector.refusals behind =
+    asked_over (Err e) old mid result new later rose asks =
+        let same : connector.refusals new.connector ≡ connector.refusals mid =
         ap (λ (h : Fetcher S L). connector.refusals h.connector) asks.none in
         record {
           later = subst (λ n. connector.refusals old ≤ n) (sym same) later;
@@ -101,10 +101,10 @@ module _ {S L : Type 0} (connector : connectors.Ghosts S L) (link : links.Ghosts
         → HasFetchCause (connector.refusals old.connector) (connector.refusals new.connector)
         (broken_as fault_error result)
     asked old new result asks =
-        asked_over asks.client old.connector asks.behind result new
-        (obtained_later old.connector old.client asks.client asks.behind asks.obtains)
-        (λ e none. no_client old.connector old.client e asks.behind
-        (subst (λ c. Obtains connector link old.connector old.client c asks.behind) none
+        asked_over asks.client old.connector asks.mid result new
+        (obtained_later old.connector old.client asks.client asks.mid asks.obtains)
+        (λ e none. no_client old.connector old.client e asks.mid
+        (subst (λ c. Obtains connector link old.connector old.client c asks.mid) none
         asks.obtains))
         asks.asks
 

@@ -96,9 +96,9 @@ pub record AsksOnce {S L : Type 0} (connector : connectors.Ghosts S L) (link : l
     (request : Request) (old : Fetcher S L) (result : Result Svid AskFault) (new : Fetcher S L) :
     Type 0 where
   pub client : Result (Client L) WorkloadApiError
-  pub behind : S
-  pub obtains : Obtains connector link old.connector old.client client behind
-  pub asks : AsksOver link request client behind result new
+  pub mid : S
+  pub obtains : Obtains connector link old.connector old.client client mid
+  pub asks : AsksOver link request client mid result new
 
 -- an error of an ask: out of memory stays out of memory
 abbrev pub fetch_error : WorkloadApiError → JwtSourceError

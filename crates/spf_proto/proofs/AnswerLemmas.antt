@@ -8,7 +8,7 @@ use Rattle.std.proofs.lemmas.Bool.Decides.{nat_tests}
 use Rattle.spf_api.specs.declared.response.ContextResponse.{ContextResponse}
 use Rattle.spf_view.specs.Sessions.{onto}
 use Rattle.spf_view.specs.Views.{has_synced}
-use Rattle.spf_feed.specs.declared.follow_error.FollowError.TheVariants as answers
+use Rattle.spf_feed.specs.declared.follow_error.FollowError.TheVariants as follow_errors
 use Rattle.spf_feed.specs.Items.{Rules, subject}
 use Rattle.spf_proto.specs.declared.proto_error.ProtoError.TheVariants as errors
 use Rattle.spf_proto.specs.Body.{message_at, body_within, IsBody}
@@ -26,7 +26,8 @@ none_more (suc max) rest none =
     (m.0 ∷ (body_within max m.1).0, (body_within max m.1).1)) m ([], rest)) none
 
 -- whole messages, and then none, or the most that are allowed
-pub body_of : (max : ℕ) (text rest : List ℕ) (ms : List ContextResponse) (allowed : ℕ) → IsBody text ms
+pub body_of : (max : ℕ) (text rest : List ℕ) (ms : List ContextResponse) (allowed : ℕ)
+    → IsBody text ms
     → length ms + allowed ≡ max → (body_within allowed rest ≡ ([], rest))
     → body_within max (text ++ rest) ≡ (ms, rest)
 body_of max text rest [] allowed is count stop =
@@ -54,10 +55,11 @@ some_rest (x ∷ rest) some = grind (arith, nat_tests)
 pub answer_synced : (rules : Rules) (start : ℤ) (max : ℕ) (ms : List ContextResponse) (b : Bool)
     → has_synced (subject rules) (onto [] (session_of rules start ms)) ≡ b
     → answer_of rules start max ms []
-    ≡ cond b (Ok (length (session_of rules start ms))) (Err (errors.Follow answers.NeverSynced))
+    ≡ cond b (Ok (length (session_of rules start ms)))
+    (Err (errors.Follow follow_errors.NeverSynced))
 answer_synced rules start max ms b synced =
     ap (λ (b : Bool). cond b (Ok (length (session_of rules start ms)))
-    (Err (errors.Follow answers.NeverSynced))) synced
+    (Err (errors.Follow follow_errors.NeverSynced))) synced
 
 pub answer_many : (rules : Rules) (start : ℤ) (max : ℕ) (ms : List ContextResponse) (rest : List ℕ)
     → rest ≢ [] → length ms ≡ max → answer_of rules start max ms rest ≡ Err errors.TooManyMessages

@@ -4,7 +4,7 @@ use Rattle.std.proofs.Common.{◌++◌}
 use Rattle.std.proofs.Common.{length, Result, Ok, Err, refl, sym, subst, append_assoc, arith, inl}
 use Rattle.std.proofs.Common.{inr}
 use Rattle.std.specs.Io.KnownBytes.{Consumes}
-use Rattle.spf_feed.specs.declared.follow_error.FollowError.TheVariants as answers
+use Rattle.spf_feed.specs.declared.follow_error.FollowError.TheVariants as follow_errors
 use Rattle.spf_api.specs.declared.response.ContextResponse.{ContextResponse}
 use Rattle.spf_proto.specs.declared.frame_end.FrameEnd.{FrameEnd}
 use Rattle.spf_proto.specs.declared.frame_end.FrameEnd.TheVariants as ends
@@ -89,7 +89,8 @@ pub result_tells : {T : Type 0} (loan : T → ℕ) (left : T → Option (List �
 result_tells loan left failures b before t (ends.Whole n) r i is =
     end_tells loan left failures b before t (Ok n) r i tt is
 result_tells loan left failures b before t ends.NeverSynced r i is =
-    end_tells loan left failures b before t (Err (errors.Follow answers.NeverSynced)) r i tt is
+    end_tells loan left failures b before t (Err (errors.Follow follow_errors.NeverSynced)) r i tt
+    is
 result_tells loan left failures b before t ends.ReadFault r i is =
     subst (RefusedFor b.max b.left) (sym is.1.1)
     (stop_tells loan left failures b t is.1.0 i is.1.2)

@@ -4,7 +4,7 @@ use Rattle.std.proofs.Common.{sym}
 use Rattle.std.proofs.Common.{inl, inr}
 use Rattle.spf_io.specs.Outside.{Rose}
 use Rattle.spf_feed.specs.declared.follow_error.FollowError.{FollowError}
-use Rattle.spf_feed.specs.declared.follow_error.FollowError.TheVariants as answers
+use Rattle.spf_feed.specs.declared.follow_error.FollowError.TheVariants as follow_errors
 use Rattle.spf_feed.specs.Following.{FailureCounts, FailuresHaveCauses}
 use Rattle.spf_proto.specs.declared.frame_end.FrameEnd.{FrameEnd}
 use Rattle.spf_proto.specs.declared.frame_end.FrameEnd.TheVariants as ends
@@ -21,7 +21,7 @@ use Rattle.spf_proto.specs.Following.{HasCauses}
 stop_rose : {T : Type 0} (left : T → Option (List ℕ)) (failures : T → ℕ) (b : Beginning)
     (t : Translating T) (r : Result ℕ ProtoError) (stop : Stop)
     → r ≡ Err (error_of b.max t.allowed stop) → IsReasonOf left failures b t stop
-    → r ≡ Err (errors.Follow answers.ReadFault) → Rose b.failures (failures t.source)
+    → r ≡ Err (errors.Follow follow_errors.ReadFault) → Rose b.failures (failures t.source)
 stop_rose left failures b t r stops.BadMessage is reason h = let no = sym is ∙ h in absurd cc
 stop_rose left failures b t r stops.TooManyMessages is reason h = let no = sym is ∙ h in absurd cc
 stop_rose left failures b t r stops.SourceFailed is reason h = reason
@@ -29,9 +29,9 @@ stop_rose left failures b t r stops.OutOfMemory is reason h = let no = sym is �
 
 ended_rose : {T : Type 0} (left : T → Option (List ℕ)) (failures : T → ℕ) (b : Beginning)
     (before : Option (List ℕ)) (t : Translating T) (end r : Result ℕ ProtoError)
-    → (end ≡ Err (errors.Follow answers.ReadFault) → ⊥)
+    → (end ≡ Err (errors.Follow follow_errors.ReadFault) → ⊥)
     → IsEndedBy left failures b before t end r
-    → r ≡ Err (errors.Follow answers.ReadFault) → Rose b.failures (failures t.source)
+    → r ≡ Err (errors.Follow follow_errors.ReadFault) → Rose b.failures (failures t.source)
 ended_rose left failures b before t end r other (keeps, inl both) h =
     absurd (other (sym both.0 ∙ h))
 ended_rose left failures b before t end r other (keeps, inr (stop, is, reason)) h =
@@ -40,11 +40,11 @@ ended_rose left failures b before t end r other (keeps, inr (stop, is, reason)) 
 read_rose : {T : Type 0} (left : T → Option (List ℕ)) (failures : T → ℕ) (b : Beginning)
     (before : Option (List ℕ)) (t : Translating T) (end : FrameEnd) (r : Result ℕ ProtoError)
     → IsResultOf left failures b before t end r
-    → r ≡ Err (errors.Follow answers.ReadFault) → Rose b.failures (failures t.source)
+    → r ≡ Err (errors.Follow follow_errors.ReadFault) → Rose b.failures (failures t.source)
 read_rose left failures b before t (ends.Whole n) r is h =
     ended_rose left failures b before t (Ok n) r (λ no. absurd cc) is h
 read_rose left failures b before t ends.NeverSynced r is h =
-    ended_rose left failures b before t (Err (errors.Follow answers.NeverSynced)) r
+    ended_rose left failures b before t (Err (errors.Follow follow_errors.NeverSynced)) r
     (λ no. absurd cc) is h
 read_rose left failures b before t ends.ReadFault r is h =
     stop_rose left failures b t r is.1.0 is.1.1 is.1.2 h
@@ -52,7 +52,7 @@ read_rose left failures b before t ends.WriteFault r is h = let no = sym is ∙ 
 read_rose left failures b before t ends.OutOfMemory r is h = let no = sym is ∙ h in absurd cc
 
 stop_unwritten : (max allowed : ℕ) (r : Result ℕ ProtoError) (stop : Stop)
-    → r ≡ Err (error_of max allowed stop) → r ≡ Err (errors.Follow answers.WriteFault) → ⊥
+    → r ≡ Err (error_of max allowed stop) → r ≡ Err (errors.Follow follow_errors.WriteFault) → ⊥
 stop_unwritten max allowed r stops.BadMessage is h = let no = sym is ∙ h in absurd cc
 stop_unwritten max allowed r stops.TooManyMessages is h = let no = sym is ∙ h in absurd cc
 stop_unwritten max allowed r stops.SourceFailed is h = let no = sym is ∙ h in absurd cc
@@ -60,9 +60,9 @@ stop_unwritten max allowed r stops.OutOfMemory is h = let no = sym is ∙ h in a
 
 ended_unwritten : {T : Type 0} (left : T → Option (List ℕ)) (failures : T → ℕ) (b : Beginning)
     (before : Option (List ℕ)) (t : Translating T) (end r : Result ℕ ProtoError)
-    → (end ≡ Err (errors.Follow answers.WriteFault) → ⊥)
+    → (end ≡ Err (errors.Follow follow_errors.WriteFault) → ⊥)
     → IsEndedBy left failures b before t end r
-    → r ≡ Err (errors.Follow answers.WriteFault) → ⊥
+    → r ≡ Err (errors.Follow follow_errors.WriteFault) → ⊥
 ended_unwritten left failures b before t end r other (keeps, inl both) h = other (sym both.0 ∙ h)
 ended_unwritten left failures b before t end r other (keeps, inr (stop, is, reason)) h =
     stop_unwritten b.max t.allowed r stop is h
@@ -71,11 +71,12 @@ ended_unwritten left failures b before t end r other (keeps, inr (stop, is, reas
 write_is : {T : Type 0} (left : T → Option (List ℕ)) (failures : T → ℕ) (b : Beginning)
     (before : Option (List ℕ)) (t : Translating T) (end : FrameEnd) (r : Result ℕ ProtoError)
     → IsResultOf left failures b before t end r
-    → r ≡ Err (errors.Follow answers.WriteFault) → end ≡ ends.WriteFault
+    → r ≡ Err (errors.Follow follow_errors.WriteFault) → end ≡ ends.WriteFault
 write_is left failures b before t (ends.Whole n) r is h =
     absurd (ended_unwritten left failures b before t (Ok n) r (λ no. absurd cc) is h)
 write_is left failures b before t ends.NeverSynced r is h =
-    absurd (ended_unwritten left failures b before t (Err (errors.Follow answers.NeverSynced)) r
+    absurd (ended_unwritten left failures b before t (Err (errors.Follow follow_errors.NeverSynced))
+    r
     (λ no. absurd cc) is h)
 write_is left failures b before t ends.ReadFault r is h =
     absurd (stop_unwritten b.max t.allowed r is.1.0 is.1.1 h)
@@ -83,18 +84,18 @@ write_is left failures b before t ends.WriteFault r is h = refl
 write_is left failures b before t ends.OutOfMemory r is h = let no = sym is ∙ h in absurd cc
 
 written : (followed : Result ℕ FollowError) → end_by followed ≡ ends.WriteFault
-    → followed ≡ Err answers.WriteFault
+    → followed ≡ Err follow_errors.WriteFault
 written (Ok n) is = absurd cc
-written (Err answers.OutOfMemory) is = absurd cc
-written (Err answers.ReadFault) is = absurd cc
-written (Err answers.WriteFault) is = refl
-written (Err answers.SessionTooLong) is = absurd cc
-written (Err (answers.BadFrame n)) is = absurd cc
-written (Err (answers.Source e)) is = absurd cc
-written (Err (answers.UnsupportedRpc e)) is = absurd cc
-written (Err answers.InitialSyncTimeout) is = absurd cc
-written (Err answers.Closed) is = absurd cc
-written (Err answers.NeverSynced) is = absurd cc
+written (Err follow_errors.OutOfMemory) is = absurd cc
+written (Err follow_errors.ReadFault) is = absurd cc
+written (Err follow_errors.WriteFault) is = refl
+written (Err follow_errors.SessionTooLong) is = absurd cc
+written (Err (follow_errors.BadFrame n)) is = absurd cc
+written (Err (follow_errors.Source e)) is = absurd cc
+written (Err (follow_errors.UnsupportedRpc e)) is = absurd cc
+written (Err follow_errors.InitialSyncTimeout) is = absurd cc
+written (Err follow_errors.Closed) is = absurd cc
+written (Err follow_errors.NeverSynced) is = absurd cc
 
 pub causes_of : {T : Type 0} (loan : T → ℕ) (left : T → Option (List ℕ)) (failures : T → ℕ)
     (b : Beginning) (before : Option (List ℕ)) (t : Translating T) (followed : Result ℕ FollowError)

@@ -24,13 +24,15 @@ use Rattle.spf_proto.specs.Beginning.{Beginning}
 use Rattle.spf_proto.specs.Body.{message_at, body_within}
 use Rattle.spf_proto.specs.Ends.{IsReasonOf, IsResultOf, begun, error_of}
 use Rattle.spf_proto.specs.FrameEnds.{end_by}
-use Rattle.spf_proto.specs.Following.{is_due, is_free, answer_of, Held, FollowsBody, BodyFollowed}
+use Rattle.spf_proto.specs.Following.{is_due, is_free, answer_of, OutputState, FollowsBody}
+use Rattle.spf_proto.specs.Following.{BodyFollowed}
 use Rattle.spf_proto.specs.Translated.{frames_from, moment_frame, session_of}
 use Rattle.spf_proto.specs.Translator.{Translating, IsTranslator, left_of}
 use Rattle.spf_proto.proofs.BodySessions.{undated, shut, body_frames, open_session, read_session}
 use Rattle.spf_proto.proofs.LaidMessages.{body_laid, body_count}
 use Rattle.spf_proto.proofs.GivenLemmas.{held, Given, IsKnown, IsGiven, known, rest_is, given_by}
-use Rattle.spf_proto.proofs.AnswerLemmas.{none_more, body_of, answer_synced, answer_many, answer_bad}
+use Rattle.spf_proto.proofs.AnswerLemmas.{none_more, body_of, answer_synced, answer_many}
+use Rattle.spf_proto.proofs.AnswerLemmas.{answer_bad}
 
 -- ---- how the translation ended
 
@@ -305,7 +307,8 @@ begun_left left b rules seconds source frames allowed t view made same start kno
     (λ bytes. made i ++ frames_from (same i) (start i) shut (body_within (max i) bytes).0)
     (known i))
 
-pub followed_since : (rules : Rules) (b c : Beginning) (old new : Held) (r : Result ℕ ProtoError)
+pub followed_since : (rules : Rules) (b c : Beginning) (old new : OutputState) (r : Result ℕ
+    ProtoError)
     → b ≡ c → BodyFollowed rules b.start b.max b.left old new r
     → BodyFollowed rules c.start c.max c.left old new r
 followed_since rules b c old new r same =

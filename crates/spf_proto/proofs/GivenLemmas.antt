@@ -11,7 +11,7 @@ use Rattle.spf_view.specs.Sessions.{Followed}
 use Rattle.spf_view.specs.Views.{has_synced}
 use Rattle.spf_view.proofs.SessionLemmas.{IsOpen, reading_same, refusal_of-open, end_at_end}
 use Rattle.spf_feed.specs.declared.follow_error.FollowError.{FollowError}
-use Rattle.spf_feed.specs.declared.follow_error.FollowError.TheVariants as answers
+use Rattle.spf_feed.specs.declared.follow_error.FollowError.TheVariants as follow_errors
 use Rattle.spf_feed.specs.declared.record.MetricsRecord.{MetricsRecord}
 use Rattle.spf_feed.specs.declared.turn.Terminal.{Terminal}
 use Rattle.spf_feed.specs.Items.{Event, Rules, subject}
@@ -20,7 +20,7 @@ use Rattle.spf_feed.specs.Steps.{PlainStep}
 use Rattle.spf_proto.specs.declared.frame_end.FrameEnd.{FrameEnd}
 use Rattle.spf_proto.specs.declared.frame_end.FrameEnd.TheVariants as ends
 use Rattle.spf_proto.specs.FrameEnds.{end_by}
-use Rattle.spf_proto.specs.Following.{Held, HandsOnAll}
+use Rattle.spf_proto.specs.Following.{OutputState, HandsOnAll}
 
 grown : {X : Type 0} (old new : Option (List X)) (more : List X) (cut : Bool) → cut ≡ false
     → GrowsUpTo old new more cut → Grows old new more
@@ -29,10 +29,11 @@ grown {X} old new more cut off g =
     subst (λ (l : List X). Grows old new l) (take_all g.count more (omega (arith, all))) g.grows
 
 -- what is held, without what is read
-abbrev pub held : Ports PlainStep MetricsRecord → Held
+abbrev pub held : Ports PlainStep MetricsRecord → OutputState
 held p = record { held = p.held; steps = p.steps; records = p.records }
 
-abbrev pub Given : Rules → List Event → Ports PlainStep MetricsRecord → Ports PlainStep MetricsRecord
+abbrev pub Given : Rules → List Event → Ports PlainStep MetricsRecord → Ports PlainStep
+    MetricsRecord
     → Type 0
 Given rules es old new = HandsOnAll rules es (held old) (held new)
 
@@ -73,7 +74,8 @@ pub known : (bytes given : List ℕ) (left : Option (List ℕ)) → Consumes (So
 known bytes given None taken = absurd taken
 known bytes given (Some x) taken = (x, refl)
 
-pub rest_is : (bytes given rest : List ℕ) (left : Option (List ℕ)) → Consumes (Some bytes) left given
+pub rest_is : (bytes given rest : List ℕ) (left : Option (List ℕ)) → Consumes (Some bytes) left
+    given
     → left ≡ Some rest → bytes ≡ given ++ rest
 rest_is bytes given rest left taken is =
     subst (λ (l : Option (List ℕ)). Consumes (Some bytes) l given) is taken
@@ -146,7 +148,7 @@ given_by rules max bytes es old new (Ok n) going reading left f =
           read.1,
           given rules max old new (Whole n) es f read.0 refl refl,
         )
-given_by rules max bytes es old new (Err answers.NeverSynced) going reading left f =
+given_by rules max bytes es old new (Err follow_errors.NeverSynced) going reading left f =
     by (subst (λ (l : Option (List ℕ)). IfSome l (λ bytes.
     IsTrue false ⊎ IsEndOf (stream rules) max bytes f.es NeverSynced)) left f.end)
   where
@@ -165,7 +167,7 @@ given_by rules max bytes es old new (Err answers.NeverSynced) going reading left
           read.1,
           given rules max old new NeverSynced es f read.0 refl refl,
         )
-given_by rules max bytes es old new (Err answers.ReadFault) going reading left f =
+given_by rules max bytes es old new (Err follow_errors.ReadFault) going reading left f =
     let s = stream rules in
     let taken : Consumes (Some bytes) new.left (f.text ++ f.extra) =
     subst (λ (l : Option (List ℕ)). Consumes l new.left (f.text ++ f.extra)) left f.taken in (
@@ -179,11 +181,11 @@ given_by rules max bytes es old new (Err answers.ReadFault) going reading left f
           let same = reading_same s max bytes f.es es f.extra [] handed reading in
           given rules max old new ReadFault es f same.0 refl refl,
     )
-given_by rules max bytes es old new (Err answers.OutOfMemory) going reading left f = tt
-given_by rules max bytes es old new (Err answers.WriteFault) going reading left f = tt
-given_by rules max bytes es old new (Err answers.SessionTooLong) going reading left f = tt
-given_by rules max bytes es old new (Err (answers.BadFrame n)) going reading left f = tt
-given_by rules max bytes es old new (Err (answers.Source e)) going reading left f = tt
-given_by rules max bytes es old new (Err (answers.UnsupportedRpc e)) going reading left f = tt
-given_by rules max bytes es old new (Err answers.InitialSyncTimeout) going reading left f = tt
-given_by rules max bytes es old new (Err answers.Closed) going reading left f = tt
+given_by rules max bytes es old new (Err follow_errors.OutOfMemory) going reading left f = tt
+given_by rules max bytes es old new (Err follow_errors.WriteFault) going reading left f = tt
+given_by rules max bytes es old new (Err follow_errors.SessionTooLong) going reading left f = tt
+given_by rules max bytes es old new (Err (follow_errors.BadFrame n)) going reading left f = tt
+given_by rules max bytes es old new (Err (follow_errors.Source e)) going reading left f = tt
+given_by rules max bytes es old new (Err (follow_errors.UnsupportedRpc e)) going reading left f = tt
+given_by rules max bytes es old new (Err follow_errors.InitialSyncTimeout) going reading left f = tt
+given_by rules max bytes es old new (Err follow_errors.Closed) going reading left f = tt

@@ -29,7 +29,7 @@ came_more left mid left' got some got' a b = record {
       ∙ append_assoc got a.given b.given;
 }
 
--- what was read into the room behind the octets that came
+-- what was read into the room after the octets that came
 pub came_read : (left left' : Option (List ℕ)) (got items front new past : List ℕ) (filled n : ℕ)
     → items ≡ front ++ (new ++ past) → front ≡ got → length got ≡ filled → n ≤ length new
     → Consumes left left' (take n new) → Came left left' got (take (filled + n) items)

@@ -10,7 +10,7 @@ use Rattle.spf_io.specs.Outside.{HasCause, PutAppends, Rose}
 use Rattle.spf_api.specs.declared.response.ContextResponse.{ContextResponse}
 use Rattle.spf_view.specs.Sessions.{onto}
 use Rattle.spf_view.specs.Views.{has_synced}
-use Rattle.spf_feed.specs.declared.follow_error.FollowError.TheVariants as answers
+use Rattle.spf_feed.specs.declared.follow_error.FollowError.TheVariants as follow_errors
 use Rattle.spf_feed.specs.declared.limits.ResourceLimits.{ResourceLimits}
 use Rattle.spf_feed.specs.declared.ready.Ready.TheVariants as readiness
 use Rattle.spf_feed.specs.Items.{Rules, rules_with, subject}
@@ -18,7 +18,7 @@ use Rattle.spf_feed.specs.Limits.{default_limits}
 use Rattle.spf_proto.specs.declared.proto_error.ProtoError.{ProtoError}
 use Rattle.spf_proto.specs.declared.proto_error.ProtoError.TheVariants as errors
 use Rattle.spf_proto.specs.BodyErrors.{RefusedFor}
-use Rattle.spf_proto.specs.Following.{answer_of, BodyFollowed, FollowsBody, HasCauses, Held}
+use Rattle.spf_proto.specs.Following.{answer_of, BodyFollowed, FollowsBody, HasCauses, OutputState}
 use Rattle.spf_proto.specs.Following.{is_free, OnlyThese}
 use Rattle.spf_proto.specs.Translated.{session_of}
 use Rattle.spf_program.specs.Reports.{IsReported, failure_line}
@@ -74,16 +74,16 @@ follows_by limits passed start input input' output output' end is same followed 
 -- ---- statuses
 
 status_above : (e : ProtoError) → 1 < status e
-status_above (errors.Follow answers.OutOfMemory) = omega arith
-status_above (errors.Follow answers.ReadFault) = omega arith
-status_above (errors.Follow answers.WriteFault) = omega arith
-status_above (errors.Follow answers.SessionTooLong) = omega arith
-status_above (errors.Follow (answers.BadFrame n)) = omega arith
-status_above (errors.Follow (answers.Source e)) = omega arith
-status_above (errors.Follow (answers.UnsupportedRpc e)) = omega arith
-status_above (errors.Follow answers.InitialSyncTimeout) = omega arith
-status_above (errors.Follow answers.Closed) = omega arith
-status_above (errors.Follow answers.NeverSynced) = omega arith
+status_above (errors.Follow follow_errors.OutOfMemory) = omega arith
+status_above (errors.Follow follow_errors.ReadFault) = omega arith
+status_above (errors.Follow follow_errors.WriteFault) = omega arith
+status_above (errors.Follow follow_errors.SessionTooLong) = omega arith
+status_above (errors.Follow (follow_errors.BadFrame n)) = omega arith
+status_above (errors.Follow (follow_errors.Source e)) = omega arith
+status_above (errors.Follow (follow_errors.UnsupportedRpc e)) = omega arith
+status_above (errors.Follow follow_errors.InitialSyncTimeout) = omega arith
+status_above (errors.Follow follow_errors.Closed) = omega arith
+status_above (errors.Follow follow_errors.NeverSynced) = omega arith
 status_above errors.TooManyMessages = omega arith
 status_above (errors.BadMessage n) = omega arith
 
@@ -99,34 +99,34 @@ arguments_are o start end n some is = (
 )
 
 read_by : (end : Result ℕ ProtoError) → status_of_end end ≡ 3
-    → end ≡ Err (errors.Follow answers.ReadFault)
+    → end ≡ Err (errors.Follow follow_errors.ReadFault)
 read_by (Ok n) is = absurd (omega (arith, is))
-read_by (Err (errors.Follow answers.OutOfMemory)) is = absurd (omega (arith, is))
-read_by (Err (errors.Follow answers.ReadFault)) is = refl
-read_by (Err (errors.Follow answers.WriteFault)) is = absurd (omega (arith, is))
-read_by (Err (errors.Follow answers.SessionTooLong)) is = absurd (omega (arith, is))
-read_by (Err (errors.Follow (answers.BadFrame n))) is = absurd (omega (arith, is))
-read_by (Err (errors.Follow (answers.Source e))) is = absurd (omega (arith, is))
-read_by (Err (errors.Follow (answers.UnsupportedRpc e))) is = absurd (omega (arith, is))
-read_by (Err (errors.Follow answers.InitialSyncTimeout)) is = absurd (omega (arith, is))
-read_by (Err (errors.Follow answers.Closed)) is = absurd (omega (arith, is))
-read_by (Err (errors.Follow answers.NeverSynced)) is = absurd (omega (arith, is))
+read_by (Err (errors.Follow follow_errors.OutOfMemory)) is = absurd (omega (arith, is))
+read_by (Err (errors.Follow follow_errors.ReadFault)) is = refl
+read_by (Err (errors.Follow follow_errors.WriteFault)) is = absurd (omega (arith, is))
+read_by (Err (errors.Follow follow_errors.SessionTooLong)) is = absurd (omega (arith, is))
+read_by (Err (errors.Follow (follow_errors.BadFrame n))) is = absurd (omega (arith, is))
+read_by (Err (errors.Follow (follow_errors.Source e))) is = absurd (omega (arith, is))
+read_by (Err (errors.Follow (follow_errors.UnsupportedRpc e))) is = absurd (omega (arith, is))
+read_by (Err (errors.Follow follow_errors.InitialSyncTimeout)) is = absurd (omega (arith, is))
+read_by (Err (errors.Follow follow_errors.Closed)) is = absurd (omega (arith, is))
+read_by (Err (errors.Follow follow_errors.NeverSynced)) is = absurd (omega (arith, is))
 read_by (Err errors.TooManyMessages) is = absurd (omega (arith, is))
 read_by (Err (errors.BadMessage n)) is = absurd (omega (arith, is))
 
 write_by : (end : Result ℕ ProtoError) → status_of_end end ≡ 4
-    → end ≡ Err (errors.Follow answers.WriteFault)
+    → end ≡ Err (errors.Follow follow_errors.WriteFault)
 write_by (Ok n) is = absurd (omega (arith, is))
-write_by (Err (errors.Follow answers.OutOfMemory)) is = absurd (omega (arith, is))
-write_by (Err (errors.Follow answers.ReadFault)) is = absurd (omega (arith, is))
-write_by (Err (errors.Follow answers.WriteFault)) is = refl
-write_by (Err (errors.Follow answers.SessionTooLong)) is = absurd (omega (arith, is))
-write_by (Err (errors.Follow (answers.BadFrame n))) is = absurd (omega (arith, is))
-write_by (Err (errors.Follow (answers.Source e))) is = absurd (omega (arith, is))
-write_by (Err (errors.Follow (answers.UnsupportedRpc e))) is = absurd (omega (arith, is))
-write_by (Err (errors.Follow answers.InitialSyncTimeout)) is = absurd (omega (arith, is))
-write_by (Err (errors.Follow answers.Closed)) is = absurd (omega (arith, is))
-write_by (Err (errors.Follow answers.NeverSynced)) is = absurd (omega (arith, is))
+write_by (Err (errors.Follow follow_errors.OutOfMemory)) is = absurd (omega (arith, is))
+write_by (Err (errors.Follow follow_errors.ReadFault)) is = absurd (omega (arith, is))
+write_by (Err (errors.Follow follow_errors.WriteFault)) is = refl
+write_by (Err (errors.Follow follow_errors.SessionTooLong)) is = absurd (omega (arith, is))
+write_by (Err (errors.Follow (follow_errors.BadFrame n))) is = absurd (omega (arith, is))
+write_by (Err (errors.Follow (follow_errors.Source e))) is = absurd (omega (arith, is))
+write_by (Err (errors.Follow (follow_errors.UnsupportedRpc e))) is = absurd (omega (arith, is))
+write_by (Err (errors.Follow follow_errors.InitialSyncTimeout)) is = absurd (omega (arith, is))
+write_by (Err (errors.Follow follow_errors.Closed)) is = absurd (omega (arith, is))
+write_by (Err (errors.Follow follow_errors.NeverSynced)) is = absurd (omega (arith, is))
 write_by (Err errors.TooManyMessages) is = absurd (omega (arith, is))
 write_by (Err (errors.BadMessage n)) is = absurd (omega (arith, is))
 
@@ -145,7 +145,7 @@ write_rises start input input' output output' end n f is four =
 -- ---- the headline
 
 synced_by : (b : Bool) (count n : ℕ)
-    → Ok count ≡ cond b (Ok n) (Err (errors.Follow answers.NeverSynced)) → b ≡ true
+    → Ok count ≡ cond b (Ok n) (Err (errors.Follow follow_errors.NeverSynced)) → b ≡ true
 synced_by true count n is = refl
 synced_by false count n is = absurd cc
 
@@ -168,12 +168,12 @@ answer_whole rules start max ms (x ∷ rest) count is =
     (errors.BadMessage (length ms + 1))
     (is ∙ ap (λ (b : Bool). cond b
     (cond (has_synced (subject rules) (onto [] (session_of rules start ms)))
-    (Ok (length (session_of rules start ms))) (Err (errors.Follow answers.NeverSynced)))
+    (Ok (length (session_of rules start ms))) (Err (errors.Follow follow_errors.NeverSynced)))
     (cond (length ms == max) (Err errors.TooManyMessages)
     (Err (errors.BadMessage (length ms + 1)))))
     (some_rest (x ∷ rest) (λ none. cc))))
 
-printed : (start : ℤ) (left : Option (List ℕ)) (old new : Held) (count : ℕ)
+printed : (start : ℤ) (left : Option (List ℕ)) (old new : OutputState) (count : ℕ)
     → BodyFollowed program_rules start max_messages left old new (Ok count)
     → IfSome left (PrintsBody start old.held new.held)
 printed start None old new count followed = tt
@@ -212,32 +212,40 @@ free_end : (reads reads' writes writes' : ℕ) (end : Result ℕ ProtoError)
     → (Rose reads reads' → ⊥) → (Rose writes writes' → ⊥)
     → is_free end ≡ true → (status_of_end end ≡ 0) ⊎ (status_of_end end ≡ 2)
 free_end reads reads' writes writes' (Ok n) cause calm still free = inl refl
-free_end reads reads' writes writes' (Err (errors.Follow answers.OutOfMemory)) cause calm still
+free_end reads reads' writes writes' (Err (errors.Follow follow_errors.OutOfMemory)) cause calm
+    still
     free =
     inr refl
-free_end reads reads' writes writes' (Err (errors.Follow answers.ReadFault)) cause calm still free =
+free_end reads reads' writes writes' (Err (errors.Follow follow_errors.ReadFault)) cause calm still
+    free =
     absurd (calm (cause.read refl))
-free_end reads reads' writes writes' (Err (errors.Follow answers.WriteFault)) cause calm still
+free_end reads reads' writes writes' (Err (errors.Follow follow_errors.WriteFault)) cause calm still
     free =
     absurd (still (cause.write refl))
-free_end reads reads' writes writes' (Err (errors.Follow answers.SessionTooLong)) cause calm still
+free_end reads reads' writes writes' (Err (errors.Follow follow_errors.SessionTooLong)) cause calm
+    still
     free = absurd cc
-free_end reads reads' writes writes' (Err (errors.Follow (answers.BadFrame n))) cause calm still
+free_end reads reads' writes writes' (Err (errors.Follow (follow_errors.BadFrame n))) cause calm
+    still
     free = absurd cc
-free_end reads reads' writes writes' (Err (errors.Follow (answers.Source e))) cause calm still
+free_end reads reads' writes writes' (Err (errors.Follow (follow_errors.Source e))) cause calm still
     free = absurd cc
-free_end reads reads' writes writes' (Err (errors.Follow (answers.UnsupportedRpc e))) cause calm
+free_end reads reads' writes writes' (Err (errors.Follow (follow_errors.UnsupportedRpc e))) cause
+    calm
     still free = absurd cc
-free_end reads reads' writes writes' (Err (errors.Follow answers.InitialSyncTimeout)) cause calm
+free_end reads reads' writes writes' (Err (errors.Follow follow_errors.InitialSyncTimeout)) cause
+    calm
     still free = absurd cc
-free_end reads reads' writes writes' (Err (errors.Follow answers.Closed)) cause calm still free =
+free_end reads reads' writes writes' (Err (errors.Follow follow_errors.Closed)) cause calm still
+    free =
     absurd cc
-free_end reads reads' writes writes' (Err (errors.Follow answers.NeverSynced)) cause calm still
+free_end reads reads' writes writes' (Err (errors.Follow follow_errors.NeverSynced)) cause calm
+    still
     free = absurd cc
 free_end reads reads' writes writes' (Err errors.TooManyMessages) cause calm still free = absurd cc
 free_end reads reads' writes writes' (Err (errors.BadMessage n)) cause calm still free = absurd cc
 
-whole_end : (start : ℤ) (bytes : List ℕ) (old new : Held) (end : Result ℕ ProtoError)
+whole_end : (start : ℤ) (bytes : List ℕ) (old new : OutputState) (end : Result ℕ ProtoError)
     → IsWholeBody start bytes → FollowsBody program_rules start max_messages bytes old new end
     → status_of_end end ≡ 0
 whole_end start bytes old new end body f =
@@ -247,7 +255,7 @@ whole_end start bytes old new end body f =
     ap status_of_end (f.answer ∙ all
     ∙ answer_synced program_rules start max_messages body.messages true body.accepted)
 
-completes_left : (start : ℤ) (left : Option (List ℕ)) (old new : Held)
+completes_left : (start : ℤ) (left : Option (List ℕ)) (old new : OutputState)
     (reads reads' writes writes' : ℕ) (end : Result ℕ ProtoError)
     → BodyFollowed program_rules start max_messages left old new end
     → HasCauses reads reads' writes writes' end

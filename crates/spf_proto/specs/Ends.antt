@@ -5,7 +5,7 @@ use Rattle.std.specs.Io.KnownBytes.{Keeps}
 use Rattle.spf_proto.specs.declared.frame_end.FrameEnd.{FrameEnd}
 use Rattle.spf_proto.specs.declared.frame_end.FrameEnd.TheVariants as ends
 pub use Rattle.spf_proto.specs.FrameEnds.{result_of_end}
-use Rattle.spf_feed.specs.declared.follow_error.FollowError.TheVariants as answers
+use Rattle.spf_feed.specs.declared.follow_error.FollowError.TheVariants as follow_errors
 use Rattle.spf_proto.specs.declared.proto_error.ProtoError.{ProtoError}
 use Rattle.spf_proto.specs.declared.proto_error.ProtoError.TheVariants as errors
 use Rattle.spf_proto.specs.declared.taking.Stop.{Stop}
@@ -16,8 +16,8 @@ use Rattle.spf_proto.specs.Translator.{Translating, IsStopped, left_of}
 abbrev pub error_of : ℕ → ℕ → Stop → ProtoError
 error_of max allowed stops.BadMessage = errors.BadMessage (max - allowed + 1)
 error_of max allowed stops.TooManyMessages = errors.TooManyMessages
-error_of max allowed stops.SourceFailed = errors.Follow answers.ReadFault
-error_of max allowed stops.OutOfMemory = errors.Follow answers.OutOfMemory
+error_of max allowed stops.SourceFailed = errors.Follow follow_errors.ReadFault
+error_of max allowed stops.OutOfMemory = errors.Follow follow_errors.OutOfMemory
 
 -- the translation stopped for this reason, or memory ran out
 abbrev pub IsReasonOf : {T : Type 0} → (T → Option (List ℕ)) → (T → ℕ) → Beginning → Translating T
@@ -52,10 +52,12 @@ abbrev pub IsResultOf : {T : Type 0} → (T → Option (List ℕ)) → (T → �
 IsResultOf left failures b before t (ends.Whole count) r =
     IsEndedBy left failures b before t (Ok count) r
 IsResultOf left failures b before t ends.NeverSynced r =
-    IsEndedBy left failures b before t (Err (errors.Follow answers.NeverSynced)) r
+    IsEndedBy left failures b before t (Err (errors.Follow follow_errors.NeverSynced)) r
 IsResultOf left failures b before t ends.ReadFault r =
     Keeps before (left_of left b.rules b.start t)
     × ((stop : Stop) × (r ≡ Err (error_of b.max t.allowed stop))
     × IsReasonOf left failures b t stop)
-IsResultOf left failures b before t ends.WriteFault r = r ≡ Err (errors.Follow answers.WriteFault)
-IsResultOf left failures b before t ends.OutOfMemory r = r ≡ Err (errors.Follow answers.OutOfMemory)
+IsResultOf left failures b before t ends.WriteFault r =
+    r ≡ Err (errors.Follow follow_errors.WriteFault)
+IsResultOf left failures b before t ends.OutOfMemory r =
+    r ≡ Err (errors.Follow follow_errors.OutOfMemory)

@@ -7,7 +7,7 @@ use Rattle.spf_api.specs.declared.response.ContextResponse.{ContextResponse}
 use Rattle.spf_view.specs.Sessions.{Grows, all_of, onto}
 use Rattle.spf_view.specs.Views.{has_synced}
 use Rattle.spf_feed.specs.declared.follow_error.FollowError.{FollowError}
-use Rattle.spf_feed.specs.declared.follow_error.FollowError.TheVariants as answers
+use Rattle.spf_feed.specs.declared.follow_error.FollowError.TheVariants as follow_errors
 use Rattle.spf_feed.specs.declared.record.MetricsRecord.{MetricsRecord}
 use Rattle.spf_feed.specs.Items.{Event, Rules, subject}
 use Rattle.spf_feed.specs.Run.{stream, outputs}
@@ -23,22 +23,22 @@ is_due None start = false
 is_due (Some deadline) start = int_le deadline start
 
 abbrev pub timed_out : Result ℕ ProtoError
-timed_out = Err (errors.Follow answers.InitialSyncTimeout)
+timed_out = Err (errors.Follow follow_errors.InitialSyncTimeout)
 
 -- the results that the bytes do not fix
 abbrev pub is_free : Result ℕ ProtoError → Bool
-is_free (Err (errors.Follow answers.OutOfMemory)) = true
-is_free (Err (errors.Follow answers.ReadFault)) = true
-is_free (Err (errors.Follow answers.WriteFault)) = true
+is_free (Err (errors.Follow follow_errors.OutOfMemory)) = true
+is_free (Err (errors.Follow follow_errors.ReadFault)) = true
+is_free (Err (errors.Follow follow_errors.WriteFault)) = true
 is_free _ = false
 
 -- the errors of a session with which following a body may end
 abbrev pub comes : FollowError → Bool
-comes answers.OutOfMemory = true
-comes answers.ReadFault = true
-comes answers.WriteFault = true
-comes answers.InitialSyncTimeout = true
-comes answers.NeverSynced = true
+comes follow_errors.OutOfMemory = true
+comes follow_errors.ReadFault = true
+comes follow_errors.WriteFault = true
+comes follow_errors.InitialSyncTimeout = true
+comes follow_errors.NeverSynced = true
 comes _ = false
 
 abbrev pub OnlyThese : Result ℕ ProtoError → Type 0
@@ -49,8 +49,8 @@ OnlyThese _ = Unit {0}
 pub record HasCauses (reads reads' writes writes' : ℕ) (r : Result ℕ ProtoError) : Type 0 where
   pub reads_later : reads ≤ reads'
   pub writes_later : writes ≤ writes'
-  pub read : r ≡ Err (errors.Follow answers.ReadFault) → Rose reads reads'
-  pub write : r ≡ Err (errors.Follow answers.WriteFault) → Rose writes writes'
+  pub read : r ≡ Err (errors.Follow follow_errors.ReadFault) → Rose reads reads'
+  pub write : r ≡ Err (errors.Follow follow_errors.WriteFault) → Rose writes writes'
 
 -- The result that a body fixes: its messages, and what follows them.
 abbrev pub answer_of : Rules → ℤ → ℕ → List ContextResponse → List ℕ → Result ℕ ProtoError
@@ -58,25 +58,26 @@ answer_of rules start max messages rest =
     if length rest == 0
     then (if has_synced (subject rules) (onto [] (session_of rules start messages))
     then Ok (length (session_of rules start messages))
-    else Err (errors.Follow answers.NeverSynced))
+    else Err (errors.Follow follow_errors.NeverSynced))
     else (if length messages == max then Err errors.TooManyMessages
     else Err (errors.BadMessage (length messages + 1)))
 
 -- what the sink, the publisher and the recorder hold at one moment, each where it says so
-pub record Held : Type 0 where
+pub record OutputState : Type 0 where
   pub held : Option (List ℕ)
   pub steps : Option (List PlainStep)
   pub records : Option (List MetricsRecord)
 
 -- All that a session gives is handed on: its lines, its steps and its records.
-pub record HandsOnAll (rules : Rules) (es : List Event) (old new : Held) : Type 0 where
+pub record HandsOnAll (rules : Rules) (es : List Event) (old new : OutputState) : Type 0 where
   pub lines : Grows old.held new.held (all_of (stream rules) (outputs rules).line [] es)
   pub steps : Grows old.steps new.steps (all_of (stream rules) (outputs rules).steps [] es)
   pub records : Grows old.records new.records (all_of (stream rules) (outputs rules).records [] es)
 
 -- The messages with which a body begins, at most `max` of them, are followed:
 -- all that their session gives is handed on, and they fix the result.
-pub record FollowsBody (rules : Rules) (start : ℤ) (max : ℕ) (bytes : List ℕ) (old new : Held)
+pub record FollowsBody (rules : Rules) (start : ℤ) (max : ℕ) (bytes : List ℕ) (old new :
+    OutputState)
     (r : Result ℕ ProtoError) : Type 0 where
   pub messages : List ContextResponse
   pub rest : List ℕ
@@ -85,7 +86,8 @@ pub record FollowsBody (rules : Rules) (start : ℤ) (max : ℕ) (bytes : List �
   pub given : HandsOnAll rules (session_of rules start messages) old new
 
 -- the bytes fix the result, where they are known, unless it is a failure or memory ran out
-abbrev pub BodyFollowed : Rules → ℤ → ℕ → Option (List ℕ) → Held → Held → Result ℕ ProtoError
+abbrev pub BodyFollowed : Rules → ℤ → ℕ → Option (List ℕ) → OutputState → OutputState → Result ℕ
+    ProtoError
     → Type 0
 BodyFollowed rules start max left old new r =
     IfSome left (λ bytes. IsTrue (is_free r) ⊎ FollowsBody rules start max bytes old new r)

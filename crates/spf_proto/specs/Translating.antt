@@ -29,7 +29,7 @@ ArePut is_open payload frames true =
     (length payload ≤ 2 ^ 24) × (frames ≡ item_frames is_open payload)
 ArePut is_open payload frames false = 2 ^ 24 < length payload
 
--- the length of what stands behind four octets takes their place, unless no frame may hold so much
+-- the length of what stands after four octets takes their place, unless no frame may hold so much
 abbrev pub IsLengthPut : ℕ → List ℕ → List ℕ → Bool → Type 0
 IsLengthPut at old new true =
     (length old ≤ at + 4 + 2 ^ 24)

@@ -16,7 +16,7 @@ use Rattle.spf_proto.specs.declared.proto_error.ProtoError.{ProtoError}
 use Rattle.spf_proto.specs.declared.proto_error.ProtoError.TheVariants as errors
 use Rattle.spf_proto.specs.Body.{body_within}
 use Rattle.spf_proto.specs.BodyErrors.{RefusedFor}
-use Rattle.spf_proto.specs.Following.{BodyFollowed, Held, HasCauses, OnlyThese}
+use Rattle.spf_proto.specs.Following.{BodyFollowed, OutputState, HasCauses, OnlyThese}
 use Rattle.spf_proto.specs.Translated.{session_of}
 
 abbrev pub status : ProtoError → ℕ
@@ -56,7 +56,7 @@ abbrev pub max_messages : ℕ
 max_messages = 1000000
 
 -- what the output holds, where nothing keeps steps and records
-abbrev pub shown : Side → Held
+abbrev pub shown : Side → OutputState
 shown output = record { held = output.bytes; steps = None; records = None }
 
 -- A body is followed from a moment on, and it ends like this.

@@ -30,7 +30,7 @@ impl Model for Incoming {
     ghost invariant = { λ s. s.filled ≤ vec_len s.buffer };
 }
 
-/// Makes room behind the octets that came: for as many again, or for a chunk.
+/// Makes room after the octets that came: for as many again, or for a chunk.
 fn make_room(buffer: &mut Vec<u8>, filled: usize) -> Result<(), OutOfMemory>
     requires within { filled ≤ length buffer.old.items }
     ensures kept { take filled buffer.new.items ≡ take filled buffer.old.items }

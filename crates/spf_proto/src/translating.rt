@@ -162,7 +162,7 @@ fn frames_before(is_open: bool) -> &'static [u8]
     if is_open { &[] } else { &CLIENT }
 }
 
-/// Writes the length of the payload into the four octets at `at`, behind which it begins. Returns
+/// Writes the length of the payload into the four octets at `at`, after which it begins. Returns
 /// false where it is too long for a frame.
 fn put_length(frames: &mut Vec<u8>, at: usize) -> bool
     requires room { at + 4 ≤ length frames.old.items }
