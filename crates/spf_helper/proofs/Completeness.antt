@@ -49,8 +49,10 @@ no_more s one past text rest text' rest' (e ∷ es) (f ∷ fs) a b same le =
     one_frame.0
     (all_le (is_some (s.refusal past e)) (one past e) (all_of s one (e ∷ past) es)
     (all_of s one (e ∷ past) fs)
-    (no_more s one (e ∷ past) a.1 rest b.1 rest' es fs a.4 remaining one_frame.1 (omega (arith,
-    le))))
+    (no_more s one (e ∷ past) a.1 rest b.1 rest' es fs a.4 remaining one_frame.1 (omega (
+      arith,
+      le,
+    ))))
 
 published_few : (limits : ResourceLimits) (max : ℕ) (bytes : List ℕ)
     (left' held held' : Option (List ℕ)) (steps : List PlainStep) (r : Result ℕ FollowError)

@@ -307,8 +307,8 @@ begun_left left b rules seconds source frames allowed t view made same start kno
     (λ bytes. made i ++ frames_from (same i) (start i) shut (body_within (max i) bytes).0)
     (known i))
 
-pub followed_since : (rules : Rules) (b c : Beginning) (old new : OutputState) (r : Result ℕ
-    ProtoError)
+pub followed_since : (rules : Rules) (b c : Beginning) (old new : OutputState)
+    (r : Result ℕ ProtoError)
     → b ≡ c → BodyFollowed rules b.start b.max b.left old new r
     → BodyFollowed rules c.start c.max c.left old new r
 followed_since rules b c old new r same =

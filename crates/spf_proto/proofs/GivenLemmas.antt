@@ -32,8 +32,8 @@ grown {X} old new more cut off g =
 abbrev pub held : Ports PlainStep MetricsRecord → OutputState
 held p = record { held = p.held; steps = p.steps; records = p.records }
 
-abbrev pub Given : Rules → List Event → Ports PlainStep MetricsRecord → Ports PlainStep
-    MetricsRecord
+abbrev pub Given : Rules → List Event → Ports PlainStep MetricsRecord
+    → Ports PlainStep MetricsRecord
     → Type 0
 Given rules es old new = HandsOnAll rules es (held old) (held new)
 
@@ -74,8 +74,8 @@ pub known : (bytes given : List ℕ) (left : Option (List ℕ)) → Consumes (So
 known bytes given None taken = absurd taken
 known bytes given (Some x) taken = (x, refl)
 
-pub rest_is : (bytes given rest : List ℕ) (left : Option (List ℕ)) → Consumes (Some bytes) left
-    given
+pub rest_is : (bytes given rest : List ℕ) (left : Option (List ℕ))
+    → Consumes (Some bytes) left given
     → left ≡ Some rest → bytes ≡ given ++ rest
 rest_is bytes given rest left taken is =
     subst (λ (l : Option (List ℕ)). Consumes (Some bytes) l given) is taken
