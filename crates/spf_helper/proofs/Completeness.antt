@@ -44,15 +44,12 @@ no_more s one past text rest text' rest' (e ∷ es) (f ∷ fs) a b same le =
     ∙ ap (λ (l : List ℕ). l ++ rest') b.2.text ∙ append_assoc b.0 b.1 rest' in
     let one_frame = frame_same s past a.0 (a.1 ++ rest) b.0 (b.1 ++ rest') e f a.2.frame b.2.frame
     joined in
-    let remaining = subst (λ x. IsSession s (x ∷ past) b.1 fs) (sym one_frame.0) b.4 in
+    let more = subst (λ x. IsSession s (x ∷ past) b.1 fs) (sym one_frame.0) b.4 in
     subst (λ x. length (all_of s one past (e ∷ es)) ≤ length (all_of s one past (x ∷ fs)))
     one_frame.0
     (all_le (is_some (s.refusal past e)) (one past e) (all_of s one (e ∷ past) es)
     (all_of s one (e ∷ past) fs)
-    (no_more s one (e ∷ past) a.1 rest b.1 rest' es fs a.4 remaining one_frame.1 (omega (
-      arith,
-      le,
-    ))))
+    (no_more s one (e ∷ past) a.1 rest b.1 rest' es fs a.4 more one_frame.1 (omega (arith, le))))
 
 published_few : (limits : ResourceLimits) (max : ℕ) (bytes : List ℕ)
     (left' held held' : Option (List ℕ)) (steps : List PlainStep) (r : Result ℕ FollowError)

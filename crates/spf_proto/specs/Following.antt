@@ -77,8 +77,7 @@ pub record HandsOnAll (rules : Rules) (es : List Event) (old new : OutputState) 
 -- The messages with which a body begins, at most `max` of them, are followed:
 -- all that their session gives is handed on, and they fix the result.
 pub record FollowsBody (rules : Rules) (start : ℤ) (max : ℕ) (bytes : List ℕ)
-    (old new : OutputState)
-    (r : Result ℕ ProtoError) : Type 0 where
+    (old new : OutputState) (r : Result ℕ ProtoError) : Type 0 where
   pub messages : List ContextResponse
   pub rest : List ℕ
   pub reading : body_within max bytes ≡ (messages, rest)
@@ -87,7 +86,6 @@ pub record FollowsBody (rules : Rules) (start : ℤ) (max : ℕ) (bytes : List �
 
 -- the bytes fix the result, where they are known, unless it is a failure or memory ran out
 abbrev pub BodyFollowed : Rules → ℤ → ℕ → Option (List ℕ) → OutputState → OutputState
-    → Result ℕ ProtoError
-    → Type 0
+    → Result ℕ ProtoError → Type 0
 BodyFollowed rules start max left old new r =
     IfSome left (λ bytes. IsTrue (is_free r) ⊎ FollowsBody rules start max bytes old new r)
