@@ -17,7 +17,7 @@ type Row = (
     &'static str,
 );
 
-static ROWS: [Row; 15] = [
+static ROWS: [Row; 16] = [
     (
         &["999"],
         &[Q],
@@ -50,6 +50,15 @@ static ROWS: [Row; 15] = [
         "1 waiting\n2 waiting\n3 waiting\n4 0 permitted P1\n5 0 permitted P1\n\
          6 0 permitted P1\n7 0 permitted P1\n8 0 permitted P1\n9 0 permitted P1\n\
          10 0 permitted P1\n11 0 permitted P1\n12 0 permitted P1\n13 0 permitted P1\n",
+        0,
+        "",
+    ),
+    // A CRL and two bundles of one name, and no SVID.
+    (
+        &["999"],
+        &[Q, "0000000015 120130 1a070a026162120130 1a070a026162120131"],
+        "1 waiting\n2 waiting\n3 waiting\n4 0 permitted P1\n5 0 permitted P1\n\
+         6 0 permitted P1\n7 0 permitted P1\n",
         0,
         "",
     ),
