@@ -56,6 +56,13 @@ abbrev pub Stops : {K : Type 0} → (K → List Svid → Option ℕ) → Setting
 Stops picks set end =
     StopsOpening picks set.limits set.timeout set.ready set.picker (stops.Terminal end)
 
+-- why a connector is not ready: its endpoint is invalid, or memory ran out
+abbrev pub EndpointFails : Result (Unit {0}) EndpointError → X509SourceError → Type 0
+EndpointFails valid (errors.Source e) =
+    (x : EndpointError) × (valid ≡ Err x) × (e ≡ api.Endpoint x)
+EndpointFails valid errors.OutOfMemory = Unit {0}
+EndpointFails valid _ = ⊥
+
 -- Why an initial synchronisation gives an error: the endpoint is invalid, a terminal event came by
 -- the connector or the clock before anything was accepted, or memory ran out.
 abbrev pub SyncFails : {K : Type 0} → (K → List Svid → Option ℕ) → Settings K

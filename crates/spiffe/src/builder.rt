@@ -12,6 +12,7 @@ use rand_core::Rng;
 use spf_feed::{
     MetricsRecorder, NoPicker, NoRecorder, Ready, ResourceLimits, SvidPicker, X509SourceError,
 };
+use spf_io::OutOfMemory;
 use spf_job::Spawner;
 use spf_link::Connector;
 use spf_pace::ReconnectConfig;
@@ -19,6 +20,7 @@ use spf_system::{Clock, Pause};
 use spf_x509_board::{Pass, Places};
 use std::alloc::Global;
 use std::fmt;
+use std::mem::drop;
 use std::sync::Wait;
 use std::time::Duration;
 
@@ -240,26 +242,42 @@ where
         ensures failed { IfErr result (PrepareFails P.picks self.settings
             (C.validates self.connector) (L.refusals places.old) (L.refusals places.new)) }
     {
+        let mut pause = pause;
+        let mut random = random;
+        let cells = match open_cells(alloc) {
+            Ok(cells) => cells,
+            Err(OutOfMemory) => {
+                drop(self);
+                drop(pause);
+                drop(random);
+                return Err(X509SourceError::OutOfMemory);
+            }
+        };
         let X509SourceBuilder {
             settings,
             connector,
             recorder,
         } = self;
-        let mut pause = pause;
-        let mut random = random;
         let grace = settings.grace;
-        let cells = open_cells(alloc)?;
-        let (feeder, pace) = synchronised(
+        let (feeder, pace) = match synchronised(
             &rt,
             alloc,
             connector,
             recorder,
             settings,
-            &cells.stop,
+            &cells.source.stop,
             clock,
             &mut pause,
             &mut random,
-        )?;
+        ) {
+            Ok(opened) => opened,
+            Err(e) => {
+                drop(cells);
+                drop(pause);
+                drop(random);
+                return Err(e);
+            }
+        };
         let (source, pass, closing, job) = joined(
             rt, alloc, cells, feeder, pace, pause, random, places,
         )?;
@@ -306,7 +324,12 @@ where
         let (source, pass, job, pending) = self.prepare(rt, alloc, clock, pause, random, places)?;
         match spawner.start(job) {
             Ok(handle) => Ok((source, pass, pending.started(handle))),
-            Err(_) => Err(X509SourceError::NoSupervisor),
+            Err(_) => {
+                drop(source);
+                drop(pass);
+                drop(pending);
+                Err(X509SourceError::NoSupervisor)
+            }
         }
     }
 }

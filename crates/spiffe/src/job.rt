@@ -23,6 +23,7 @@ use spf_pace::Pace;
 use spf_system::Pause;
 use spf_x509_board::{Ended, Pass, settle};
 use std::marker::Model;
+use std::mem::drop;
 use std::sync::Wait;
 
 /// What a supervisor leaves: its ended writer, and its record, where memory did not run out.
@@ -204,8 +205,13 @@ where
         let closed = supervise(&rt, &mut feeder, &mut pace, &mut random, &mut pause, &watch);
         let done = match closed {
             Some(closed) => recorded(feeder, pace, closed),
-            None => unrecorded(feeder),
+            None => {
+                drop(pace);
+                unrecorded(feeder)
+            }
         };
+        drop(pause);
+        drop(random);
         closer.close();
         bell.ring();
         done

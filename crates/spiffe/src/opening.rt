@@ -1,6 +1,6 @@
 //! The parts of building a source.
 
-ghost use Rattle.std.specs.Prelude.{◌≡◌, [], false, Err, IfErr, IfOk, None, Ok, Some};
+ghost use Rattle.std.specs.Prelude.{◌≡◌, [], false, Err, IfErr, IfOk, None, Ok, OnOk, Some};
 ghost use Rattle.std.specs.Prelude.{map, reverse, ◌∷◌};
 ghost use Rattle.std.specs.Option.{ForSome};
 ghost use Rattle.spf_view.specs.Steps.{steps_of};
@@ -13,10 +13,12 @@ ghost use Rattle.spf_feeder.specs.Orderly.{IsOneStep, IsSynced};
 ghost use Rattle.spf_feeder.specs.Pacing.{KeepsPace};
 ghost use Rattle.spf_feeder.specs.Times.{Gives};
 ghost use Rattle.spf_close.specs.declared.maker.Maker.TheVariants as makers;
-ghost use Rattle.spiffe.specs.Building.{IsBuilt, SyncFails, refused_as, stopped_as};
+ghost use Rattle.spiffe.specs.Building.{EndpointFails, IsBuilt, SyncFails, refused_as};
+ghost use Rattle.spiffe.specs.Building.{stopped_as};
 ghost use Rattle.spiffe.specs.Reads.{HasPlaceCause};
 
 use crate::builder::Settings;
+use crate::closing::closing_of;
 use crate::job::X509Job;
 use crate::publishing::BoardPublisher;
 use crate::source::X509Source;
@@ -31,8 +33,9 @@ use spf_io::OutOfMemory;
 use spf_link::Connector;
 use spf_pace::Pace;
 use spf_system::{Clock, Pause, StopFlag};
-use spf_x509_board::{Front, Pass, PlaceFault, Places, X509, open};
+use spf_x509_board::{Desk, Front, Pass, PlaceFault, Places, X509, open};
 use std::alloc::Global;
+use std::mem::drop;
 use std::sync::Wait;
 
 /// The error of a refused endpoint.
@@ -55,6 +58,24 @@ fn stopped(stop: Stop) -> X509SourceError
         Stop::Terminal(Terminal::InitialSyncTimeout) => X509SourceError::InitialSyncTimeout,
         Stop::Terminal(Terminal::Closed) | Stop::OutOfMemory => X509SourceError::OutOfMemory,
     }
+}
+
+/// Validates the connector, and lets it and the pause heed the stop flag.
+fn make_ready<C: Connector, W: Pause>(
+    connector: &mut C,
+    pause: &mut W,
+    stop: &StopFlag,
+) -> Result<(), X509SourceError>
+    ensures members { C.members connector.new ≡ C.members connector.old }
+    ensures endpoint { OnOk result (C.validates connector.old ≡ Ok tt) }
+    ensures failed { IfErr result (EndpointFails (C.validates connector.old)) }
+{
+    if let Err(e) = connector.validate() {
+        return Err(refused_endpoint(e));
+    }
+    connector.heed(stop.try_clone()?);
+    pause.heed(stop.try_clone()?);
+    Ok(())
 }
 
 /// Validates the connector, lets it and the pause heed the stop flag, and synchronises. A single
@@ -99,11 +120,12 @@ where
     ensures failed { IfErr result (SyncFails P.picks settings (C.validates connector)) }
 {
     let mut connector = connector;
-    if let Err(e) = connector.validate() {
-        return Err(refused_endpoint(e));
+    if let Err(e) = make_ready(&mut connector, pause, stop) {
+        drop(connector);
+        drop(recorder);
+        drop(settings);
+        return Err(e);
     }
-    connector.heed(stop.try_clone()?);
-    pause.heed(stop.try_clone()?);
     let opening = Opening {
         limits: settings.limits,
         ready: settings.ready,
@@ -149,6 +171,24 @@ fn first_step(
     Prepared::new(alloc, first.try_clone()?)
 }
 
+/// A board on which the one step of a publisher is published, and the list of steps with that one.
+fn opened<R: Wait + Drop>(
+    rt: R,
+    alloc: Global,
+    publisher: &MemPublisher,
+    steps: &mut Vec<Step>,
+) -> Result<(Desk<R>, Pass), OutOfMemory>
+    requires once { IsOneStep publisher.now.steps }
+    requires none { steps.old.items ≡ [] }
+    ensures kept { IfOk result (λ r. map plain steps.new.items ≡ board_steps r.0.list) }
+    ensures step { IfOk result (λ r. board_steps r.0.list ≡ publisher.now.steps) }
+    ensures pass { IfOk result (λ r. (r.1.book ≡ r.0.book) × (r.1.seen ≡ r.0.list)) }
+{
+    let prepared = first_step(alloc, publisher, steps)?;
+    let (desk, pass) = open(alloc, rt, prepared)?;
+    Ok((desk, pass))
+}
+
 /// The feeder on a board of its own, on which its one step is published, with the board's front and
 /// its first pass.
 pub(crate) fn on_board<C, P, M, R>(
@@ -176,46 +216,168 @@ where
         (rules_by P.picks feeder.core.settings feeder.core.picker)) feeder.core.run) }
 {
     let mut steps = Vec::new(alloc);
-    let prepared = first_step(alloc, feeder.publisher(), &mut steps)?;
-    let (desk, pass) = open(alloc, rt, prepared)?;
+    let (desk, pass) = match opened(rt, alloc, feeder.publisher(), &mut steps) {
+        Ok(opened) => opened,
+        Err(OutOfMemory) => {
+            drop(feeder);
+            drop(steps);
+            drop(bell);
+            return Err(OutOfMemory);
+        }
+    };
     let front = desk.front();
     let publisher = BoardPublisher::new(desk, steps, bell);
-    let (feeder, _first) = feeder.with_publisher(publisher);
+    let (feeder, before) = feeder.with_publisher(publisher);
+    drop(before);
     Ok((feeder, front, pass))
+}
+
+/// What a source keeps of its cell: what closes it, ends the waits of its supervisor, and wakes
+/// those who wait for a change.
+#[derive(Drop)]
+pub(crate) struct SourceCells {
+    caller: Closer,
+    pub(crate) stop: StopFlag,
+    bell: Bell,
+}
+
+/// What the job of a supervisor keeps of the cell.
+#[derive(Drop)]
+struct JobCells {
+    watch: Watch,
+    closer: Closer,
+    bell: Bell,
 }
 
 /// What closes a source, ends the waits of its supervisor, and wakes those who wait for a change:
 /// all of one cell. It is made before anything is asked.
 #[derive(Drop)]
 pub(crate) struct Cells {
-    caller: Closer,
     closing: Closing,
-    closer: Closer,
-    watch: Watch,
-    pub(crate) stop: StopFlag,
-    source_bell: Bell,
+    pub(crate) source: SourceCells,
     publisher_bell: Bell,
-    job_bell: Bell,
+    job: JobCells,
 }
 
-pub(crate) fn open_cells(alloc: Global) -> Result<Cells, OutOfMemory>
+/// What closes the source of the closer, with two bells more.
+fn closing_bells(
+    alloc: Global,
+    caller: &mut Closer,
+    stop: &StopFlag,
+    bell: &Bell,
+) -> Result<(Closing, Bell, Bell), OutOfMemory>
+    requires { caller.old.maker ≡ makers.Caller }
+    ensures unchanged { caller.new ≡ caller.old }
+    ensures closing { IfOk result (λ r. r.0 ≡ caller.old.cell) }
+{
+    let closing = closing_of(alloc, caller, stop, bell)?;
+    let source_bell = bell.try_clone()?;
+    let publisher_bell = bell.try_clone()?;
+    Ok((closing, source_bell, publisher_bell))
+}
+
+/// A new cell, what closes it, and two bells more.
+#[derive(Drop)]
+struct Parts {
+    caller: Closer,
+    closer: Closer,
+    watch: Watch,
+    closing: Closing,
+    source_bell: Bell,
+    publisher_bell: Bell,
+}
+
+fn parts_of(alloc: Global, stop: &StopFlag, bell: &Bell) -> Result<Parts, OutOfMemory>
     ensures makers { IfOk result (λ c. c.caller.maker ≡ makers.Caller) }
     ensures one { IfOk result (λ c. (c.caller.cell ≡ c.watch) × (c.closing ≡ c.watch)) }
 {
+    let (mut caller, closer, watch) = closed_cell(alloc)?;
+    match closing_bells(alloc, &mut caller, stop, bell) {
+        Ok((closing, source_bell, publisher_bell)) => Ok(Parts {
+            caller,
+            closer,
+            watch,
+            closing,
+            source_bell,
+            publisher_bell,
+        }),
+        Err(OutOfMemory) => {
+            drop(caller);
+            drop(closer);
+            drop(watch);
+            Err(OutOfMemory)
+        }
+    }
+}
+
+pub(crate) fn open_cells(alloc: Global) -> Result<Cells, OutOfMemory>
+    ensures makers { IfOk result (λ c. c.source.caller.maker ≡ makers.Caller) }
+    ensures one { IfOk result (λ c. (c.source.caller.cell ≡ c.job.watch)
+        × (c.closing ≡ c.job.watch)) }
+{
     let stop = StopFlag::new(alloc)?;
     let bell = Bell::new(alloc)?;
-    let (mut caller, closer, watch) = closed_cell(alloc)?;
-    let closing = Closing::new(caller.another(alloc)?, stop.try_clone()?, bell.try_clone()?);
-    Ok(Cells {
-        caller,
-        closing,
-        closer,
-        watch,
-        stop,
-        source_bell: bell.try_clone()?,
-        publisher_bell: bell.try_clone()?,
-        job_bell: bell,
-    })
+    match parts_of(alloc, &stop, &bell) {
+        Ok(
+            Parts {
+                caller,
+                closer,
+                watch,
+                closing,
+                source_bell,
+                publisher_bell,
+            },
+        ) => Ok(Cells {
+            closing,
+            source: SourceCells {
+                caller,
+                stop,
+                bell: source_bell,
+            },
+            publisher_bell,
+            job: JobCells {
+                watch,
+                closer,
+                bell,
+            },
+        }),
+        Err(OutOfMemory) => {
+            drop(stop);
+            drop(bell);
+            Err(OutOfMemory)
+        }
+    }
+}
+
+/// The source over its front, and its first pass.
+fn source_of<L: Places>(
+    alloc: Global,
+    front: Front<X509>,
+    cells: SourceCells,
+    first: Pass,
+    places: &mut L,
+) -> Result<(X509Source, Pass), X509SourceError>
+    requires maker { cells.caller.maker ≡ makers.Caller }
+    ensures source { IfOk result (λ r. (r.0.board ≡ front.book) × (r.0.cell ≡ cells.caller.cell)) }
+    ensures pass { IfOk result (λ r. (r.1.book ≡ first.book) × (r.1.seen ≡ first.seen)) }
+    ensures cause { HasPlaceCause (L.refusals places.old) (L.refusals places.new) result }
+{
+    let pass = match placed(first, places) {
+        Ok(pass) => pass,
+        Err(e) => {
+            drop(front);
+            drop(cells);
+            return Err(e);
+        }
+    };
+    let SourceCells { caller, stop, bell } = cells;
+    match X509Source::over(alloc, front, caller, stop, bell) {
+        Ok(source) => Ok((source, pass)),
+        Err(OutOfMemory) => {
+            drop(pass);
+            Err(X509SourceError::OutOfMemory)
+        }
+    }
 }
 
 /// The source, its first pass, what closes it, and its job.
@@ -238,8 +400,9 @@ where
     N: Rng + Drop,
     R: Wait + Copy + Drop,
     L: Places,
-    requires maker { cells.caller.maker ≡ makers.Caller }
-    requires one { (cells.caller.cell ≡ cells.watch) × (cells.closing ≡ cells.watch) }
+    requires maker { cells.source.caller.maker ≡ makers.Caller }
+    requires one { (cells.source.caller.cell ≡ cells.job.watch)
+        × (cells.closing ≡ cells.job.watch) }
     requires going { feeder.core.stuck ≡ false }
     requires synced { IsSynced (rules_by P.picks feeder.core.settings feeder.core.picker)
         (reverse feeder.core.run) }
@@ -254,18 +417,28 @@ where
     ensures cause { HasPlaceCause (L.refusals places.old) (L.refusals places.new) result }
 {
     let Cells {
-        caller,
         closing,
-        closer,
-        watch,
-        stop,
-        source_bell,
+        source: ends,
         publisher_bell,
-        job_bell,
+        job: kept,
     } = cells;
-    let (feeder, front, first) = on_board(rt, alloc, feeder, publisher_bell)?;
-    let pass = placed(first, places)?;
-    let source = X509Source::over(alloc, front, caller, stop, source_bell)?;
+    let (feeder, front, first) = match on_board(rt, alloc, feeder, publisher_bell) {
+        Ok(board) => board,
+        Err(OutOfMemory) => {
+            drop(closing);
+            drop(ends);
+            drop(kept);
+            drop(pause);
+            drop(random);
+            drop(pace);
+            return Err(X509SourceError::OutOfMemory);
+        }
+    };
+    let JobCells {
+        watch,
+        closer,
+        bell,
+    } = kept;
     let job = X509Job {
         feeder,
         pace,
@@ -273,10 +446,17 @@ where
         random,
         watch,
         closer,
-        bell: job_bell,
+        bell,
         rt,
     };
-    Ok((source, pass, closing, job))
+    match source_of(alloc, front, ends, first, places) {
+        Ok((source, pass)) => Ok((source, pass, closing, job)),
+        Err(e) => {
+            drop(closing);
+            drop(job);
+            Err(e)
+        }
+    }
 }
 
 /// The pass from its places, with all places that the first pass has.
@@ -290,7 +470,13 @@ pub(crate) fn placed<L: Places>(first: Pass, places: &mut L) -> Result<Pass, X50
             giver.give_back(&mut pass);
             Ok(pass)
         }
-        Err(PlaceFault::Refused) => Err(X509SourceError::NoPlace),
-        Err(PlaceFault::OutOfMemory) => Err(X509SourceError::OutOfMemory),
+        Err(PlaceFault::Refused) => {
+            drop(giver);
+            Err(X509SourceError::NoPlace)
+        }
+        Err(PlaceFault::OutOfMemory) => {
+            drop(giver);
+            Err(X509SourceError::OutOfMemory)
+        }
     }
 }

@@ -18,6 +18,7 @@ use spf_system::{Clock, Environment, Pause};
 use spf_wire::{EndpointConnector, EnvConnector};
 use spf_x509_board::{Pass, Places};
 use std::alloc::Global;
+use std::mem::drop;
 use std::net::{Net, TcpStream};
 use std::sync::Wait;
 
@@ -101,7 +102,12 @@ impl X509Source {
         )?;
         match spawner.start(job) {
             Ok(handle) => Ok((source, pass, pending.started(handle))),
-            Err(_) => Err(X509SourceError::NoSupervisor),
+            Err(_) => {
+                drop(source);
+                drop(pass);
+                drop(pending);
+                Err(X509SourceError::NoSupervisor)
+            }
         }
     }
 }

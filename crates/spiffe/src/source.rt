@@ -1,7 +1,8 @@
 //! A handle of a live source of X.509 identities.
 
-ghost use Rattle.std.specs.Prelude.{◌≡◌, IfOk, OnOk};
+ghost use Rattle.std.specs.Prelude.{◌≡◌, ◌≢◌, IfOk, MatchBool, OnOk};
 ghost use Rattle.spf_close.specs.declared.maker.Maker.TheVariants as makers;
+ghost use Rattle.spf_feed.specs.declared.state.X509SourceError.TheVariants as errors;
 ghost use Rattle.spf_feed.specs.States.{ContextAnswer, SvidAnswer};
 ghost use Rattle.spf_board.specs.Passes.{Renews};
 ghost use Rattle.spf_x509_board.specs.Passes.{read_of};
@@ -10,7 +11,7 @@ ghost use Rattle.spf_x509_board.specs.States.{IsStateOf};
 ghost use Rattle.spiffe.specs.Reads.{BundleAnswer, BundlesAnswer, Gets, IsHealthy, SaysClosed};
 ghost use Rattle.spiffe.specs.Reads.{Follows, HasPlaceCause, SeesNoLess, Tries, TriesBundle};
 
-use crate::closing::{check_open, look};
+use crate::closing::{check_open, closing_of, look};
 use crate::updates::X509SourceUpdates;
 use spf_close::{Bell, Closer, Closing, LastHandle, Watch};
 use spf_feed::{X509SourceError, X509SourceState};
@@ -22,6 +23,7 @@ use spf_x509_board::{Front, Pass, PlaceFault, Places, X509};
 use std::alloc::Global;
 use std::fmt;
 use std::marker::Model;
+use std::mem::drop;
 use std::sync::Arc;
 
 /// A handle of a source. What it gives is read through a pass of its board, without a lock. When
@@ -52,6 +54,41 @@ impl fmt::Debug for X509Source {
     }
 }
 
+fn is_out_of_memory(e: &X509SourceError) -> bool
+    ensures { MatchBool result (e.now ≡ errors.OutOfMemory) (e.now ≢ errors.OutOfMemory) }
+{
+    matches!(e, X509SourceError::OutOfMemory)
+}
+
+/// Lets go of an error that is not told. Out of memory is told.
+fn untold(e: X509SourceError) -> Result<(), OutOfMemory>
+    ensures { OnOk result (e ≢ errors.OutOfMemory) }
+{
+    let is_memory = is_out_of_memory(&e);
+    drop(e);
+    if is_memory {
+        return Err(OutOfMemory);
+    }
+    Ok(())
+}
+
+/// A watch of the cell of the closer, and what closes it with the last handle.
+fn watched(
+    alloc: Global,
+    closer: &mut Closer,
+    stop: &StopFlag,
+    bell: &Bell,
+) -> Result<(Watch, Arc<LastHandle>), OutOfMemory>
+    requires { closer.old.maker ≡ makers.Caller }
+    ensures unchanged { closer.new ≡ closer.old }
+    ensures watch { IfOk result (λ r. r.0 ≡ closer.old.cell) }
+{
+    let watch = closer.watch()?;
+    let closing = closing_of(alloc, closer, stop, bell)?;
+    let last = Arc::new(alloc, LastHandle::new(closing))?;
+    Ok((watch, last))
+}
+
 impl X509Source {
     /// Returns a source over a board that its caller publishes on, and the cell that the closer
     /// closes. The bell is rung at each change. `X509SourceBuilder` makes all of this.
@@ -65,15 +102,22 @@ impl X509Source {
         requires { closer.maker ≡ makers.Caller }
         ensures { IfOk result (λ s. (s.board ≡ front.book) × (s.cell ≡ closer.cell)) }
     {
-        let watch = closer.watch()?;
-        let last = Closing::new(closer.another(alloc)?, stop.try_clone()?, bell.try_clone()?);
-        Ok(X509Source {
-            front,
-            watch,
-            closing: Closing::new(closer, stop, bell),
-            last: Arc::new(alloc, LastHandle::new(last))?,
-            alloc,
-        })
+        match watched(alloc, &mut closer, &stop, &bell) {
+            Ok((watch, last)) => Ok(X509Source {
+                front,
+                watch,
+                closing: Closing::new(closer, stop, bell),
+                last,
+                alloc,
+            }),
+            Err(OutOfMemory) => {
+                drop(front);
+                drop(closer);
+                drop(stop);
+                drop(bell);
+                Err(OutOfMemory)
+            }
+        }
     }
 
     /// Returns the state that is published now, read through the pass.
@@ -151,8 +195,10 @@ impl X509Source {
     {
         match self.svid(pass, now) {
             Ok(svid) => Ok(Some(svid)),
-            Err(X509SourceError::OutOfMemory) => Err(OutOfMemory),
-            Err(_) => Ok(None),
+            Err(e) => {
+                untold(e)?;
+                Ok(None)
+            }
         }
     }
 
@@ -168,8 +214,10 @@ impl X509Source {
     {
         match self.bundle_of(pass, trust_domain) {
             Ok(bundle) => Ok(bundle),
-            Err(X509SourceError::OutOfMemory) => Err(OutOfMemory),
-            Err(_) => Ok(None),
+            Err(e) => {
+                untold(e)?;
+                Ok(None)
+            }
         }
     }
 
@@ -217,10 +265,37 @@ impl X509Source {
         ensures cause { HasPlaceCause (H.refusals places.old) (H.refusals places.new) result }
     {
         let pass = self.another_pass(giver, places)?;
+        let mut updates = self.updates_over(pass)?;
+        match updates.begin() {
+            Ok(()) => Ok(updates),
+            Err(OutOfMemory) => {
+                drop(updates);
+                Err(X509SourceError::OutOfMemory)
+            }
+        }
+    }
+
+    /// Another watch of the cell, and another bell.
+    fn ears(&self) -> Result<(Watch, Bell), OutOfMemory>
+        ensures { IfOk result (λ r. r.0 ≡ self.now.cell) }
+    {
         let bell = self.closing.bell()?;
-        let mut updates = X509SourceUpdates::new(self.watch.try_clone()?, pass, bell);
-        updates.state()?;
-        Ok(updates)
+        let watch = self.watch.try_clone()?;
+        Ok((watch, bell))
+    }
+
+    /// Updates that have read nothing yet.
+    fn updates_over(&self, pass: Pass) -> Result<X509SourceUpdates, OutOfMemory>
+        ensures { IfOk result (λ updates. updates
+            ≡ record { cell = self.now.cell; pass = pass; marked = 0 }) }
+    {
+        match self.ears() {
+            Ok((watch, bell)) => Ok(X509SourceUpdates::new(watch, pass, bell)),
+            Err(OutOfMemory) => {
+                drop(pass);
+                Err(OutOfMemory)
+            }
+        }
     }
 
     /// Closes the source, and with it ends its supervisor.
