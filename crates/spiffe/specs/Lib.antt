@@ -4,3 +4,4 @@ pub mod Reads
 pub mod Records
 pub mod Shutdowns
 pub mod Sources
+pub mod Updating

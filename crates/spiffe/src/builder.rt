@@ -82,7 +82,8 @@ where
 {
     /// Reads from this connector.
     pub fn client_factory<D: Connector + Drop>(self, factory: D) -> X509SourceBuilder<P, D, M>
-        ensures { (result.connector ≡ factory) × (result.settings ≡ self.settings) }
+        ensures { (result.connector ≡ factory) × (result.settings ≡ self.settings)
+            × (result.recorder ≡ self.recorder) }
     {
         let X509SourceBuilder {
             settings,
@@ -100,6 +101,7 @@ where
     pub fn picker<Q: SvidPicker + Drop>(self, picker: Q) -> X509SourceBuilder<Q, C, M>
         ensures picker { result.settings.picker ≡ Some picker }
         ensures others { (result.connector ≡ self.connector)
+            × (result.recorder ≡ self.recorder)
             × (result.settings.limits ≡ self.settings.limits)
             × (result.settings.ready ≡ self.settings.ready)
             × (result.settings.timeout ≡ self.settings.timeout)
@@ -116,6 +118,7 @@ where
     ) -> X509SourceBuilder<Q, C, M>
         ensures picker { result.settings.picker ≡ picker }
         ensures others { (result.connector ≡ self.connector)
+            × (result.recorder ≡ self.recorder)
             × (result.settings.limits ≡ self.settings.limits)
             × (result.settings.ready ≡ self.settings.ready)
             × (result.settings.timeout ≡ self.settings.timeout)

@@ -10,6 +10,7 @@ ghost use Rattle.spf_x509_board.specs.Steps.{Legal};
 ghost use Rattle.spf_x509_board.specs.States.{IsStateOf};
 ghost use Rattle.spiffe.specs.Reads.{BundleAnswer, BundlesAnswer, Gets, IsHealthy, SaysClosed};
 ghost use Rattle.spiffe.specs.Reads.{Follows, HasPlaceCause, SeesNoLess, Tries, TriesBundle};
+ghost use Rattle.spiffe.specs.Updating.{ReadsFrom};
 
 use crate::closing::{check_open, closing_of, look};
 use crate::updates::X509SourceUpdates;
@@ -262,6 +263,7 @@ impl X509Source {
         requires { giver.old.book ≡ self.now.board }
         ensures giver { giver.new ≡ giver.old }
         ensures updates { IfOk result (Follows self.now giver.old) }
+        ensures reads { IfOk result (λ updates. ReadsFrom giver.old.seen updates.pass) }
         ensures cause { HasPlaceCause (H.refusals places.old) (H.refusals places.new) result }
     {
         let pass = self.another_pass(giver, places)?;
