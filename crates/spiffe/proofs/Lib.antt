@@ -2,5 +2,6 @@ mod Reading
 pub mod Failing
 pub mod Joining
 pub mod Leaving
+pub mod Marking
 pub mod Tasks
 pub mod Unyielded

@@ -1,11 +1,19 @@
--- What updates have read.
-use Rattle.std.specs.Prelude.{◌≡◌}
+-- What updates have read, and what is marked.
+use Rattle.std.specs.Prelude.{◌≡◌, ◌⊎◌, ℕ}
 use Rattle.spf_board.specs.Passes.{Renews}
 use Rattle.spf_x509_board.specs.Passes.{PassView, Seen, read_of}
 use Rattle.spf_x509_board.specs.Steps.{Legal}
+use Rattle.spiffe.specs.Reads.{IsRevision, SeesNoLess}
 
 -- a pass that has read, once it had seen just this
 pub record ReadsFrom (seen : Seen) (new : PassView) : Type 0 where
   pub taken : PassView
   pub begun : taken.seen ≡ seen
   pub renews : Renews Legal (read_of taken) (read_of new)
+
+-- What is marked where a wait ended without a revision: what was marked before, or the revision of
+-- something that was read in the wait.
+abbrev pub MarksOn : PassView → ℕ → PassView → ℕ → Type 0
+MarksOn old was new marked =
+    (marked ≡ was)
+    ⊎ ((read : PassView) × SeesNoLess old read × IsRevision read marked × SeesNoLess read new)

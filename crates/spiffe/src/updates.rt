@@ -8,6 +8,7 @@ ghost use Rattle.spf_x509_board.specs.Steps.{Legal};
 ghost use Rattle.spf_x509_board.specs.States.{IsStateOf};
 ghost use Rattle.spiffe.specs.Reads.{HasClosedCause, IsRevision, ReadsOn, SaysClosed, SeesNoLess};
 ghost use Rattle.spiffe.specs.Reads.{Stays};
+ghost use Rattle.spiffe.specs.Updating.{MarksOn};
 
 use crate::closing::{check_open, known_open, learn, look};
 use spf_close::{Bell, Watch};
@@ -213,6 +214,8 @@ impl X509SourceUpdates {
         ensures marked { IfOk result (λ revision. (self.new.marked ≡ revision)
             ⊎ (self.new.marked ≡ self.old.marked)) }
         ensures cause { IfErr result (HasClosedCause self.old.cell self.new.pass) }
+        ensures unmarked { OnErr result (MarksOn self.old.pass self.old.marked self.new.pass
+            self.new.marked) }
         ensures reads { OnOk result (ReadsOn self.old.pass self.new.pass) }
         ensures pass { SeesNoLess self.old.pass self.new.pass }
     {

@@ -1,4 +1,5 @@
 use Rattle.std.proofs.Common.{◌≡◌}
+use Rattle.spiffe.specs.Updating.{MarksOn}
 use Rattle.spiffe.specs.Reads.{SeesNoLess}
 use Rattle.spiffe.proofs.updates.X509SourceUpdates.wait_for.Given as goal
 
@@ -9,4 +10,5 @@ invariant-changes g l = record {
   callable : goal.F-IsAlwaysCallable g l.f;
   cell : l.self.cell ≡ l.fn.self.cell;
   pass : SeesNoLess l.fn.self.pass l.self.pass;
+  marks : MarksOn l.fn.self.pass l.fn.self.marked l.self.pass l.self.marked;
 }
