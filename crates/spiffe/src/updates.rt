@@ -148,6 +148,8 @@ impl X509SourceUpdates {
     pub(crate) fn begin(&mut self) -> Result<(), OutOfMemory>
         ensures cell { self.new.cell ≡ self.old.cell }
         ensures revision { OnOk result (IsRevision self.new.pass self.new.marked) }
+        ensures renews { OnOk result (Renews Legal (read_of self.old.pass)
+            (read_of self.new.pass)) }
         ensures pass { SeesNoLess self.old.pass self.new.pass }
     {
         self.state()?;
