@@ -35,14 +35,14 @@ module _ {S L : Type 0} (connector : connectors.Ghosts S L) (link : links.Ghosts
       → FetchesJwt connector link request old result new
   fetched_at_once old new first result asks settled =
       let again = is_asked_again first in
-      let last = broken_as fault_error first in
+      let returned = broken_as fault_error first in
       record {
         first = first;
         mid = new;
         asks = asks;
         ends = subst (λ b. Ends connector link request b first new result new)
             (sym (not_again again last result settled))
-            (record { last = told_first again last result settled; same = refl });
+            (record { returned = told_first again last result settled; same = refl });
       }
 
   pub fetched_again : (old mid new : Fetcher S L) (first second : Result Svid AskFault)
@@ -58,5 +58,5 @@ module _ {S L : Type 0} (connector : connectors.Ghosts S L) (link : links.Ghosts
         asks = asks;
         ends = subst (λ b. Ends connector link request b first mid result new)
             (sym (is_again (is_asked_again first) (broken_as fault_error first) settled))
-            (record { second = second; asks = again; last = last });
+            (record { second = second; asks = again; returned = last });
       }
