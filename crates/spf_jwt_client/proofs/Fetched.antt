@@ -17,10 +17,10 @@ not_again : (again : Bool) (last result : Result Svid JwtSourceError)
 not_again true last result is = absurd cc
 not_again false last result is = refl
 
-told_first : (again : Bool) (last result : Result Svid JwtSourceError)
+returned_first : (again : Bool) (last result : Result Svid JwtSourceError)
     → settled_by again last ≡ Some result → result ≡ last
-told_first true last result is = absurd cc
-told_first false last result is = cc
+returned_first true last result is = absurd cc
+returned_first false last result is = cc
 
 is_again : (again : Bool) (last : Result Svid JwtSourceError) → settled_by again last ≡ None
     → again ≡ true
@@ -35,14 +35,14 @@ module _ {S L : Type 0} (connector : connectors.Ghosts S L) (link : links.Ghosts
       → FetchesJwt connector link request old result new
   fetched_at_once old new first result asks settled =
       let again = is_asked_again first in
-      let returned = broken_as fault_error first in
+      let last = broken_as fault_error first in
       record {
         first = first;
         mid = new;
         asks = asks;
         ends = subst (λ b. Ends connector link request b first new result new)
             (sym (not_again again last result settled))
-            (record { returned = told_first again last result settled; same = refl });
+            (record { returned = returned_first again last result settled; same = refl });
       }
 
   pub fetched_again : (old mid new : Fetcher S L) (first second : Result Svid AskFault)
