@@ -3,3 +3,4 @@ pub mod Sources
 pub mod Building
 pub mod Records
 pub mod Reads
+pub mod Updating

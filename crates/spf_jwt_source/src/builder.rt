@@ -70,7 +70,8 @@ where
 {
     /// Reads from this connector.
     pub fn client_factory<D: Connector + Drop>(self, factory: D) -> JwtSourceBuilder<D, M>
-        ensures { (result.connector ≡ factory) × (result.settings ≡ self.settings) }
+        ensures { (result.connector ≡ factory) × (result.settings ≡ self.settings)
+            × (result.recorder ≡ self.recorder) }
     {
         let JwtSourceBuilder {
             settings,

@@ -1,6 +1,8 @@
 //! Sources over the sockets of an endpoint.
 
-ghost use Rattle.std.specs.Prelude.{◌≡◌, IfErr, IfOk};
+ghost use Rattle.std.specs.Prelude.{◌≡◌, IfErr, IfOk, Some};
+ghost use Rattle.std.specs.Duration.{as_nanos};
+ghost use Rattle.std.specs.Option.{option_map};
 ghost use Rattle.spf_endpoint.specs.Endpoint.{endpoint_rule};
 ghost use Rattle.spf_wire.specs.Endpoints.{kept};
 ghost use Rattle.spf_jwt_source.specs.Building.{FailsByDefault, IsAssignedByDefault};
@@ -38,6 +40,7 @@ where
             ⟦<EndpointConnector<N> as Connector>⟧.validates b.connector
             ≡ kept (endpoint_rule endpoint.now)) }
         ensures settings { IfOk result (λ b. b.settings ≡ self.settings) }
+        ensures recorder { IfOk result (λ b. b.recorder ≡ self.recorder) }
     {
         let connector = EndpointConnector::new(net, alloc, endpoint)?;
         Ok(self.client_factory(connector))
@@ -87,6 +90,7 @@ impl JwtSource {
         ensures assigned { IfOk result (λ r. IsAssignedByDefault
             (λ c. c.environment ≡ environment) (T.moments clock.old) (T.moments clock.new)
             r.2.job) }
+        ensures grace { IfOk result (λ r. option_map as_nanos r.2.grace ≡ Some 30_000_000_000) }
         ensures failed { IfErr result (FailsByDefault (L.refusals places.old)
             (L.refusals places.new) (S.refusals spawner.old)
             (S.refusals spawner.new)) }

@@ -13,6 +13,7 @@ ghost use Rattle.spf_jwt_client.specs.Requests.{jwt_request};
 ghost use Rattle.spf_jwt_source.specs.Reads.{BundleAnswer, FetchesLive, Gets, IsHealthy};
 ghost use Rattle.spf_jwt_source.specs.Reads.{SaysClosed};
 ghost use Rattle.spf_jwt_source.specs.Reads.{Follows, HasPlaceCause, SeesNoLess, TriesBundle};
+ghost use Rattle.spf_jwt_source.specs.Updating.{ReadsFrom};
 
 use crate::closing::{check_open, look};
 use crate::updates::JwtSourceUpdates;
@@ -180,6 +181,7 @@ impl JwtSource {
         requires { giver.old.book ≡ self.now.board }
         ensures giver { giver.new ≡ giver.old }
         ensures updates { IfOk result (Follows self.now giver.old) }
+        ensures reads { IfOk result (λ updates. ReadsFrom giver.old.seen updates.pass) }
         ensures cause { HasPlaceCause (H.refusals places.old) (H.refusals places.new) result }
     {
         let pass = self.another_pass(giver, places)?;

@@ -9,6 +9,7 @@ ghost use Rattle.spf_jwt_board.specs.States.{IsStateOf};
 ghost use Rattle.spf_jwt_source.specs.Reads.{HasClosedCause, IsRevision, ReadsOn, SaysClosed};
 ghost use Rattle.spf_jwt_source.specs.Reads.{SeesNoLess};
 ghost use Rattle.spf_jwt_source.specs.Reads.{Stays};
+ghost use Rattle.spf_jwt_source.specs.Updating.{MarksOn};
 
 use crate::closing::{check_open, look};
 use spf_close::{Bell, Watch};
@@ -204,6 +205,8 @@ impl JwtSourceUpdates {
         ensures marked { IfOk result (λ revision. (self.new.marked ≡ revision)
             ⊎ (self.new.marked ≡ self.old.marked)) }
         ensures cause { IfErr result (HasClosedCause self.old.cell self.new.pass) }
+        ensures unmarked { OnErr result (MarksOn self.old.pass self.old.marked self.new.pass
+            self.new.marked) }
         ensures reads { OnOk result (ReadsOn self.old.pass self.new.pass) }
         ensures pass { SeesNoLess self.old.pass self.new.pass }
     {

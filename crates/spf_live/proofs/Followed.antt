@@ -1,18 +1,29 @@
 -- What is seen and recorded after the lines.
-use Rattle.std.proofs.Common.{◌≡◌, refl, ℕ, List, Option, Result, Ok, Err}
+use Rattle.std.proofs.Common.{◌≡◌, refl, ℕ, List, [], Option, Result, Ok, Err}
 use mathlib.Core.List.{IsPrefix}
-use Rattle.spf_live.specs.Printing.{Moments, Prints, newest_list}
+use Rattle.spf_live.specs.Printing.{FailsAfter, Moments, Prints, newest_list}
 use Rattle.spf_x509_board.specs.Passes.{Seen}
 use Rattle.spf_live.specs.declared.error.LiveError.{LiveError}
 use Rattle.spf_live.specs.declared.error.LiveError.TheVariants as errors
 use Rattle.spf_live.proofs.Printed.{prefix_self, prefix_trans, printed_none, printed_nothing}
 
+fails_before : (e : LiveError) → FailsAfter [] e
+fails_before errors.OutOfMemory = tt
+fails_before errors.WriteFailed = tt
+fails_before errors.BadArguments = refl
+fails_before errors.Rejected = refl
+fails_before errors.Unsupported = refl
+fails_before errors.TimedOut = refl
+fails_before errors.NoSupervisor = refl
+fails_before errors.NoPlace = refl
+
 -- nothing is printed
 pub prints_none : (seen : Seen) (count : ℕ) (clock clock' : Moments) (held held' : Option (List ℕ))
     (e : LiveError) → held' ≡ held → Prints seen seen count clock clock' held held' (Err e)
+unfolding printed_none
 prints_none seen count clock clock' held held' e same =
     printed_nothing seen seen seen _ count 0 clock clock clock' held held held' e
-    (printed_none seen clock held) (prefix_self seen) same
+    (printed_none seen clock held) (prefix_self seen) same (fails_before e)
 
 -- more is seen after the lines
 pub prints_until : (first last last' : Seen) (count : ℕ) (clock clock' : Moments)
@@ -27,6 +38,7 @@ prints_until first last last' count clock clock' held held' r so grows = record 
   at = so.at;
   yielded_all = so.yielded_all;
   number = so.number;
+  fails = so.fails;
   put = so.put;
   text = so.text;
   whole = so.whole;
@@ -48,6 +60,7 @@ prints_unrecorded first last last' count clock clock' held held' so grows = reco
   at = so.at;
   yielded_all = tt;
   number = tt;
+  fails = tt;
   put = so.put;
   text = so.text;
   whole = λ _. so.whole (unlike (Ok tt) errors.WriteFailed refl);

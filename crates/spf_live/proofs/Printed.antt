@@ -11,8 +11,8 @@ use Rattle.spf_system.specs.Clock.{IsTime}
 use Rattle.spf_feed.specs.Shown.{view_line}
 use Rattle.spf_feed.specs.Steps.{StateView}
 use Rattle.spf_x509_board.specs.States.{IsStateOf}
-use Rattle.spf_live.specs.Printing.{AreLines, IsAbove, IsNext, Line, Moments, Printed, Prints}
-use Rattle.spf_live.specs.Printing.{PrintsLine, line_text, newest_list, newest_revision}
+use Rattle.spf_live.specs.Printing.{AreLines, FailsAfter, IsAbove, IsNext, Line, Moments, Printed}
+use Rattle.spf_live.specs.Printing.{Prints, PrintsLine, line_text, newest_list, newest_revision}
 use Rattle.spf_x509_board.specs.Passes.{Seen}
 use Rattle.spf_live.specs.Printing.{text_of}
 use Rattle.spf_live.specs.declared.error.LiveError.{LiveError}
@@ -27,7 +27,7 @@ prefix_trans a b c p q = (
 pub prefix_self : {A : Type 0} (a : List A) → IsPrefix a a
 prefix_self a = ([], append-nil a)
 
-pub printed_none : (first : Seen) (clock : Moments) (held : Option (List ℕ))
+unfoldable pub printed_none : (first : Seen) (clock : Moments) (held : Option (List ℕ))
     → Printed first first None 0 clock clock held held
 printed_none first clock held = record {
   lines = [];
@@ -87,6 +87,7 @@ printed_all first seen earlier number count clock clock' held held' all so = rec
   at = so.at;
   yielded_all = refl;
   number = so.number ∙ all;
+  fails = tt;
   put = length (text_of so.lines);
   text = all_put held held' (text_of so.lines) so.text;
   whole = λ _. take-length (text_of so.lines);
@@ -95,10 +96,11 @@ printed_all first seen earlier number count clock clock' held held' all so = rec
 -- Nothing more is printed.
 pub printed_nothing : (first seen seen' : Seen) (earlier : Option ℕ) (count number : ℕ)
     (clock clock' clock'' : Moments) (held held' held'' : Option (List ℕ)) (e : LiveError)
-    → Printed first seen earlier number clock clock' held held' → IsPrefix seen seen'
-    → held'' ≡ held' → Prints first seen' count clock clock'' held held'' (Err e)
+    (so : Printed first seen earlier number clock clock' held held') → IsPrefix seen seen'
+    → held'' ≡ held' → FailsAfter so.lines e
+    → Prints first seen' count clock clock'' held held'' (Err e)
 printed_nothing first seen seen' earlier count number clock clock' clock'' held held' held'' e
-    so grows same =
+    so grows same fails =
     record {
       lines = so.lines;
       are = so.are;
@@ -107,6 +109,7 @@ printed_nothing first seen seen' earlier count number clock clock' clock'' held 
       at = so.at;
       yielded_all = tt;
       number = tt;
+      fails = fails;
       put = length (text_of so.lines);
       text = subst (λ (h : Option (List ℕ)). Appends held h (take (length (text_of so.lines))
           (text_of so.lines))) (sym same) (all_put held held' (text_of so.lines) so.text);
@@ -130,6 +133,7 @@ printed_cut first seen seen' earlier marked count number clock clock' clock'' he
       at = (clock', so.at, is.1.at);
       yielded_all = tt;
       number = tt;
+      fails = tt;
       put = length (text_of so.lines) + is.2;
       text = subst (Appends held held'')
           (sym (take-append-add (text_of so.lines) (line_text is.0) is.2))
@@ -146,7 +150,7 @@ pub printed_failed : (first seen seen' : Seen) (earlier : Option ℕ) (marked co
 printed_failed first seen seen' earlier marked count number clock clock' clock'' held held'
     held'' errors.OutOfMemory so grows is =
     printed_nothing first seen seen' earlier count number clock clock' clock'' held held' held''
-    _ so grows is
+    _ so grows is tt
 printed_failed first seen seen' earlier marked count number clock clock' clock'' held held'
     held'' errors.WriteFailed so grows is =
     printed_cut first seen seen' earlier marked count number clock clock' clock'' held held'

@@ -1,6 +1,6 @@
 -- The lines of a live run.
 use Rattle.std.specs.Prelude.{◌≡◌, ℕ, ◌<◌, ℤ, List, [], ◌∷◌, ◌++◌, length, take, Option, None, Some}
-use Rattle.std.specs.Prelude.{Result, Ok, Err, IfOk}
+use Rattle.std.specs.Prelude.{Result, Ok, Err, IfErr, IfOk}
 use Rattle.std.specs.Io.KnownBytes.{Appends}
 use mathlib.Core.List.{IsPrefix}
 use Rattle.spf_system.specs.Clock.{IsTime}
@@ -83,6 +83,12 @@ PrintsLine seen marked earlier clock clock' held held' (Err errors.WriteFailed) 
 PrintsLine seen marked earlier clock clock' held held' (Err errors.OutOfMemory) = held' ≡ held
 PrintsLine seen marked earlier clock clock' held held' (Err e) = ⊥
 
+-- Once a line is printed, only memory or the output is a reason to fail.
+abbrev pub FailsAfter : List Line → LiveError → Type 0
+FailsAfter lines errors.OutOfMemory = Unit {0}
+FailsAfter lines errors.WriteFailed = Unit {0}
+FailsAfter lines e = lines ≡ []
+
 -- Lines are printed and nothing else, at moments that the clock gave; what is seen last begins with
 -- the list of each. Where all went well they are as many as were asked for. A failed sink may cut
 -- the last one.
@@ -95,6 +101,7 @@ pub record Prints (first last : Seen) (count : ℕ) (clock clock' : Moments)
   pub at : AreAt clock lines yielded
   pub yielded_all : IfOk r (λ _. clock' ≡ yielded)
   pub number : IfOk r (λ _. length lines ≡ count)
+  pub fails : IfErr r (FailsAfter lines)
   pub put : ℕ
   pub text : Appends held held' (take put (text_of lines))
   pub whole : (r ≡ Err errors.WriteFailed → ⊥) → take put (text_of lines) ≡ text_of lines

@@ -1,4 +1,5 @@
 use Rattle.std.proofs.Common.{◌≡◌}
+use Rattle.spf_jwt_source.specs.Updating.{MarksOn}
 use Rattle.spf_jwt_source.specs.Reads.{SeesNoLess}
 use Rattle.spf_jwt_source.proofs.updates.JwtSourceUpdates.wait_for.Given as goal
 
@@ -9,4 +10,5 @@ invariant-changes g l = record {
   callable : goal.F-IsAlwaysCallable g l.f;
   cell : l.self.cell ≡ l.fn.self.cell;
   pass : SeesNoLess l.fn.self.pass l.self.pass;
+  marks : MarksOn l.fn.self.pass l.fn.self.marked l.self.pass l.self.marked;
 }
