@@ -6,7 +6,7 @@ use Rattle.std.proofs.lemmas.List.{append-nil, append_assoc}
 use Rattle.spf_feed.specs.declared.event.SessionEvent.{SessionEvent}
 use Rattle.spf_feed.specs.declared.event.SessionEvent.TheVariants as events
 use Rattle.spf_feeder.specs.Orderly.{is_moment}
-use Rattle.spf_feeder.specs.Times.{Gives, TakesMoment, at_moment, known_moments, moments_in}
+use Rattle.spf_feeder.specs.Times.{GivesMoments, TakesMoment, at_moment, known_moments, moments_in}
 
 pub moments_append : {I : Type 0} (xs ys : List (SessionEvent I))
     → moments_in (xs ++ ys) ≡ moments_in xs ++ moments_in ys
@@ -28,7 +28,7 @@ known_append (None ∷ xs) ys = known_append xs ys
 known_append (Some m ∷ xs) ys = ap (λ l. m ∷ l) (known_append xs ys)
 
 pub gives_more : {I : Type 0} (a b c : Option (List (Option ℤ))) (r s t : List (SessionEvent I))
-    → Gives a b r s → Gives b c s t → Gives a c r t
+    → GivesMoments a b r s → GivesMoments b c s t → GivesMoments a c r t
 gives_more None b c r s t h k = tt
 gives_more (Some a) None c r s t h k = absurd h
 gives_more (Some a) (Some b) None r s t h k = absurd k
@@ -53,7 +53,7 @@ taken (Some x ∷ old) new m h =
 
 pub gives_moment : {I : Type 0} (old new : Option (List (Option ℤ))) (m : ℤ)
     (run run' : List (SessionEvent I)) → TakesMoment old new m → run' ≡ run ++ events.Moment m ∷ []
-    → Gives old new run run'
+    → GivesMoments old new run run'
 gives_moment None new m run run' h is = tt
 gives_moment (Some old) None m run run' h is = absurd h
 gives_moment (Some old) (Some new) m run run' h is =
@@ -76,14 +76,15 @@ no_moments (events.Moment x) h = absurd cc
 no_moments events.Close h = refl
 
 same_moments : {I : Type 0} (a b : Option (List (Option ℤ))) (r s t : List (SessionEvent I))
-    → moments_in t ≡ moments_in s → Gives a b r s → Gives a b r t
+    → moments_in t ≡ moments_in s → GivesMoments a b r s → GivesMoments a b r t
 same_moments None b r s t is h = tt
 same_moments (Some a) None r s t is h = absurd h
 same_moments (Some a) (Some b) r s t is (given, split, run) = (given, split, is ∙ run)
 
 -- one more event, which is not a moment
 pub gives_still : {I : Type 0} (a b : Option (List (Option ℤ))) (r s t : List (SessionEvent I))
-    (e : SessionEvent I) → is_moment e ≡ false → t ≡ s ++ e ∷ [] → Gives a b r s → Gives a b r t
+    (e : SessionEvent I) → is_moment e ≡ false → t ≡ s ++ e ∷ [] → GivesMoments a b r s
+    → GivesMoments a b r t
 gives_still a b r s t e none is h =
     same_moments a b r s t
     (ap moments_in is ∙ moments_append s (e ∷ [])

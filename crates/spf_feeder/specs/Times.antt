@@ -46,9 +46,9 @@ moments_in (_ ∷ run) = moments_in run
 
 -- The moments that a run has in addition are those that the clock gave, in order, where the moments
 -- of the clock are known.
-abbrev pub Gives : {I : Type 0} → Option (List (Option ℤ)) → Option (List (Option ℤ))
+abbrev pub GivesMoments : {I : Type 0} → Option (List (Option ℤ)) → Option (List (Option ℤ))
     → List (SessionEvent I) → List (SessionEvent I) → Type 0
-Gives None new before run = Unit {0}
-Gives (Some old) None before run = ⊥
-Gives (Some old) (Some new) before run = (given : List (Option ℤ)) × (old ≡ given ++ new)
+GivesMoments None new before run = Unit {0}
+GivesMoments (Some old) None before run = ⊥
+GivesMoments (Some old) (Some new) before run = (given : List (Option ℤ)) × (old ≡ given ++ new)
     × (moments_in run ≡ moments_in before ++ known_moments given)

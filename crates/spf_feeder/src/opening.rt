@@ -9,7 +9,7 @@ ghost use Rattle.spf_feeder.specs.Kept.{rules_by};
 ghost use Rattle.spf_feeder.specs.Opened.{HasDeadline, StopsOpening};
 ghost use Rattle.spf_feeder.specs.Orderly.{IsOneStep, IsTimed};
 ghost use Rattle.spf_feeder.specs.Pacing.{KeepsPace};
-ghost use Rattle.spf_feeder.specs.Times.{Gives, deadline_after as deadline_from};
+ghost use Rattle.spf_feeder.specs.Times.{GivesMoments, deadline_after as deadline_from};
 
 use crate::feeder::Feeder;
 use crate::session::Stop;
@@ -87,7 +87,7 @@ where
         (rules_by K.picks r.0.core.settings r.0.core.picker)) r.0.core.run)) }
 
     // The moments are those that the clock gave.
-    ensures clock { IfOk result (λ r. Gives (T.moments clock.old) (T.moments clock.new) []
+    ensures clock { IfOk result (λ r. GivesMoments (T.moments clock.old) (T.moments clock.new) []
         r.0.core.run) }
     ensures bounds { IfOk result (λ r. r.1.bounds ≡ opening.bounds) }
     ensures paces { IfOk result (λ r. KeepsPace

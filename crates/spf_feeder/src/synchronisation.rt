@@ -9,7 +9,7 @@ ghost use Rattle.spf_feeder.specs.Fed.{StopsBy};
 ghost use Rattle.spf_feeder.specs.Kept.{rules_by};
 ghost use Rattle.spf_feeder.specs.Orderly.{IsAboutToAsk, IsOneStep, IsOpening, IsTimed};
 ghost use Rattle.spf_feeder.specs.Pacing.{KeepsPace};
-ghost use Rattle.spf_feeder.specs.Times.{Gives, TakesMoment};
+ghost use Rattle.spf_feeder.specs.Times.{GivesMoments, TakesMoment};
 ghost use Rattle.spf_feeder.specs.Times as spec;
 ghost use Rattle.spf_pace.specs.declared.pace.Pace.{Pace as Paces};
 
@@ -83,7 +83,7 @@ where
     ensures going { OnOk result (feeder.new.core.stuck ≡ false) }
     ensures timed { OnOk result (IsAboutToAsk
         (rules_by K.picks feeder.old.core.settings feeder.old.core.picker) feeder.new.core.run) }
-    ensures clock { OnOk result (Gives (T.moments clock.old) (T.moments clock.new)
+    ensures clock { OnOk result (GivesMoments (T.moments clock.old) (T.moments clock.new)
         feeder.old.core.run feeder.new.core.run) }
     ensures paces { (pace : Paces) → KeepsPace
         (rules_by K.picks feeder.old.core.settings feeder.old.core.picker) feeder.old.core.run pace
@@ -137,7 +137,7 @@ where
         (reverse feeder.new.core.run)) }
     ensures once { OnOk result (IsOneStep (steps_of (subject
         (rules_by K.picks feeder.old.core.settings feeder.old.core.picker)) feeder.new.core.run)) }
-    ensures clock { OnOk result (Gives (T.moments clock.old) (T.moments clock.new)
+    ensures clock { OnOk result (GivesMoments (T.moments clock.old) (T.moments clock.new)
         feeder.old.core.run feeder.new.core.run) }
     ensures bounds { pace.new.bounds ≡ pace.old.bounds }
     ensures going { OnOk result (feeder.new.core.stuck ≡ false) }

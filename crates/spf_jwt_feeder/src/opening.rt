@@ -11,7 +11,7 @@ ghost use Rattle.spf_feeder.specs.Times.{deadline_after as deadline_from};
 ghost use Rattle.spf_jwt_feeder.specs.Opened.{StopsOpening};
 ghost use Rattle.spf_jwt_feeder.specs.Orderly.{IsOneStep, IsTimed};
 ghost use Rattle.spf_jwt_feeder.specs.Pacing.{KeepsPace};
-ghost use Rattle.spf_feeder.specs.Times.{Gives};
+ghost use Rattle.spf_feeder.specs.Times.{GivesMoments};
 
 use crate::feeder::JwtFeeder;
 use crate::session::JwtSessionRules;
@@ -85,7 +85,7 @@ where
         (rules_of r.0.core.settings)) r.0.core.run)) }
 
     // The moments are those that the clock gave.
-    ensures clock { IfOk result (λ r. Gives (T.moments clock.old) (T.moments clock.new) []
+    ensures clock { IfOk result (λ r. GivesMoments (T.moments clock.old) (T.moments clock.new) []
         r.0.core.run) }
     ensures bounds { IfOk result (λ r. r.1.bounds ≡ opening.bounds) }
     ensures paces { IfOk result (λ r. KeepsPace

@@ -11,7 +11,7 @@ ghost use Rattle.spf_jwt_feeder.specs.Orderly.{IsAboutToAsk, IsOneStep, IsOpenin
 ghost use Rattle.spf_jwt_feeder.specs.Pacing.{KeepsPace};
 ghost use Rattle.spf_feeder.specs.Times.{TakesMoment};
 ghost use Rattle.spf_feeder.specs.Times as spec;
-ghost use Rattle.spf_feeder.specs.Times.{Gives};
+ghost use Rattle.spf_feeder.specs.Times.{GivesMoments};
 ghost use Rattle.spf_pace.specs.declared.pace.Pace.{Pace as Paces};
 
 use crate::feeder::JwtFeeder;
@@ -82,7 +82,7 @@ where
     ensures going { OnOk result (feeder.new.core.stuck ≡ false) }
     ensures timed { OnOk result (IsAboutToAsk
         (rules_of feeder.old.core.settings) feeder.new.core.run) }
-    ensures clock { OnOk result (Gives (T.moments clock.old) (T.moments clock.new)
+    ensures clock { OnOk result (GivesMoments (T.moments clock.old) (T.moments clock.new)
         feeder.old.core.run feeder.new.core.run) }
     ensures paces { (pace : Paces) → KeepsPace
         (rules_of feeder.old.core.settings) feeder.old.core.run pace
@@ -134,7 +134,7 @@ where
         (reverse feeder.new.core.run)) }
     ensures once { OnOk result (IsOneStep (steps_of (subject
         (rules_of feeder.old.core.settings)) feeder.new.core.run)) }
-    ensures clock { OnOk result (Gives (T.moments clock.old) (T.moments clock.new)
+    ensures clock { OnOk result (GivesMoments (T.moments clock.old) (T.moments clock.new)
         feeder.old.core.run feeder.new.core.run) }
     ensures bounds { pace.new.bounds ≡ pace.old.bounds }
     ensures going { OnOk result (feeder.new.core.stuck ≡ false) }

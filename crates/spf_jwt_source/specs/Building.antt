@@ -24,7 +24,7 @@ use Rattle.spf_jwt_board.specs.Passes.{PassView}
 use Rattle.spf_jwt_feeder.specs.Kept.{rules_of}
 use Rattle.spf_jwt_feeder.specs.Opened.{StopsOpening}
 use Rattle.spf_jwt_feeder.specs.Orderly.{IsSynced}
-use Rattle.spf_feeder.specs.Times.{Gives}
+use Rattle.spf_feeder.specs.Times.{GivesMoments}
 use Rattle.spiffe.specs.Sources.{Source}
 use Rattle.spf_jwt_source.specs.declared.builder.JwtSettings.{JwtSettings}
 use Rattle.spf_jwt_source.specs.Records.{Assigned}
@@ -90,7 +90,7 @@ pub record IsAssigned {S : Type 0} (members : S → Option (List Member))
   pub bounds : job.bounds ≡ set.bounds
   pub members_are : members job.first ≡ members connector
   pub synced : IsSynced (rules_of job.settings) (reverse job.run)
-  pub clock_is : Gives clock clock' [] job.run
+  pub clock_is : GivesMoments clock clock' [] job.run
 
 -- A source, its first pass, what closes it, and the job of its supervisor: the pass has seen the
 -- steps of the initial synchronisation, and all are of one board and one closed cell.

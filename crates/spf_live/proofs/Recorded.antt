@@ -13,7 +13,7 @@ use Rattle.spf_feed.specs.declared.turn.SessionRules.{SessionRules}
 use Rattle.spf_feeder.specs.Coming.{AllYielded}
 use Rattle.spf_feeder.specs.Kept.{rules_by}
 use Rattle.spf_feeder.specs.Orderly.{GoesOn, has_moment}
-use Rattle.spf_feeder.specs.Times.{Gives, moments_in}
+use Rattle.spf_feeder.specs.Times.{GivesMoments, moments_in}
 use Rattle.spf_feeder.proofs.TimeLemmas.{moments_append}
 use Rattle.spiffe.specs.declared.builder.Settings.{Settings}
 use Rattle.spiffe.specs.Building.{IsAssigned}
@@ -43,7 +43,7 @@ same_moments old new on =
     ∙ append-nil (moments_in old)
 
 gives_on : (clock clock' : Moments) (old new : List Event) → GoesOn old new
-    → Gives clock clock' [] old → Gives clock clock' [] new
+    → GivesMoments clock clock' [] old → GivesMoments clock clock' [] new
 gives_on None clock' old new on gives = tt
 gives_on (Some a) None old new on gives = gives
 gives_on (Some a) (Some b) old new on gives =

@@ -12,7 +12,7 @@ use Rattle.spf_feed.specs.Pick.{first_with_hint}
 use Rattle.spf_feed.specs.declared.state.X509SourceError.TheVariants as source
 use Rattle.spf_feeder.specs.Coming.{AllYielded}
 use Rattle.spf_feeder.specs.Kept.{rules_by}
-use Rattle.spf_feeder.specs.Times.{Gives}
+use Rattle.spf_feeder.specs.Times.{GivesMoments}
 use Rattle.spiffe.specs.declared.builder.Settings.{Settings}
 use Rattle.spiffe.specs.Building.{SyncFails}
 use Rattle.spiffe.specs.Records.{Assigned, IsOf, IsRecord, Recorded}
@@ -47,7 +47,7 @@ pub record IsRecordOf {K : Type 0} (members : Option (List Member))
   pub limits : r.settings.limits ≡ setting.limits
   pub ready : r.settings.ready ≡ setting.ready
   pub picker : option_map picks r.picker ≡ option_map first_with_hint setting.hint
-  pub moments : Gives clock between [] r.run
+  pub moments : GivesMoments clock between [] r.run
   pub yielded : IfSome members (λ m. AllYielded (rules_by picks r.settings r.picker) m (reverse
       r.run))
   pub steps_are : r.steps ≡ steps_of last

@@ -25,7 +25,7 @@ use Rattle.spf_feeder.specs.declared.session.Stop.TheVariants as stops
 use Rattle.spf_feeder.specs.Kept.{rules_by}
 use Rattle.spf_feeder.specs.Opened.{HasDeadline, StopsOpening}
 use Rattle.spf_feeder.specs.Orderly.{IsSynced}
-use Rattle.spf_feeder.specs.Times.{Gives}
+use Rattle.spf_feeder.specs.Times.{GivesMoments}
 use Rattle.spiffe.specs.declared.builder.Settings.{Settings}
 use Rattle.spiffe.specs.Records.{Assigned}
 use Rattle.spiffe.specs.Sources.{Source}
@@ -102,7 +102,7 @@ pub record IsAssigned {S K : Type 0} (members : S → Option (List Member))
   pub bounds : job.bounds ≡ set.bounds
   pub members_are : members job.first ≡ members connector
   pub synced : IsSynced (rules_by picks job.settings job.picker) (reverse job.run)
-  pub clock_is : Gives clock clock' [] job.run
+  pub clock_is : GivesMoments clock clock' [] job.run
 
 -- A source, its first pass, what closes it, and the job of its supervisor: the pass has seen the
 -- steps of the initial synchronisation, and all are of one board and one closed cell.

@@ -11,7 +11,7 @@ ghost use Rattle.spf_feeder.specs.Kept.{rules_by};
 ghost use Rattle.spf_feeder.specs.Opened.{HasDeadline};
 ghost use Rattle.spf_feeder.specs.Orderly.{IsOneStep, IsSynced};
 ghost use Rattle.spf_feeder.specs.Pacing.{KeepsPace};
-ghost use Rattle.spf_feeder.specs.Times.{Gives};
+ghost use Rattle.spf_feeder.specs.Times.{GivesMoments};
 ghost use Rattle.spf_close.specs.declared.maker.Maker.TheVariants as makers;
 ghost use Rattle.spiffe.specs.Building.{EndpointFails, IsBuilt, SyncFails, refused_as};
 ghost use Rattle.spiffe.specs.Building.{stopped_as};
@@ -114,7 +114,7 @@ where
         (rules_by P.picks r.0.core.settings r.0.core.picker)) r.0.core.run)) }
     ensures paces { IfOk result (λ r. KeepsPace
         (rules_by P.picks r.0.core.settings r.0.core.picker) r.0.core.run r.1) }
-    ensures clock { IfOk result (λ r. Gives (T.moments clock.old) (T.moments clock.new) []
+    ensures clock { IfOk result (λ r. GivesMoments (T.moments clock.old) (T.moments clock.new) []
         r.0.core.run) }
     ensures endpoint { IfOk result (λ _. C.validates connector ≡ Ok tt) }
     ensures failed { IfErr result (SyncFails P.picks settings (C.validates connector)) }

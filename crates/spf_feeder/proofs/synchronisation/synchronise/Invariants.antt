@@ -2,7 +2,7 @@ use Rattle.std.proofs.Common.{◌≡◌, false}
 use Rattle.spf_feeder.specs.Kept.{rules_by}
 use Rattle.spf_feeder.specs.Orderly.{IsOpening}
 use Rattle.spf_feeder.specs.Pacing.{KeepsPace}
-use Rattle.spf_feeder.specs.Times.{Gives}
+use Rattle.spf_feeder.specs.Times.{GivesMoments}
 use Rattle.spf_feeder.proofs.synchronisation.synchronise.Given as goal
 
 abbrev pub invariant-asks : goal.invariant-asks
@@ -20,6 +20,6 @@ invariant-asks g l = record {
   timed : IsOpening
       (rules_by g.K.SvidPicker.picks l.initial.feeder.core.settings l.initial.feeder.core.picker)
       l.feeder.core.run;
-  clock : Gives (g.T.Clock.moments l.initial.clock) (g.T.Clock.moments l.clock)
+  clock : GivesMoments (g.T.Clock.moments l.initial.clock) (g.T.Clock.moments l.clock)
       l.initial.feeder.core.run l.feeder.core.run;
 }

@@ -1,6 +1,6 @@
 use Rattle.std.proofs.Common.{[], sym, ap, ◌∙◌, subst}
 use Rattle.spf_feeder.specs.Opened.{HasDeadline}
-use Rattle.spf_feeder.specs.Times.{Gives}
+use Rattle.spf_feeder.specs.Times.{GivesMoments}
 use Rattle.spf_jwt_source.specs.Building.{IsBuilt}
 use Rattle.spf_jwt_source.proofs.Joining.{synced_as}
 use Rattle.spf_jwt_source.proofs.builder.JwtSourceBuilder.prepare.Goals as goal
@@ -22,5 +22,5 @@ returns-clause-assigned g c =
       bounds = h.2 ∙ sync.bounds;
       members_are = ap g.C.Connector.members h.3 ∙ sync.members;
       synced = synced_as _ _ _ _ h.0 h.1 sync.synced;
-      clock_is = subst (Gives _ _ []) (sym h.1) sync.clock;
+      clock_is = subst (GivesMoments _ _ []) (sym h.1) sync.clock;
     }

@@ -1,6 +1,6 @@
 use Rattle.std.proofs.Common.{[], sym, ap, ◌∙◌, subst}
 use Rattle.spf_feeder.specs.Opened.{HasDeadline}
-use Rattle.spf_feeder.specs.Times.{Gives}
+use Rattle.spf_feeder.specs.Times.{GivesMoments}
 use Rattle.spiffe.specs.Building.{IsBuilt}
 use Rattle.spiffe.proofs.Joining.{synced_as}
 use Rattle.spiffe.proofs.builder.X509SourceBuilder.prepare.Goals as goal
@@ -24,5 +24,5 @@ returns-clause-assigned g c =
       bounds = h.3 ∙ sync.bounds;
       members_are = ap g.C.Connector.members h.4 ∙ sync.members;
       synced = synced_as g.P.SvidPicker.picks _ _ _ _ _ _ h.0 h.1 h.2 sync.synced;
-      clock_is = subst (Gives _ _ []) (sym h.2) sync.clock;
+      clock_is = subst (GivesMoments _ _ []) (sym h.2) sync.clock;
     }
