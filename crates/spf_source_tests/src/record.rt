@@ -4,7 +4,7 @@ ghost use Rattle.std.specs.Prelude.{◌≡◌};
 
 use crate::building::{FixedClock, NoPause};
 use spf_feed::{NoPicker, NoRecorder, Step};
-use spf_job::{Held, InlineSpawner, StepWords};
+use spf_job::{HeldJob, InlineSpawner, StepWords};
 use spf_link::MemConnector;
 use spf_responses::{connector, good_link};
 use spf_x509_board::{BoardPlaces, Pass};
@@ -33,7 +33,7 @@ fn summary(record: &Supervised<NoPicker>) -> Shown {
 
 type InlineJob<R> = X509Job<MemConnector, NoPicker, NoRecorder, NoPause, StepWords, R>;
 
-type Handle<R> = SupervisorHandle<InlineJob<R>, Held<InlineJob<R>>>;
+type Handle<R> = SupervisorHandle<InlineJob<R>, HeldJob<InlineJob<R>>>;
 
 /// What the record of a supervisor shows, which this closes and runs.
 fn recorded<R: Wait + Copy + Drop>(handle: Handle<R>, pass: Pass) -> Option<Shown>
