@@ -13,7 +13,7 @@ returns-in-Ok-start_on_thread g c =
     let set = c.optional_picker-builder.result.settings in
     let others = c.optional_picker-builder.ensures.others in
     let default = default_with c.new-2.result.settings set c.new-2.ensures.settings
-    c.optional_picker-builder.ensures.picker others.1 others.2 others.3 others.4 others.5 in
+    c.optional_picker-builder.ensures.picker others.2 others.3 others.4 others.5 others.6 in
     record {
       runs = unyielded _ _ _ _ _ _ c.end_of.result
           (answered _ _ set c.optional_picker-builder.result.connector
@@ -45,7 +45,7 @@ returns g c =
     let set = c.optional_picker-builder.result.settings in
     let others = c.optional_picker-builder.ensures.others in
     let default = default_with c.new-2.result.settings set c.new-2.ensures.settings
-    c.optional_picker-builder.ensures.picker others.1 others.2 others.3 others.4 others.5 in
+    c.optional_picker-builder.ensures.picker others.2 others.3 others.4 others.5 others.6 in
     record {
       runs = unbuilt {K = HintPicker} None (picks.picks-value).it
           (g.I.Source.left c.args.input.now) _ (g.K.Sink.held c.args.out.now) _ c.in-Err.error
