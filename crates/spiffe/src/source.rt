@@ -61,8 +61,8 @@ fn is_out_of_memory(e: &X509SourceError) -> bool
     matches!(e, X509SourceError::OutOfMemory)
 }
 
-/// Lets go of an error that is not told. Out of memory is told.
-fn untold(e: X509SourceError) -> Result<(), OutOfMemory>
+/// Drops an error. Out of memory is returned.
+fn discard(e: X509SourceError) -> Result<(), OutOfMemory>
     ensures { OnOk result (e ≢ errors.OutOfMemory) }
 {
     let is_memory = is_out_of_memory(&e);
@@ -197,7 +197,7 @@ impl X509Source {
         match self.svid(pass, now) {
             Ok(svid) => Ok(Some(svid)),
             Err(e) => {
-                untold(e)?;
+                discard(e)?;
                 Ok(None)
             }
         }
@@ -216,7 +216,7 @@ impl X509Source {
         match self.bundle_of(pass, trust_domain) {
             Ok(bundle) => Ok(bundle),
             Err(e) => {
-                untold(e)?;
+                discard(e)?;
                 Ok(None)
             }
         }
@@ -278,7 +278,7 @@ impl X509Source {
     }
 
     /// Another watch of the cell, and another bell.
-    fn ears(&self) -> Result<(Watch, Bell), OutOfMemory>
+    fn watch_and_bell(&self) -> Result<(Watch, Bell), OutOfMemory>
         ensures { IfOk result (λ r. r.0 ≡ self.now.cell) }
     {
         let bell = self.closing.bell()?;
@@ -291,7 +291,7 @@ impl X509Source {
         ensures { IfOk result (λ updates. updates
             ≡ record { cell = self.now.cell; pass = pass; marked = 0 }) }
     {
-        match self.ears() {
+        match self.watch_and_bell() {
             Ok((watch, bell)) => Ok(X509SourceUpdates::new(watch, pass, bell)),
             Err(OutOfMemory) => {
                 drop(pass);

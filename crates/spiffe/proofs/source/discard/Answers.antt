@@ -1,7 +1,7 @@
 use Rattle.std.proofs.Common.{◌≡◌, subst}
 use Rattle.std.specs.Prelude.{◌≢◌, MatchBool}
 use Rattle.spf_feed.specs.declared.state.X509SourceError.TheVariants as errors
-use Rattle.spiffe.proofs.source.untold.Goals as goal
+use Rattle.spiffe.proofs.source.discard.Goals as goal
 
 pub returns : goal.returns
 returns c =
