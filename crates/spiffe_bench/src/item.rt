@@ -1,7 +1,7 @@
 //! The updates that are read. Each has one SVID and one authority of `example.org`, which no other
 //! has.
 
-use spf_api::{context_from_view, read_context_view};
+use spf_api::{ContextView, context_from_view, read_context_view};
 use spf_io::OutOfMemory;
 use spf_x509::X509Context;
 use std::alloc::Global;
@@ -29,15 +29,22 @@ const SECOND: &str = "\
     30313634305a3000300a300506032b6570030100300506032b657003010000000000000000000000\
     0000";
 
+/// The context of a view, which is known to have one.
+fn context_in(alloc: Global, view: &ContextView<'_>) -> Result<Arc<X509Context>, OutOfMemory> {
+    match context_from_view(alloc, view) {
+        Ok(context) => Ok(Arc::new(alloc, context)?),
+        Err(error) => {
+            drop(error);
+            Err(OutOfMemory)
+        }
+    }
+}
+
 fn context_of(alloc: Global, payload: &str) -> Result<Arc<X509Context>, OutOfMemory> {
     let payload = hex::decode(alloc, payload).map_err(|_| OutOfMemory)?;
-    let view = match read_context_view(alloc, payload.as_slice()) {
-        Ok(Some(view)) => view,
-        _ => return Err(OutOfMemory),
-    };
-    match context_from_view(alloc, &view) {
-        Ok(context) => Ok(Arc::new(alloc, context)?),
-        Err(_) => Err(OutOfMemory),
+    match read_context_view(alloc, payload.as_slice())? {
+        Some(view) => context_in(alloc, &view),
+        None => Err(OutOfMemory),
     }
 }
 

@@ -93,35 +93,80 @@ fn name_of(call: Call) -> &'static str {
     }
 }
 
-/// Measures one call, while nothing is published, or while something is published without pause.
-fn measure<R: Threads + Wait + Clock + Copy + Drop + Send + 'static, K: Sink>(
+/// The tenths of a nanosecond that one read of a thread takes, while they all read.
+fn measure_reads<R: Threads + Wait + Clock + Copy + Drop + Send + 'static>(
     rt: R,
     alloc: Global,
-    out: &mut K,
+    source: &mut X509Source,
+    pass: &mut Pass,
+    call: Call,
+    threads: u64,
+    reads: u64,
+) -> Result<u128, BenchError>
+    requires { pass.old.book ≡ source.old.board }
+{
+    let readings = start_readers(rt, alloc, source, pass, call, threads, reads)?;
+    let nanos = joined(&rt, readings)?;
+    Ok(nanos.wrapping_mul(10) / threads.max(1) as u128 / reads.max(1) as u128)
+}
+
+/// The same while something is published without pause.
+fn measure_beside<R: Threads + Wait + Clock + Copy + Drop + Send + 'static>(
+    rt: R,
+    alloc: Global,
+    source: &mut X509Source,
+    pass: &mut Pass,
+    desk: Desk<R>,
+    call: Call,
+    threads: u64,
+    reads: u64,
+) -> Result<u128, BenchError>
+    requires pass { pass.old.book ≡ source.old.board }
+    requires step { steps_of desk.list ≢ [] }
+{
+    let (ours, theirs) = flags(alloc)?;
+    let writer = start_writer(rt, alloc, desk, theirs)?;
+    let tenths = measure_reads(rt, alloc, source, pass, call, threads, reads);
+    ours.set();
+    let _ = writer.join(&rt);
+    tenths
+}
+
+/// A flag, twice.
+fn flags(alloc: Global) -> Result<(StopFlag, StopFlag), OutOfMemory> {
+    let flag = StopFlag::new(alloc)?;
+    let same = flag.try_clone()?;
+    Ok((flag, same))
+}
+
+/// Measures one call, while nothing is published, or while something is published without pause.
+fn measure<R: Threads + Wait + Clock + Copy + Drop + Send + 'static>(
+    rt: R,
+    alloc: Global,
     call: Call,
     threads: u64,
     reads: u64,
     is_published: bool,
-) -> Result<(), BenchError> {
+) -> Result<u128, BenchError> {
     let (mut source, mut pass, desk) = opened(rt, alloc)?;
-    let stop = StopFlag::new(alloc)?;
-    let writer = if is_published {
-        Some(start_writer(rt, alloc, desk, stop.try_clone()?)?)
+    let tenths = if is_published {
+        measure_beside(
+            rt,
+            alloc,
+            &mut source,
+            &mut pass,
+            desk,
+            call,
+            threads,
+            reads,
+        )
     } else {
-        None
+        drop(desk);
+        measure_reads(rt, alloc, &mut source, &mut pass, call, threads, reads)
     };
-    let readings = start_readers(rt, alloc, &mut source, &mut pass, call, threads, reads);
-    let nanos = match readings {
-        Ok(readings) => joined(&rt, readings),
-        Err(e) => Err(e),
-    };
-    stop.set();
-    if let Some(writer) = writer {
-        let _ = writer.join(&rt);
-    }
-    let tenths = nanos?.wrapping_mul(10) / threads.max(1) as u128 / reads.max(1) as u128;
-    let kind = if is_published { "publishing" } else { "idle" };
-    put_line(alloc, out, kind, name_of(call), threads, tenths)
+    drop(pass);
+    drop(source);
+    tenths
 }
 
 fn start_writer<R: Threads + Wait + Clock + Copy + Drop + Send + 'static>(
@@ -165,6 +210,21 @@ fn measure_arc<K: Sink>(
     put_line(alloc, out, "idle", "arc", 1, tenths)
 }
 
+/// Measures one call with nothing published, and with a writer that publishes without pause.
+fn measure_call<R: Threads + Wait + Clock + Copy + Drop + Send + 'static, K: Sink>(
+    rt: R,
+    alloc: Global,
+    out: &mut K,
+    call: Call,
+    threads: u64,
+    reads: u64,
+) -> Result<(), BenchError> {
+    let idle = measure(rt, alloc, call, threads, reads, false)?;
+    put_line(alloc, out, "idle", name_of(call), threads, idle)?;
+    let publishing = measure(rt, alloc, call, threads, reads, true)?;
+    put_line(alloc, out, "publishing", name_of(call), threads, publishing)
+}
+
 /// Measures each call, and a clone of an `Arc` beside them.
 pub(crate) fn measure_all<R: Threads + Wait + Clock + Copy + Drop + Send + 'static, K: Sink>(
     rt: R,
@@ -175,8 +235,7 @@ pub(crate) fn measure_all<R: Threads + Wait + Clock + Copy + Drop + Send + 'stat
 ) -> Result<(), BenchError> {
     measure_arc(&rt, alloc, out, reads)?;
     for call in [Call::State, Call::Svid, Call::IsHealthy] {
-        measure(rt, alloc, out, call, threads, reads, false)?;
-        measure(rt, alloc, out, call, threads, reads, true)?;
+        measure_call(rt, alloc, out, call, threads, reads)?;
     }
     Ok(())
 }

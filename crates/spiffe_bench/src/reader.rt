@@ -26,14 +26,21 @@ pub(crate) struct Reader {
     pub(crate) ghost same: { pass.book ≡ source.board },
 }
 
+/// Whether a read gave something, which is dropped.
+fn is_given<T: Drop, E: Drop>(read: Result<T, E>) -> bool {
+    let is_given = read.is_ok();
+    drop(read);
+    is_given
+}
+
 /// Reads once, and returns whether that gave something.
 fn read(source: &X509Source, pass: &mut Pass, call: Call) -> bool
     requires { pass.old.book ≡ source.now.board }
     ensures { pass.new.book ≡ pass.old.book }
 {
     match call {
-        Call::State => source.state(pass).is_ok(),
-        Call::Svid => source.svid(pass, Some(999)).is_ok(),
+        Call::State => is_given(source.state(pass)),
+        Call::Svid => is_given(source.svid(pass, Some(999))),
         Call::IsHealthy => source.is_healthy(pass, Some(999)),
     }
 }
@@ -57,12 +64,17 @@ impl Reader {
         requires { pass.old.book ≡ source.old.board }
         ensures { (pass.new.book ≡ pass.old.book) × (source.new.board ≡ source.old.board) }
     {
+        let handle = source.try_clone()?;
         match source.another_pass(pass, &mut BoardPlaces::new()) {
             Ok(pass) => Ok(Reader {
-                source: source.try_clone()?,
+                source: handle,
                 pass,
             }),
-            Err(_) => Err(OutOfMemory),
+            Err(error) => {
+                drop(error);
+                drop(handle);
+                Err(OutOfMemory)
+            }
         }
     }
 

@@ -11,7 +11,7 @@ use spf_feed::{Denial, Publisher, Step, X509SourceError, X509SourceState};
 use spf_io::OutOfMemory;
 use spf_system::StopFlag;
 use spf_x509::{X509BundleSet, X509Context, X509Svid};
-use spf_x509_board::{BoardPlaces, Desk, Pass};
+use spf_x509_board::{Desk, Pass};
 use spiffe::X509Source;
 use std::alloc::Global;
 use std::sync::{Arc, Wait};
@@ -39,46 +39,104 @@ impl Steps {
     }
 }
 
-/// Whether an SVID, bundles and the health are what the state says.
-fn agrees(
-    state: &X509SourceState,
-    steps: &Steps,
-    svid: &Result<Option<Arc<X509Svid>>, OutOfMemory>,
-    bundles: &Result<Arc<X509BundleSet>, X509SourceError>,
-    healthy: bool,
-) -> bool {
-    match (state.context_ref(), svid, bundles) {
-        (Some(context), Ok(Some(svid)), Ok(bundles)) => {
-            healthy
-                && steps.has(context)
-                && context.default_svid() == Some(svid)
-                && context.bundle_set() == bundles
+/// What is read between two states.
+#[derive(Drop)]
+struct Between {
+    svid: Result<Option<Arc<X509Svid>>, OutOfMemory>,
+    bundles: Result<Arc<X509BundleSet>, X509SourceError>,
+    is_healthy: bool,
+}
+
+impl Between {
+    fn read(source: &X509Source, pass: &mut Pass) -> Between
+        requires { pass.old.book ≡ source.now.board }
+        ensures { pass.new.book ≡ pass.old.book }
+    {
+        let svid = source.try_svid(pass, Some(999));
+        let bundles = source.bundle_set(pass);
+        let is_healthy = source.is_healthy(pass, Some(999));
+        Between {
+            svid,
+            bundles,
+            is_healthy,
         }
-        (None, Ok(None), Err(X509SourceError::Withdrawn(_))) => !healthy,
-        _ => false,
+    }
+
+    /// Whether the SVID and the bundles are those of the context.
+    fn is_of(&self, context: &X509Context) -> bool {
+        match (&self.svid, &self.bundles) {
+            (Ok(Some(svid)), Ok(bundles)) => {
+                context.default_svid() == Some(svid) && context.bundle_set() == bundles
+            }
+            _ => false,
+        }
+    }
+
+    /// Whether there is no SVID, and the bundles are withdrawn.
+    fn is_withdrawn(&self) -> bool {
+        matches!(self.svid, Ok(None)) && matches!(self.bundles, Err(X509SourceError::Withdrawn(_)))
+    }
+
+    /// Whether it is what the state says.
+    fn agrees(&self, state: &X509SourceState, steps: &Steps) -> bool {
+        match state.context_ref() {
+            Some(context) => self.is_healthy && steps.has(context) && self.is_of(context),
+            None => !self.is_healthy && self.is_withdrawn(),
+        }
     }
 }
 
 /// Whether reads are sound: revisions never fall, and what is read between two states of one
 /// revision is what they say. `last` is the revision that was read last.
-fn is_sound(source: &X509Source, pass: &mut Pass, steps: &Steps, last: &mut u64) -> bool
+fn are_sound(
+    before: &X509SourceState,
+    between: &Between,
+    after: &X509SourceState,
+    steps: &Steps,
+    last: u64,
+) -> bool {
+    let (first, second) = (before.revision(), after.revision());
+    first >= last && second >= first && (first != second || between.agrees(before, steps))
+}
+
+/// Reads a second state, and returns its revision where the reads are sound.
+fn sound_after(
+    source: &X509Source,
+    pass: &mut Pass,
+    before: &X509SourceState,
+    steps: &Steps,
+    last: u64,
+) -> Option<u64>
     requires { pass.old.book ≡ source.now.board }
     ensures { pass.new.book ≡ pass.old.book }
 {
-    let Ok(before) = source.state(pass) else {
-        return false;
+    let between = Between::read(source, pass);
+    let revision = match source.state(pass) {
+        Ok(after) => {
+            let is_sound = are_sound(before, &between, &after, steps, last);
+            let revision = after.revision();
+            drop(after);
+            if is_sound { Some(revision) } else { None }
+        }
+        Err(OutOfMemory) => None,
     };
-    let svid = source.try_svid(pass, Some(999));
-    let bundles = source.bundle_set(pass);
-    let healthy = source.is_healthy(pass, Some(999));
-    let Ok(after) = source.state(pass) else {
-        return false;
-    };
-    if before.revision() < *last || after.revision() < before.revision() {
-        return false;
+    drop(between);
+    revision
+}
+
+/// Reads twice, and returns the last revision where the reads are sound.
+fn sound_reads(source: &X509Source, pass: &mut Pass, steps: &Steps, last: u64) -> Option<u64>
+    requires { pass.old.book ≡ source.now.board }
+    ensures { pass.new.book ≡ pass.old.book }
+{
+    match source.state(pass) {
+        Ok(before) => {
+            let revision = sound_after(source, pass, &before, steps, last);
+            drop(before);
+            revision
+        }
+        Err(OutOfMemory) => None,
     }
-    *last = after.revision();
-    before.revision() != after.revision() || agrees(&before, steps, &svid, &bundles, healthy)
 }
 
 /// Reads until the flag is set, and returns how often; none where a read was not sound.
@@ -94,9 +152,7 @@ pub(crate) fn read_until(
     let mut last = 0u64;
     let mut reads = 0u64;
     'reads: for _ in rt.forever() {
-        if !is_sound(source, pass, steps, &mut last) {
-            return None;
-        }
+        last = sound_reads(source, pass, steps, last)?;
         reads = reads.wrapping_add(1);
         if stop.is_set() {
             break;
@@ -129,6 +185,20 @@ fn publish_rounds<R: Wait + Drop>(
     Ok(())
 }
 
+/// Publishes that many rounds.
+fn publish_all<R: Wait + Drop>(
+    alloc: Global,
+    desk: &mut Desk<R>,
+    rounds: u64,
+) -> Result<(), OutOfMemory>
+    requires { steps_of desk.old.list ≢ [] }
+{
+    let steps = Steps::new(alloc)?;
+    let published = publish_rounds(desk, &steps, rounds);
+    drop(steps);
+    published
+}
+
 type Reading = JoinHandle<Option<u64>>;
 
 /// Starts a thread that reads until the flag is set.
@@ -142,8 +212,8 @@ fn start_reader<R: Threads + Wait + Copy + Drop + Send + 'static>(
     requires { pass.old.book ≡ source.old.board }
     ensures { (pass.new.book ≡ pass.old.book) × (source.new.board ≡ source.old.board) }
 {
-    let reader = Reader::new(source, pass)?;
     let steps = Steps::new(alloc)?;
+    let reader = Reader::new(source, pass)?;
     match thread::spawn(&rt, move || reader.watch(&rt, &steps, &stop)) {
         Ok(handle) => Ok(handle),
         Err(_) => Err(BenchError::NoThread),
@@ -162,6 +232,43 @@ fn joined(rt: &impl Threads, readings: Vec<Reading>) -> Result<u64, BenchError> 
     Ok(reads)
 }
 
+/// Starts that many threads that read until the flag is set.
+fn start_readers<R: Threads + Wait + Copy + Drop + Send + 'static>(
+    rt: R,
+    alloc: Global,
+    source: &mut X509Source,
+    pass: &mut Pass,
+    threads: u64,
+    stop: &StopFlag,
+) -> Result<Vec<Reading>, BenchError>
+    requires { pass.old.book ≡ source.old.board }
+{
+    let mut readings = Vec::new(alloc);
+    'threads: for _ in 0..threads {
+        let stop = stop.try_clone()?;
+        readings.push(start_reader(rt, alloc, source, pass, stop)?)?;
+    }
+    Ok(readings)
+}
+
+/// Publishes rounds while the threads read, and returns how often they read.
+fn publish_beside<R: Threads + Wait + Copy + Drop + Send + 'static>(
+    rt: R,
+    alloc: Global,
+    desk: &mut Desk<R>,
+    readings: Vec<Reading>,
+    stop: &StopFlag,
+    rounds: u64,
+) -> Result<u64, BenchError>
+    requires { steps_of desk.old.list ≢ [] }
+{
+    let published = publish_all(alloc, desk, rounds);
+    stop.set();
+    let reads = joined(&rt, readings);
+    published?;
+    reads
+}
+
 /// Lets threads read and check while that many rounds are published, and returns how often they
 /// read.
 pub(crate) fn storm<R: Threads + Wait + Copy + Drop + Send + 'static>(
@@ -170,16 +277,15 @@ pub(crate) fn storm<R: Threads + Wait + Copy + Drop + Send + 'static>(
     threads: u64,
     rounds: u64,
 ) -> Result<u64, BenchError> {
-    let (mut source, mut pass, mut desk) = opened(rt, alloc)?;
     let stop = StopFlag::new(alloc)?;
-    let mut readings = Vec::new(alloc);
-    'threads: for _ in 0..threads {
-        let stop = stop.try_clone()?;
-        readings.push(start_reader(rt, alloc, &mut source, &mut pass, stop)?)?;
-    }
-    let published = publish_rounds(&mut desk, &Steps::new(alloc)?, rounds);
+    let (mut source, mut pass, mut desk) = opened(rt, alloc)?;
+    let reads = match start_readers(rt, alloc, &mut source, &mut pass, threads, &stop) {
+        Ok(readings) => publish_beside(rt, alloc, &mut desk, readings, &stop, rounds),
+        Err(error) => Err(error),
+    };
     stop.set();
-    let reads = joined(&rt, readings);
-    published?;
+    drop(desk);
+    drop(pass);
+    drop(source);
     reads
 }
