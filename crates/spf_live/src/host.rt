@@ -4,8 +4,11 @@
 ghost use Rattle.std.specs.Prelude.{◌≡◌};
 
 use spf_api::{ClientFault, EndpointError, LinkFault, Response};
+use spf_io::{OutOfMemory, Text};
 use spf_link::{Connector, Headers, Link, Request};
-use spf_system::{Pause, StdEnvironment, StdPause, StopFlag};
+use spf_system::{
+    EnvValue, Environment, MemEnvironment, Pause, StdEnvironment, StdPause, StopFlag,
+};
 use spf_wire::{EnvConnector, SocketLink};
 use std::alloc::Global;
 use std::time::Duration;
@@ -36,21 +39,54 @@ impl Link for HostLink {
     }
 }
 
-type EnvSockets = EnvConnector<HostRuntime, StdEnvironment<HostRuntime>>;
+/// The environment of the process, or one in which every variable has the one value.
+#[derive(Drop)]
+enum HostEnvironment {
+    Process(StdEnvironment<HostRuntime>),
+    Given(MemEnvironment),
+}
 
-/// Connects over the sockets of the process to the endpoint that its environment names.
+impl Environment for HostEnvironment {
+    ghost use Rattle.std.specs.Prelude.{None};
+
+    ghost value = { λ _ _. None };
+
+    fn var(&self, alloc: Global, name: &str) -> Result<EnvValue, OutOfMemory> {
+        match self {
+            HostEnvironment::Process(environment) => environment.var(alloc, name),
+            HostEnvironment::Given(environment) => environment.var(alloc, name),
+        }
+    }
+}
+
+type EnvSockets = EnvConnector<HostRuntime, HostEnvironment>;
+
+/// Connects over the sockets of the process to the endpoint that an environment names.
 #[derive(Drop)]
 pub struct HostConnector {
     sockets: EnvSockets,
 }
 
 impl HostConnector {
-    /// Returns a connector that has not refused yet.
+    /// Returns a connector to the endpoint in the environment of the process. It has not refused
+    /// yet.
     pub fn new(host: HostRuntime, alloc: Global) -> HostConnector
         ensures { ⟦<HostConnector as Connector>⟧.refusals result ≡ 0 }
     {
+        let environment = HostEnvironment::Process(StdEnvironment::new(host));
         HostConnector {
-            sockets: EnvConnector::new(host, alloc, StdEnvironment::new(host)),
+            sockets: EnvConnector::new(host, alloc, environment),
+        }
+    }
+
+    /// Returns a connector to this endpoint, written as in the environment. It has not refused yet.
+    pub fn to(host: HostRuntime, alloc: Global, endpoint: Text) -> HostConnector
+        ensures { ⟦<HostConnector as Connector>⟧.refusals result ≡ 0 }
+    {
+        let value = EnvValue::Found(endpoint);
+        let environment = HostEnvironment::Given(MemEnvironment::new(value));
+        HostConnector {
+            sockets: EnvConnector::new(host, alloc, environment),
         }
     }
 }

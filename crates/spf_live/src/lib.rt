@@ -18,4 +18,4 @@ pub use error::LiveError;
 pub use host::{HostConnector, HostLink, HostPause};
 pub use live::watch_live;
 pub use on_thread::{HostJob, OnThread, start_on_thread};
-pub use on_threads::watch_on_threads;
+pub use on_threads::{watch_connector_on_threads, watch_on_threads};

@@ -47,31 +47,67 @@ where
         (K.held out.old) (K.held out.new) (side (E.held errors.old) (E.failures errors.old))
         (side (E.held errors.new) (E.failures errors.new)) result }
 {
-    let end = live_on_threads(host, rt, arguments, out);
+    let alloc = host.alloc();
+    let connector = HostConnector::new(host, alloc);
+    let mut clock = StdClock::new(host);
+    let random = StepWords::seeded_at(clock.now());
+    watch_connector_on_threads(
+        host, rt, arguments, connector, &mut clock, random, out, errors,
+    )
+}
+
+/// Prints what a live source of this connector holds, by this clock, as `watch_on_threads` does.
+pub fn watch_connector_on_threads<R, T, K, E>(
+    host: HostRuntime,
+    rt: R,
+    arguments: &[String],
+    connector: HostConnector,
+    clock: &mut T,
+    random: StepWords,
+    out: &mut K,
+    errors: &mut E,
+) -> u8
+where
+    R: Threads + Wait + time::Clock + Copy + Drop + Send + 'static,
+    T: Clock,
+    K: Sink,
+    E: Sink,
+    // Status 1 comes exactly where the arguments are not those of a live run.
+    ensures arguments { (result ≡ 1) ↔ (live_setting (map string_bytes arguments.now) ≡ None) }
+    // As `watch_live`: no clause says when a thread is not available.
+    ensures ended { Ended None (⟦<HintPicker as SvidPicker>⟧.picks) (Ok tt) (Unit {0}) (Unit {0})
+        (Rose (K.failures out.old) (K.failures out.new))
+        (live_setting (map string_bytes arguments.now)) (T.moments clock.old)
+        (T.moments clock.new) (K.held out.old) (K.held out.new)
+        (side (E.held errors.old) (E.failures errors.old))
+        (side (E.held errors.new) (E.failures errors.new)) result }
+{
+    let end = live_on_threads(host, rt, arguments, connector, clock, random, out);
     report(errors, end)
 }
 
 /// Prints that many lines of what the source holds. However that ends, it closes the source and
 /// waits for its supervisor.
-fn follow_on_thread<R, K>(
+fn follow_on_thread<R, T, K>(
     rt: R,
     alloc: Global,
     source: X509Source,
     pass: Pass,
     handle: SupervisorHandle<HostJob<R>, OnThread<R>>,
-    clock: &mut StdClock<HostRuntime>,
+    clock: &mut T,
     places: &mut BoardPlaces,
     out: &mut K,
     lines: u64,
 ) -> Result<(), LiveError>
 where
     R: Threads + Wait + time::Clock + Copy + Drop + Send + 'static,
+    T: Clock,
     K: Sink,
     requires pass { pass.book ≡ source.board }
     requires job { handle.job.board ≡ source.board }
     requires lines { 1 ≤ lines }
     ensures follows { Follows (λ _. None) (⟦<HintPicker as SvidPicker>⟧.picks) handle.job lines
-        None None (K.held out.old) (K.held out.new) result }
+        (T.moments clock.old) (T.moments clock.new) (K.held out.old) (K.held out.new) result }
     ensures cause { IfErr result (FollowFails (Unit {0})
         (Rose (K.failures out.old) (K.failures out.new))) }
 {
@@ -84,39 +120,35 @@ where
     }
 }
 
-fn live_on_threads<R, K>(
+fn live_on_threads<R, T, K>(
     host: HostRuntime,
     rt: R,
     arguments: &[String],
+    connector: HostConnector,
+    clock: &mut T,
+    random: StepWords,
     out: &mut K,
 ) -> Result<(), LiveError>
 where
     R: Threads + Wait + time::Clock + Copy + Drop + Send + 'static,
+    T: Clock,
     K: Sink,
     ensures does { Does None (⟦<HintPicker as SvidPicker>⟧.picks) (Ok tt) (Unit {0}) (Unit {0})
         (Rose (K.failures out.old) (K.failures out.new))
-        (live_setting (map string_bytes arguments.now)) None None (K.held out.old) (K.held out.new)
-        result }
+        (live_setting (map string_bytes arguments.now)) (T.moments clock.old)
+        (T.moments clock.new) (K.held out.old) (K.held out.new) result }
 {
     let Some(options) = live_options(arguments) else {
         return Err(LiveError::BadArguments);
     };
     let alloc = host.alloc();
-    let builder = match builder_of(alloc, HostConnector::new(host, alloc), &options) {
+    let builder = match builder_of(alloc, connector, &options) {
         Ok(builder) => builder,
         Err(_) => return Err(LiveError::OutOfMemory),
     };
-    let mut clock = StdClock::new(host);
-    let random = StepWords::seeded_at(clock.now());
+    let pause = HostPause::new(host);
     let mut places = BoardPlaces::new();
-    match builder.prepare(
-        rt,
-        alloc,
-        &mut clock,
-        HostPause::new(host),
-        random,
-        &mut places,
-    ) {
+    match builder.prepare(rt, alloc, clock, pause, random, &mut places) {
         Ok((source, pass, job, pending)) => match start_on_thread(rt, job) {
             Ok(handle) => follow_on_thread(
                 rt,
@@ -124,7 +156,7 @@ where
                 source,
                 pass,
                 pending.started(handle),
-                &mut clock,
+                clock,
                 &mut places,
                 out,
                 options.lines,

@@ -1,4 +1,5 @@
-//! Tests of live runs, of the gate's too, over doubles, and of their options.
+//! Tests of live runs, of the gate's too, over doubles and over an agent on a socket, and of their
+//! options.
 #![tactic(auto)]
 
 #[cfg(test)]
@@ -7,3 +8,5 @@ mod gate_live;
 mod live;
 #[cfg(test)]
 mod options;
+#[cfg(test)]
+mod two_lines;

@@ -15,7 +15,7 @@ use std::test::Fail;
 use std::time::Clock;
 
 /// The texts as arguments.
-fn arguments(alloc: Global, texts: &[&str]) -> Result<Vec<String>, Fail> {
+pub(crate) fn arguments(alloc: Global, texts: &[&str]) -> Result<Vec<String>, Fail> {
     let mut arguments = Vec::new(alloc);
     for text in texts {
         arguments.push(String::from_str(alloc, text)?)?;
@@ -39,14 +39,14 @@ fn clock(alloc: Global) -> Result<MemClock, Fail> {
 }
 
 /// What a run is to end with: its status, what it printed, and its line on the error output.
-struct Wanted {
-    status: u8,
-    lines: &'static str,
-    error: &'static str,
+pub(crate) struct Wanted {
+    pub(crate) status: u8,
+    pub(crate) lines: &'static str,
+    pub(crate) error: &'static str,
 }
 
 /// Whether a run ended like this.
-fn is_so(
+pub(crate) fn is_so(
     alloc: Global,
     status: u8,
     out: &MemSink,
