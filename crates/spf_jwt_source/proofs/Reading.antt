@@ -1,5 +1,5 @@
 -- Reads one after another.
-use Rattle.std.proofs.Common.{◌≡◌, ℕ, ◌∙◌}
+use Rattle.std.proofs.Common.{ℕ, ◌∙◌}
 use Rattle.spf_jwt_feed.specs.declared.state.JwtSourceError.{JwtSourceError}
 use Rattle.spf_jwt_feed.specs.declared.state.JwtSourceError.TheVariants as errors
 use Rattle.spf_history.proofs.Prefixes.{begins_trans}
@@ -29,10 +29,9 @@ stays_later cell revision old mid new errors.OutOfMemory before stays = tt
 stays_later cell revision old mid new _ before stays = absurd stays
 
 -- what was known before the read is known after it
-pub stays_known : (cell revision : ℕ) (old mid new : PassView) (e : JwtSourceError)
-    → HasClosedCause cell mid e → new.closed ≡ mid.closed → IsRevision new revision
-    → ReadsOn old new → Stays cell revision old new e
-stays_known cell revision old mid new errors.Closed cause same read reads =
-    (same ∙ cause, read, reads)
-stays_known cell revision old mid new errors.OutOfMemory cause same read reads = tt
-stays_known cell revision old mid new _ cause same read reads = absurd cause
+pub stays_known : (cell revision : ℕ) (old new : PassView) (e : JwtSourceError)
+    → HasClosedCause cell new e → IsRevision new revision → ReadsOn old new
+    → Stays cell revision old new e
+stays_known cell revision old new errors.Closed cause read reads = (cause, read, reads)
+stays_known cell revision old new errors.OutOfMemory cause read reads = tt
+stays_known cell revision old new _ cause read reads = absurd cause

@@ -53,6 +53,13 @@ abbrev pub Stops : JwtSettings → Terminal → Type 0
 Stops set end =
     StopsOpening set.limits set.timeout (stops.Terminal end)
 
+-- why a connector is not ready: its endpoint is invalid, or memory ran out
+abbrev pub EndpointFails : Result (Unit {0}) EndpointError → JwtSourceError → Type 0
+EndpointFails valid (errors.Source e) =
+    (x : EndpointError) × (valid ≡ Err x) × (e ≡ api.Endpoint x)
+EndpointFails valid errors.OutOfMemory = Unit {0}
+EndpointFails valid _ = ⊥
+
 -- Why an initial synchronisation gives an error: the endpoint is invalid, a terminal event came by
 -- the connector or the clock before anything was accepted, or memory ran out.
 abbrev pub SyncFails : JwtSettings

@@ -9,6 +9,7 @@ use crate::job::JwtJob;
 use crate::opening::{joined, open_cells, synchronised};
 use crate::source::JwtSource;
 use rand_core::Rng;
+use spf_io::OutOfMemory;
 use spf_job::Spawner;
 use spf_jwt::JwtResourceLimits;
 use spf_jwt_board::{JwtPass, JwtPlaces};
@@ -18,6 +19,7 @@ use spf_pace::ReconnectConfig;
 use spf_system::{Clock, Pause};
 use std::alloc::Global;
 use std::fmt;
+use std::mem::drop;
 use std::sync::Wait;
 use std::time::Duration;
 
@@ -169,26 +171,42 @@ where
         ensures failed { IfErr result (PrepareFails self.settings
             (C.validates self.connector) (L.refusals places.old) (L.refusals places.new)) }
     {
+        let mut pause = pause;
+        let mut random = random;
+        let cells = match open_cells(alloc) {
+            Ok(cells) => cells,
+            Err(OutOfMemory) => {
+                drop(self);
+                drop(pause);
+                drop(random);
+                return Err(JwtSourceError::OutOfMemory);
+            }
+        };
         let JwtSourceBuilder {
             settings,
             connector,
             recorder,
         } = self;
-        let mut pause = pause;
-        let mut random = random;
         let grace = settings.grace;
-        let cells = open_cells(alloc)?;
-        let (feeder, pace) = synchronised(
+        let (feeder, pace) = match synchronised(
             &rt,
             alloc,
             connector,
             recorder,
             settings,
-            &cells.stop,
+            &cells.source.stop,
             clock,
             &mut pause,
             &mut random,
-        )?;
+        ) {
+            Ok(opened) => opened,
+            Err(e) => {
+                drop(cells);
+                drop(pause);
+                drop(random);
+                return Err(e);
+            }
+        };
         let (source, pass, closing, job) = joined(
             rt, alloc, cells, feeder, pace, pause, random, places,
         )?;
@@ -234,7 +252,12 @@ where
         let (source, pass, job, pending) = self.prepare(rt, alloc, clock, pause, random, places)?;
         match spawner.start(job) {
             Ok(handle) => Ok((source, pass, pending.started(handle))),
-            Err(_) => Err(JwtSourceError::NoSupervisor),
+            Err(_) => {
+                drop(source);
+                drop(pass);
+                drop(pending);
+                Err(JwtSourceError::NoSupervisor)
+            }
         }
     }
 }

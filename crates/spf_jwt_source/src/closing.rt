@@ -1,11 +1,15 @@
 //! Whether a source is closed.
 
-ghost use Rattle.std.specs.Prelude.{◌≡◌, None, IfErr, OnOk};
+ghost use Rattle.std.specs.Prelude.{◌≡◌, ℕ, None, IfErr, IfOk, IfSome, OnOk};
+ghost use Rattle.spf_close.specs.declared.maker.Maker.TheVariants as makers;
 ghost use Rattle.spf_jwt_source.specs.Reads.{HasClosedCause, LooksAt, SaysClosed};
 
-use spf_close::{Maker, Watch};
+use spf_close::{Bell, Closer, Closing, Maker, Watch};
+use spf_io::OutOfMemory;
 use spf_jwt_board::JwtPass;
 use spf_jwt_feed::JwtSourceError;
+use spf_system::StopFlag;
+use std::alloc::Global;
 
 /// Whether the source is closed. The pass knows the mark from then on, by a note.
 pub(crate) fn look(watch: &Watch, pass: &mut JwtPass) -> bool
@@ -16,17 +20,50 @@ pub(crate) fn look(watch: &Watch, pass: &mut JwtPass) -> bool
     pass.closed_by().is_some()
 }
 
-/// Refuses where the source is closed, which the pass then knows: a source that no caller closed
-/// ended by itself, which it does only out of memory.
-pub(crate) fn check_open(watch: &Watch, pass: &mut JwtPass) -> Result<(), JwtSourceError>
-    ensures looks { LooksAt watch.now pass.old pass.new }
-    ensures open { OnOk result (pass.new.closed ≡ None) }
-    ensures cause { IfErr result (HasClosedCause watch.now pass.new) }
+/// Lets the pass learn, by a note, whether the source is closed.
+pub(crate) fn learn(watch: &Watch, pass: &mut JwtPass)
+    ensures { LooksAt watch.now pass.old pass.new }
 {
     pass.note(watch.look());
+}
+
+/// Refuses where the pass knows that the source is closed: a source that no caller closed ended by
+/// itself, which it does only out of memory.
+pub(crate) fn known_open(pass: &JwtPass) -> Result<(), JwtSourceError>
+    ensures open { OnOk result (pass.now.closed ≡ None) }
+    ensures cause { IfErr result (λ e. (cell : ℕ)
+        → IfSome pass.now.closed (λ known. known.cell ≡ cell) → HasClosedCause cell pass.now e) }
+{
     match pass.closed_by() {
         None => Ok(()),
         Some(Maker::Caller) => Err(JwtSourceError::Closed),
         Some(Maker::Supervisor) => Err(JwtSourceError::OutOfMemory),
     }
+}
+
+/// Refuses where the source is closed, which the pass then knows.
+pub(crate) fn check_open(watch: &Watch, pass: &mut JwtPass) -> Result<(), JwtSourceError>
+    ensures looks { LooksAt watch.now pass.old pass.new }
+    ensures open { OnOk result (pass.new.closed ≡ None) }
+    ensures cause { IfErr result (HasClosedCause watch.now pass.new) }
+{
+    learn(watch, pass);
+    known_open(pass)
+}
+
+/// What closes the source of the closer.
+pub(crate) fn closing_of(
+    alloc: Global,
+    closer: &mut Closer,
+    stop: &StopFlag,
+    bell: &Bell,
+) -> Result<Closing, OutOfMemory>
+    requires { closer.old.maker ≡ makers.Caller }
+    ensures unchanged { closer.new ≡ closer.old }
+    ensures closing { IfOk result (λ c. c ≡ closer.old.cell) }
+{
+    let another = closer.another(alloc)?;
+    let stop = stop.try_clone()?;
+    let bell = bell.try_clone()?;
+    Ok(Closing::new(another, stop, bell))
 }

@@ -1,6 +1,6 @@
 //! The parts of building a source.
 
-ghost use Rattle.std.specs.Prelude.{◌≡◌, [], false, Err, IfErr, IfOk, None, Ok, Some};
+ghost use Rattle.std.specs.Prelude.{◌≡◌, [], false, Err, IfErr, IfOk, None, Ok, OnOk, Some};
 ghost use Rattle.std.specs.Prelude.{map, reverse, ◌∷◌};
 ghost use Rattle.spf_view.specs.Steps.{steps_of};
 ghost use Rattle.spf_history.specs.Lists.{steps_of as board_steps};
@@ -12,10 +12,12 @@ ghost use Rattle.spf_jwt_feeder.specs.Orderly.{IsOneStep, IsSynced};
 ghost use Rattle.spf_jwt_feeder.specs.Pacing.{KeepsPace};
 ghost use Rattle.spf_feeder.specs.Times.{GivesMoments};
 ghost use Rattle.spf_close.specs.declared.maker.Maker.TheVariants as makers;
-ghost use Rattle.spf_jwt_source.specs.Building.{IsBuilt, SyncFails, refused_as, stopped_as};
+ghost use Rattle.spf_jwt_source.specs.Building.{EndpointFails, IsBuilt, SyncFails, refused_as};
+ghost use Rattle.spf_jwt_source.specs.Building.{stopped_as};
 ghost use Rattle.spf_jwt_source.specs.Reads.{HasPlaceCause};
 
 use crate::builder::JwtSettings;
+use crate::closing::closing_of;
 use crate::job::JwtJob;
 use crate::publishing::BoardPublisher;
 use crate::source::JwtSource;
@@ -24,13 +26,14 @@ use spf_api::{EndpointError, WorkloadApiError};
 use spf_close::{Bell, Closer, Closing, Watch, closed_cell};
 use spf_feed::Terminal;
 use spf_io::OutOfMemory;
-use spf_jwt_board::{Front, Jwt, JwtPass, JwtPlaces, PlaceFault, SharedStep, open};
+use spf_jwt_board::{Front, Jwt, JwtDesk, JwtPass, JwtPlaces, PlaceFault, SharedStep, open};
 use spf_jwt_feed::{JwtMetricsRecorder, JwtSourceError, JwtStep, MemJwtPublisher};
 use spf_jwt_feeder::{JwtFeeder, JwtOpening, Stop, open_jwt_feeder};
 use spf_link::Connector;
 use spf_pace::Pace;
 use spf_system::{Clock, Pause, StopFlag};
 use std::alloc::Global;
+use std::mem::drop;
 use std::sync::Wait;
 
 /// The error of a refused endpoint.
@@ -53,6 +56,24 @@ fn stopped(stop: Stop) -> JwtSourceError
         Stop::Terminal(Terminal::InitialSyncTimeout) => JwtSourceError::InitialSyncTimeout,
         Stop::Terminal(Terminal::Closed) | Stop::OutOfMemory => JwtSourceError::OutOfMemory,
     }
+}
+
+/// Validates the connector, and lets it and the pause heed the stop flag.
+fn make_ready<C: Connector, W: Pause>(
+    connector: &mut C,
+    pause: &mut W,
+    stop: &StopFlag,
+) -> Result<(), JwtSourceError>
+    ensures members { C.members connector.new ≡ C.members connector.old }
+    ensures endpoint { OnOk result (C.validates connector.old ≡ Ok tt) }
+    ensures failed { IfErr result (EndpointFails (C.validates connector.old)) }
+{
+    if let Err(e) = connector.validate() {
+        return Err(refused_endpoint(e));
+    }
+    connector.heed(stop.try_clone()?);
+    pause.heed(stop.try_clone()?);
+    Ok(())
 }
 
 /// Validates the connector, lets it and the pause heed the stop flag, and synchronises. A single
@@ -93,11 +114,11 @@ where
     ensures failed { IfErr result (SyncFails settings (C.validates connector)) }
 {
     let mut connector = connector;
-    if let Err(e) = connector.validate() {
-        return Err(refused_endpoint(e));
+    if let Err(e) = make_ready(&mut connector, pause, stop) {
+        drop(connector);
+        drop(recorder);
+        return Err(e);
     }
-    connector.heed(stop.try_clone()?);
-    pause.heed(stop.try_clone()?);
     let opening = JwtOpening {
         limits: settings.limits,
         bounds: settings.bounds,
@@ -140,6 +161,24 @@ fn first_step(
     Ok(SharedStep::new(first.try_clone()?))
 }
 
+/// A board on which the one step of a publisher is published, and the list of steps with that one.
+fn opened<R: Wait + Drop>(
+    rt: R,
+    alloc: Global,
+    publisher: &MemJwtPublisher,
+    steps: &mut Vec<JwtStep>,
+) -> Result<(JwtDesk<R>, JwtPass), OutOfMemory>
+    requires once { IsOneStep publisher.now.steps }
+    requires none { steps.old.items ≡ [] }
+    ensures kept { IfOk result (λ r. map plain steps.new.items ≡ board_steps r.0.list) }
+    ensures step { IfOk result (λ r. board_steps r.0.list ≡ publisher.now.steps) }
+    ensures pass { IfOk result (λ r. (r.1.book ≡ r.0.book) × (r.1.seen ≡ r.0.list)) }
+{
+    let first = first_step(publisher, steps)?;
+    let (desk, pass) = open(alloc, rt, first)?;
+    Ok((desk, pass))
+}
+
 /// The feeder on a board of its own, on which its one step is published, with the board's front and
 /// its first pass.
 pub(crate) fn on_board<C, M, R>(
@@ -165,46 +204,168 @@ where
         (rules_of feeder.core.settings)) feeder.core.run) }
 {
     let mut steps = Vec::new(alloc);
-    let first = first_step(feeder.publisher(), &mut steps)?;
-    let (desk, pass) = open(alloc, rt, first)?;
+    let (desk, pass) = match opened(rt, alloc, feeder.publisher(), &mut steps) {
+        Ok(opened) => opened,
+        Err(OutOfMemory) => {
+            drop(feeder);
+            drop(steps);
+            drop(bell);
+            return Err(OutOfMemory);
+        }
+    };
     let front = desk.front();
     let publisher = BoardPublisher::new(desk, steps, bell);
-    let (feeder, _first) = feeder.with_publisher(publisher);
+    let (feeder, before) = feeder.with_publisher(publisher);
+    drop(before);
     Ok((feeder, front, pass))
+}
+
+/// What a source keeps of its cell: what closes it, ends the waits of its supervisor, and wakes
+/// those who wait for a change.
+#[derive(Drop)]
+pub(crate) struct SourceCells {
+    caller: Closer,
+    pub(crate) stop: StopFlag,
+    bell: Bell,
+}
+
+/// What the job of a supervisor keeps of the cell.
+#[derive(Drop)]
+struct JobCells {
+    watch: Watch,
+    closer: Closer,
+    bell: Bell,
 }
 
 /// What closes a source, ends the waits of its supervisor, and wakes those who wait for a change:
 /// all of one cell. It is made before anything is asked.
 #[derive(Drop)]
 pub(crate) struct Cells {
-    caller: Closer,
     closing: Closing,
-    closer: Closer,
-    watch: Watch,
-    pub(crate) stop: StopFlag,
-    source_bell: Bell,
+    pub(crate) source: SourceCells,
     publisher_bell: Bell,
-    job_bell: Bell,
+    job: JobCells,
 }
 
-pub(crate) fn open_cells(alloc: Global) -> Result<Cells, OutOfMemory>
+/// What closes the source of the closer, with two bells more.
+fn closing_bells(
+    alloc: Global,
+    caller: &mut Closer,
+    stop: &StopFlag,
+    bell: &Bell,
+) -> Result<(Closing, Bell, Bell), OutOfMemory>
+    requires { caller.old.maker ≡ makers.Caller }
+    ensures unchanged { caller.new ≡ caller.old }
+    ensures closing { IfOk result (λ r. r.0 ≡ caller.old.cell) }
+{
+    let closing = closing_of(alloc, caller, stop, bell)?;
+    let source_bell = bell.try_clone()?;
+    let publisher_bell = bell.try_clone()?;
+    Ok((closing, source_bell, publisher_bell))
+}
+
+/// A new cell, what closes it, and two bells more.
+#[derive(Drop)]
+struct Parts {
+    caller: Closer,
+    closer: Closer,
+    watch: Watch,
+    closing: Closing,
+    source_bell: Bell,
+    publisher_bell: Bell,
+}
+
+fn parts_of(alloc: Global, stop: &StopFlag, bell: &Bell) -> Result<Parts, OutOfMemory>
     ensures makers { IfOk result (λ c. c.caller.maker ≡ makers.Caller) }
     ensures one { IfOk result (λ c. (c.caller.cell ≡ c.watch) × (c.closing ≡ c.watch)) }
 {
+    let (mut caller, closer, watch) = closed_cell(alloc)?;
+    match closing_bells(alloc, &mut caller, stop, bell) {
+        Ok((closing, source_bell, publisher_bell)) => Ok(Parts {
+            caller,
+            closer,
+            watch,
+            closing,
+            source_bell,
+            publisher_bell,
+        }),
+        Err(OutOfMemory) => {
+            drop(caller);
+            drop(closer);
+            drop(watch);
+            Err(OutOfMemory)
+        }
+    }
+}
+
+pub(crate) fn open_cells(alloc: Global) -> Result<Cells, OutOfMemory>
+    ensures makers { IfOk result (λ c. c.source.caller.maker ≡ makers.Caller) }
+    ensures one { IfOk result (λ c. (c.source.caller.cell ≡ c.job.watch)
+        × (c.closing ≡ c.job.watch)) }
+{
     let stop = StopFlag::new(alloc)?;
     let bell = Bell::new(alloc)?;
-    let (mut caller, closer, watch) = closed_cell(alloc)?;
-    let closing = Closing::new(caller.another(alloc)?, stop.try_clone()?, bell.try_clone()?);
-    Ok(Cells {
-        caller,
-        closing,
-        closer,
-        watch,
-        stop,
-        source_bell: bell.try_clone()?,
-        publisher_bell: bell.try_clone()?,
-        job_bell: bell,
-    })
+    match parts_of(alloc, &stop, &bell) {
+        Ok(
+            Parts {
+                caller,
+                closer,
+                watch,
+                closing,
+                source_bell,
+                publisher_bell,
+            },
+        ) => Ok(Cells {
+            closing,
+            source: SourceCells {
+                caller,
+                stop,
+                bell: source_bell,
+            },
+            publisher_bell,
+            job: JobCells {
+                watch,
+                closer,
+                bell,
+            },
+        }),
+        Err(OutOfMemory) => {
+            drop(stop);
+            drop(bell);
+            Err(OutOfMemory)
+        }
+    }
+}
+
+/// The source over its front, and its first pass.
+fn source_of<L: JwtPlaces>(
+    alloc: Global,
+    front: Front<Jwt>,
+    cells: SourceCells,
+    first: JwtPass,
+    places: &mut L,
+) -> Result<(JwtSource, JwtPass), JwtSourceError>
+    requires maker { cells.caller.maker ≡ makers.Caller }
+    ensures source { IfOk result (λ r. (r.0.board ≡ front.book) × (r.0.cell ≡ cells.caller.cell)) }
+    ensures pass { IfOk result (λ r. (r.1.book ≡ first.book) × (r.1.seen ≡ first.seen)) }
+    ensures cause { HasPlaceCause (L.refusals places.old) (L.refusals places.new) result }
+{
+    let pass = match placed(first, places) {
+        Ok(pass) => pass,
+        Err(e) => {
+            drop(front);
+            drop(cells);
+            return Err(e);
+        }
+    };
+    let SourceCells { caller, stop, bell } = cells;
+    match JwtSource::over(alloc, front, caller, stop, bell) {
+        Ok(source) => Ok((source, pass)),
+        Err(OutOfMemory) => {
+            drop(pass);
+            Err(JwtSourceError::OutOfMemory)
+        }
+    }
 }
 
 /// The source, its first pass, what closes it, and its job.
@@ -226,15 +387,15 @@ where
     N: Rng + Drop,
     R: Wait + Copy + Drop,
     L: JwtPlaces,
-    requires maker { cells.caller.maker ≡ makers.Caller }
-    requires one { (cells.caller.cell ≡ cells.watch) × (cells.closing ≡ cells.watch) }
+    requires maker { cells.source.caller.maker ≡ makers.Caller }
+    requires one { (cells.source.caller.cell ≡ cells.job.watch)
+        × (cells.closing ≡ cells.job.watch) }
     requires going { feeder.core.stuck ≡ false }
     requires synced { IsSynced (rules_of feeder.core.settings)
         (reverse feeder.core.run) }
     requires once { IsOneStep (steps_of (subject
         (rules_of feeder.core.settings)) feeder.core.run) }
-    requires paces { KeepsPace (rules_of feeder.core.settings)
-        feeder.core.run pace }
+    requires paces { KeepsPace (rules_of feeder.core.settings) feeder.core.run pace }
     ensures built { IfOk result (λ r. IsBuilt r.0 r.1 r.2 r.3) }
     ensures job { IfOk result (λ r. (r.3.settings ≡ feeder.core.settings)
         × (r.3.run ≡ feeder.core.run)
@@ -242,18 +403,28 @@ where
     ensures cause { HasPlaceCause (L.refusals places.old) (L.refusals places.new) result }
 {
     let Cells {
-        caller,
         closing,
-        closer,
-        watch,
-        stop,
-        source_bell,
+        source: ends,
         publisher_bell,
-        job_bell,
+        job: kept,
     } = cells;
-    let (feeder, front, first) = on_board(rt, alloc, feeder, publisher_bell)?;
-    let pass = placed(first, places)?;
-    let source = JwtSource::over(alloc, front, caller, stop, source_bell)?;
+    let (feeder, front, first) = match on_board(rt, alloc, feeder, publisher_bell) {
+        Ok(board) => board,
+        Err(OutOfMemory) => {
+            drop(closing);
+            drop(ends);
+            drop(kept);
+            drop(pause);
+            drop(random);
+            drop(pace);
+            return Err(JwtSourceError::OutOfMemory);
+        }
+    };
+    let JobCells {
+        watch,
+        closer,
+        bell,
+    } = kept;
     let job = JwtJob {
         feeder,
         pace,
@@ -261,10 +432,17 @@ where
         random,
         watch,
         closer,
-        bell: job_bell,
+        bell,
         rt,
     };
-    Ok((source, pass, closing, job))
+    match source_of(alloc, front, ends, first, places) {
+        Ok((source, pass)) => Ok((source, pass, closing, job)),
+        Err(e) => {
+            drop(closing);
+            drop(job);
+            Err(e)
+        }
+    }
 }
 
 /// The pass from its places, with all places that the first pass has.
@@ -281,7 +459,13 @@ pub(crate) fn placed<L: JwtPlaces>(
             giver.give_back(&mut pass);
             Ok(pass)
         }
-        Err(PlaceFault::Refused) => Err(JwtSourceError::NoPlace),
-        Err(PlaceFault::OutOfMemory) => Err(JwtSourceError::OutOfMemory),
+        Err(PlaceFault::Refused) => {
+            drop(giver);
+            Err(JwtSourceError::NoPlace)
+        }
+        Err(PlaceFault::OutOfMemory) => {
+            drop(giver);
+            Err(JwtSourceError::OutOfMemory)
+        }
     }
 }

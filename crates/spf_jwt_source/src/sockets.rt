@@ -21,6 +21,7 @@ use spf_link::Connector;
 use spf_system::{Clock, Environment, Pause};
 use spf_wire::{EndpointConnector, EnvConnector};
 use std::alloc::Global;
+use std::mem::drop;
 use std::net::{Net, TcpStream};
 use std::sync::Wait;
 
@@ -101,7 +102,12 @@ impl JwtSource {
         )?;
         match spawner.start(job) {
             Ok(handle) => Ok((source, pass, pending.started(handle))),
-            Err(_) => Err(JwtSourceError::NoSupervisor),
+            Err(_) => {
+                drop(source);
+                drop(pass);
+                drop(pending);
+                Err(JwtSourceError::NoSupervisor)
+            }
         }
     }
 }

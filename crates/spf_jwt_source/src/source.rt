@@ -1,9 +1,10 @@
 //! A handle of a live source of JWT bundles.
 
-ghost use Rattle.std.specs.Prelude.{◌≡◌, IfOk, None, OnOk};
+ghost use Rattle.std.specs.Prelude.{◌≡◌, ◌≢◌, IfOk, MatchBool, None, OnOk};
 ghost use Rattle.std.specs.Option.{option_map};
 ghost use Rattle.spf_close.specs.declared.maker.Maker.TheVariants as makers;
 ghost use Rattle.spf_board.specs.Passes.{Renews};
+ghost use Rattle.spf_jwt_feed.specs.declared.state.JwtSourceError.TheVariants as errors;
 ghost use Rattle.spf_jwt_feed.specs.States.{SetAnswer};
 ghost use Rattle.spf_jwt_board.specs.Passes.{read_of};
 ghost use Rattle.spf_jwt_board.specs.Steps.{Legal};
@@ -15,7 +16,7 @@ ghost use Rattle.spf_jwt_source.specs.Reads.{SaysClosed};
 ghost use Rattle.spf_jwt_source.specs.Reads.{Follows, HasPlaceCause, SeesNoLess, TriesBundle};
 ghost use Rattle.spf_jwt_source.specs.Updating.{ReadsFrom};
 
-use crate::closing::{check_open, look};
+use crate::closing::{check_open, closing_of, look};
 use crate::updates::JwtSourceUpdates;
 use spf_close::{Bell, Closer, Closing, LastHandle, Maker, Watch};
 use spf_id::{SpiffeId, TrustDomain};
@@ -30,6 +31,7 @@ use spf_x509::BundleSource;
 use std::alloc::Global;
 use std::fmt;
 use std::marker::Model;
+use std::mem::drop;
 use std::sync::Arc;
 
 /// A handle of a source. What it gives is read through a pass of its board, without a lock. When
@@ -60,6 +62,41 @@ impl fmt::Debug for JwtSource {
     }
 }
 
+fn is_out_of_memory(e: &JwtSourceError) -> bool
+    ensures { MatchBool result (e.now ≡ errors.OutOfMemory) (e.now ≢ errors.OutOfMemory) }
+{
+    matches!(e, JwtSourceError::OutOfMemory)
+}
+
+/// Drops an error. Out of memory is returned.
+fn discard(e: JwtSourceError) -> Result<(), OutOfMemory>
+    ensures { OnOk result (e ≢ errors.OutOfMemory) }
+{
+    let is_memory = is_out_of_memory(&e);
+    drop(e);
+    if is_memory {
+        return Err(OutOfMemory);
+    }
+    Ok(())
+}
+
+/// A watch of the cell of the closer, and what closes it with the last handle.
+fn watched(
+    alloc: Global,
+    closer: &mut Closer,
+    stop: &StopFlag,
+    bell: &Bell,
+) -> Result<(Watch, Arc<LastHandle>), OutOfMemory>
+    requires { closer.old.maker ≡ makers.Caller }
+    ensures unchanged { closer.new ≡ closer.old }
+    ensures watch { IfOk result (λ r. r.0 ≡ closer.old.cell) }
+{
+    let watch = closer.watch()?;
+    let closing = closing_of(alloc, closer, stop, bell)?;
+    let last = Arc::new(alloc, LastHandle::new(closing))?;
+    Ok((watch, last))
+}
+
 impl JwtSource {
     /// Returns a source over a board that its caller publishes on, and the cell that the closer
     /// closes. The bell is rung at each change. `JwtSourceBuilder` makes all of this.
@@ -73,15 +110,22 @@ impl JwtSource {
         requires { closer.maker ≡ makers.Caller }
         ensures { IfOk result (λ s. (s.board ≡ front.book) × (s.cell ≡ closer.cell)) }
     {
-        let watch = closer.watch()?;
-        let last = Closing::new(closer.another(alloc)?, stop.try_clone()?, bell.try_clone()?);
-        Ok(JwtSource {
-            front,
-            watch,
-            closing: Closing::new(closer, stop, bell),
-            last: Arc::new(alloc, LastHandle::new(last))?,
-            alloc,
-        })
+        match watched(alloc, &mut closer, &stop, &bell) {
+            Ok((watch, last)) => Ok(JwtSource {
+                front,
+                watch,
+                closing: Closing::new(closer, stop, bell),
+                last,
+                alloc,
+            }),
+            Err(OutOfMemory) => {
+                drop(front);
+                drop(closer);
+                drop(stop);
+                drop(bell);
+                Err(OutOfMemory)
+            }
+        }
     }
 
     /// Returns the state that is published now, read through the pass.
@@ -135,8 +179,10 @@ impl JwtSource {
     {
         match self.bundle_of(pass, trust_domain) {
             Ok(bundle) => Ok(bundle),
-            Err(JwtSourceError::OutOfMemory) => Err(OutOfMemory),
-            Err(_) => Ok(None),
+            Err(e) => {
+                discard(e)?;
+                Ok(None)
+            }
         }
     }
 
@@ -185,10 +231,37 @@ impl JwtSource {
         ensures cause { HasPlaceCause (H.refusals places.old) (H.refusals places.new) result }
     {
         let pass = self.another_pass(giver, places)?;
+        let mut updates = self.updates_over(pass)?;
+        match updates.begin() {
+            Ok(()) => Ok(updates),
+            Err(OutOfMemory) => {
+                drop(updates);
+                Err(JwtSourceError::OutOfMemory)
+            }
+        }
+    }
+
+    /// Another watch of the cell, and another bell.
+    fn watch_and_bell(&self) -> Result<(Watch, Bell), OutOfMemory>
+        ensures { IfOk result (λ r. r.0 ≡ self.now.cell) }
+    {
         let bell = self.closing.bell()?;
-        let mut updates = JwtSourceUpdates::new(self.watch.try_clone()?, pass, bell);
-        updates.state()?;
-        Ok(updates)
+        let watch = self.watch.try_clone()?;
+        Ok((watch, bell))
+    }
+
+    /// Updates that have read nothing yet.
+    fn updates_over(&self, pass: JwtPass) -> Result<JwtSourceUpdates, OutOfMemory>
+        ensures { IfOk result (λ updates. updates
+            ≡ record { cell = self.now.cell; pass = pass; marked = 0 }) }
+    {
+        match self.watch_and_bell() {
+            Ok((watch, bell)) => Ok(JwtSourceUpdates::new(watch, pass, bell)),
+            Err(OutOfMemory) => {
+                drop(pass);
+                Err(OutOfMemory)
+            }
+        }
     }
 
     /// Fetches a JWT-SVID for the audience, of any identity of the workload. Whether the source is

@@ -11,7 +11,7 @@ ghost use Rattle.spf_jwt_source.specs.Reads.{SeesNoLess};
 ghost use Rattle.spf_jwt_source.specs.Reads.{Stays};
 ghost use Rattle.spf_jwt_source.specs.Updating.{MarksOn};
 
-use crate::closing::{check_open, look};
+use crate::closing::{check_open, known_open, learn, look};
 use spf_close::{Bell, Watch};
 use spf_io::OutOfMemory;
 use spf_jwt_board::JwtPass;
@@ -84,11 +84,11 @@ fn look_for_change(
     ensures renews { OnOk result (Renews Legal (read_of pass.old) (read_of pass.new)) }
     ensures pass { SeesNoLess pass.old pass.new }
 {
-    let open = check_open(watch, pass);
+    learn(watch, pass);
     if let Some(revision) = unseen(pass, marked)? {
         return Ok(Some(revision));
     }
-    open?;
+    known_open(pass)?;
     Ok(None)
 }
 
@@ -143,6 +143,18 @@ impl JwtSourceUpdates {
         let state = self.pass.state(closed)?;
         self.marked = state.revision();
         Ok(state)
+    }
+
+    /// Reads what is published now, and marks its revision as seen.
+    pub(crate) fn begin(&mut self) -> Result<(), OutOfMemory>
+        ensures cell { self.new.cell ≡ self.old.cell }
+        ensures revision { OnOk result (IsRevision self.new.pass self.new.marked) }
+        ensures renews { OnOk result (Renews Legal (read_of self.old.pass)
+            (read_of self.new.pass)) }
+        ensures pass { SeesNoLess self.old.pass self.new.pass }
+    {
+        self.state()?;
+        Ok(())
     }
 
     /// Returns the revision that is published now, which is not marked as seen.

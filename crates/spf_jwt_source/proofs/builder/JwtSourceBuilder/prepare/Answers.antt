@@ -13,7 +13,7 @@ returns-clause-built g c =
 
 pub returns-clause-assigned : goal.returns-clause-assigned
 returns-clause-assigned g c =
-    let sync = c.in_ok-feeder.ensures in
+    let sync = c.in-Ok-synchronised.ensures in
     let h = c.in_ok-source.ensures.job in
     record {
       limits = ap (λ s. s.limits) h.0 ∙ sync.limits;
