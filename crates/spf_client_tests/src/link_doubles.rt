@@ -4,7 +4,7 @@ use spf_api::{
     BundlesResponse, ClientFault, GrpcStatusCode, GrpcStatusError, LinkFault, Response,
     TransportConnectError,
 };
-use spf_io::{List, OutOfMemory, Text};
+use spf_io::{List, Text};
 use spf_link::{Answer, Connector, Headers, Link, MemConnector, MemLink, Request};
 use spf_responses::{FIRST, SvidRow, bundle_entries, context};
 use std::alloc::{AllocError, Global};
@@ -18,7 +18,7 @@ const BROKEN: SvidRow<'static> = SvidRow {
     hint: "",
 };
 
-fn denied(alloc: Global) -> Result<GrpcStatusError, OutOfMemory> {
+fn denied(alloc: Global) -> Result<GrpcStatusError, Fail> {
     let message = Text::copy_of(alloc, "no")?;
     Ok(GrpcStatusError::new(GrpcStatusCode::PermissionDenied, message))
 }
@@ -62,32 +62,15 @@ pub fn link(alloc: Global, words: &[&str]) -> Result<MemLink, Fail> {
     Ok(MemLink::new(alloc, answers))
 }
 
-/// A denial, and an endpoint that cannot be reached.
-fn refusals(alloc: Global) -> Result<(ClientFault, ClientFault), OutOfMemory> {
-    let denied = ClientFault::Status(denied(alloc)?);
-    match Text::copy_of(alloc, "nobody listens") {
-        Ok(text) => Ok((denied, ClientFault::Unreachable(text))),
-        Err(e) => {
-            drop(denied);
-            Err(e)
-        }
-    }
-}
-
 /// Returns a connector that gives a link with these answers, then a denial and an endpoint that
 /// cannot be reached.
 pub fn connector(alloc: Global, words: &[&str]) -> Result<MemConnector, Fail> {
-    let link = link(alloc, words)?;
-    match refusals(alloc) {
-        Ok((denied, unreachable)) => {
-            let links = vec![in alloc; Ok(link), Err(denied), Err(unreachable)]?;
-            Ok(MemConnector::new(alloc, links))
-        }
-        Err(e) => {
-            drop(link);
-            Err(e.into())
-        }
-    }
+    let mut links = Vec::new(alloc);
+    links.push(Ok(link(alloc, words)?))?;
+    links.push(Err(ClientFault::Status(denied(alloc)?)))?;
+    let text = Text::copy_of(alloc, "nobody listens")?;
+    links.push(Err(ClientFault::Unreachable(text)))?;
+    Ok(MemConnector::new(alloc, links))
 }
 
 /// Whether a text was made, and is this one.
@@ -163,7 +146,7 @@ fn link_answers_in_turn(rt: HostRuntime) -> Result<(), Fail> {
     Ok(())
 }
 
-fn validation(alloc: Global) -> Result<Request, OutOfMemory> {
+fn validation(alloc: Global) -> Result<Request, Fail> {
     Ok(Request::ValidateJwt {
         audience: Text::copy_of(alloc, "a")?,
         svid: Text::copy_of(alloc, "t")?,
@@ -182,8 +165,8 @@ fn has_start(link: &MemLink, index: usize, request: &Request) -> bool {
 #[test]
 fn link_keeps_starts(rt: HostRuntime) -> Result<(), Fail> {
     let alloc = rt.alloc();
+    let request = validation(alloc)?;
     let mut link = link(alloc, &["started", "memory", "denied"])?;
-    let request = validation(alloc).expect(&rt, "a request");
     assert!(rt; starts(alloc, &mut link, &Request::X509Svid, "started"));
     assert!(rt; starts(alloc, &mut link, &Request::JwtBundles, "out of memory"));
     let refused = "gRPC status permission_denied: no";
@@ -196,13 +179,13 @@ fn link_keeps_starts(rt: HostRuntime) -> Result<(), Fail> {
     Ok(())
 }
 
-fn two_audiences(alloc: Global) -> Result<List<Text>, OutOfMemory> {
+fn two_audiences(alloc: Global) -> Result<List<Text>, Fail> {
     let first = Text::copy_of(alloc, "a")?;
     let second = Text::copy_of(alloc, "b")?;
     Ok(List::new(vec![in alloc; first, second]?))
 }
 
-fn jwt_request(alloc: Global) -> Result<Request, OutOfMemory> {
+fn jwt_request(alloc: Global) -> Result<Request, Fail> {
     let audience = two_audiences(alloc)?;
     let spiffe_id = Text::copy_of(alloc, "spiffe://example.org/w")?;
     Ok(Request::JwtSvid {
@@ -226,10 +209,10 @@ fn is_copied(alloc: Global, request: Request) -> bool {
 }
 
 #[test]
-fn request_is_copied(rt: HostRuntime) {
-    let request = jwt_request(rt.alloc()).expect(&rt, "a request");
-    assert!(rt; is_copied(rt.alloc(), request));
+fn request_is_copied(rt: HostRuntime) -> Result<(), Fail> {
+    assert!(rt; is_copied(rt.alloc(), jwt_request(rt.alloc())?));
     assert!(rt; is_copied(rt.alloc(), Request::X509Bundles));
+    Ok(())
 }
 
 /// Whether the connector gives a link.
