@@ -1,7 +1,6 @@
 //! The closed cell of a live source, and its bell.
 
 use spf_close::{Bell, Closer, Maker, Watch, closed_cell};
-use std::test::Fail;
 use std::thread;
 
 fn maker_seen(watch: &Watch) -> Option<Maker> {
@@ -13,33 +12,33 @@ fn maker_seen(watch: &Watch) -> Option<Maker> {
 
 /// The first mark stays, and closing again changes nothing.
 #[test]
-fn first_mark_stays(rt: HostRuntime) -> Result<(), Fail> {
-    let (mut caller, mut supervisor, watch) = closed_cell(rt.alloc())?;
-    let other = caller.watch()?.try_clone()?;
-    assert_eq!(rt; maker_seen(&watch), None);
+fn first_mark_stays(rt: HostRuntime) {
+    let (mut caller, mut supervisor, watch) = closed_cell(rt.alloc()).expect(&rt, "a cell");
+    let first = caller.watch().expect(&rt, "a watch");
+    let other = first.try_clone().expect(&rt, "a watch");
+    drop(first);
+    assert!(rt; maker_seen(&watch).is_none());
     supervisor.close();
-    assert_eq!(rt; maker_seen(&watch), Some(Maker::Supervisor));
+    assert!(rt; maker_seen(&watch) == Some(Maker::Supervisor));
     caller.close();
     supervisor.close();
-    assert_eq!(rt; maker_seen(&other), Some(Maker::Supervisor));
-    Ok(())
+    assert!(rt; maker_seen(&other) == Some(Maker::Supervisor));
 }
 
 /// Another closer closes in the name of its maker.
 #[test]
-fn another_closer(rt: HostRuntime) -> Result<(), Fail> {
-    let (mut caller, _supervisor, watch) = closed_cell(rt.alloc())?;
-    let mut second = caller.another(rt.alloc())?;
+fn another_closer(rt: HostRuntime) {
+    let (mut caller, _supervisor, watch) = closed_cell(rt.alloc()).expect(&rt, "a cell");
+    let mut second = caller.another(rt.alloc()).expect(&rt, "a closer");
     second.close();
     caller.close();
-    assert_eq!(rt; maker_seen(&watch), Some(Maker::Caller));
-    Ok(())
+    assert!(rt; maker_seen(&watch) == Some(Maker::Caller));
 }
 
 /// A mark that one thread makes is seen by others.
 #[test]
-fn mark_is_seen_by_other_threads(rt: HostRuntime) -> Result<(), Fail> {
-    let (caller, _supervisor, watch) = closed_cell(rt.alloc())?;
+fn mark_is_seen_by_other_threads(rt: HostRuntime) {
+    let (caller, _supervisor, watch) = closed_cell(rt.alloc()).expect(&rt, "a cell");
     let _ = thread::join(
         &rt,
         move || {
@@ -49,22 +48,20 @@ fn mark_is_seen_by_other_threads(rt: HostRuntime) -> Result<(), Fail> {
         || watch.look().is_some(),
     );
     let seen = thread::join(&rt, || maker_seen(&watch), || maker_seen(&watch));
-    assert_eq!(rt; seen, (Some(Maker::Caller), Some(Maker::Caller)));
-    Ok(())
+    assert!(rt; seen == (Some(Maker::Caller), Some(Maker::Caller)));
 }
 
 /// A ring is counted by every clone, and nobody waits for a ring that has been.
 #[test]
-fn rings_are_counted(rt: HostRuntime) -> Result<(), Fail> {
-    let bell = Bell::new(rt.alloc())?;
-    let other = bell.try_clone()?;
+fn rings_are_counted(rt: HostRuntime) {
+    let bell = Bell::new(rt.alloc()).expect(&rt, "a bell");
+    let other = bell.try_clone().expect(&rt, "a bell");
     let seen = bell.now();
-    assert_eq!(rt; other.now(), seen);
+    assert!(rt; other.now() == seen);
     other.ring();
     bell.wait_past(&rt, seen);
     assert!(rt; bell.now() != seen);
     bell.ring();
-    assert_eq!(rt; bell.now().wrapping_sub(seen), 2);
-    assert_eq!(rt; other.now(), bell.now());
-    Ok(())
+    assert!(rt; bell.now().wrapping_sub(seen) == 2);
+    assert!(rt; other.now() == bell.now());
 }

@@ -7,7 +7,6 @@ use spf_io::Failed;
 use spf_job::{
     InlineSpawner, Job, Joins, RefusingSpawner, Running, Spawner, StepWords, start_thread,
 };
-use std::test::Fail;
 use std::thread::Threads;
 
 /// Adds two numbers.

@@ -14,7 +14,6 @@ use spf_x509_board::{
 use std::alloc::Global;
 use std::snapshot::Snapshot;
 use std::sync::{Arc, Wait};
-use std::test::Fail;
 use std::thread;
 use std::thread::{Promise, Threads};
 
@@ -36,6 +35,15 @@ fn accepted(alloc: Global) -> Result<Prepared, OutOfMemory>
         choice: None,
     };
     Prepared::new(alloc, step)
+}
+
+// A board on which that step is published, and its first pass.
+fn opened<R: Wait + Drop>(rt: R, alloc: Global) -> Result<(Desk<R>, Pass), OutOfMemory>
+    ensures step { IfOk result (λ r. steps_of r.0.list ≢ []) }
+    ensures pass { IfOk result (λ r. r.1.book ≡ r.0.book) }
+{
+    let step = accepted(alloc)?;
+    open(alloc, rt, step)
 }
 
 // Publishes a denial.
@@ -84,59 +92,106 @@ fn reads(pass: &mut Pass, revision: u64) -> bool {
     false
 }
 
-#[test]
-fn a_step_is_read_on_another_thread(rt: HostRuntime) -> Result<(), Fail> {
-    let alloc = rt.alloc();
-    let (mut desk, mut pass) = open(alloc, rt, accepted(alloc)?)?;
-    assert_eq!(rt; pass.state(false)?.revision(), 0);
-    let Ok(mut other) = pass.another() else {
-        return Err(OutOfMemory.into());
-    };
-    let Ok(reader) = thread::spawn(&rt, move || reads(&mut other, 1)) else {
-        return Err(OutOfMemory.into());
-    };
-    withdraw(alloc, &mut desk)?;
-    let ended = end_elsewhere(&rt, desk)?;
-    assert!(rt; reader.join(&rt));
-    let _recorded = settle(ended, &mut pass)?;
-    let state = pass.state(true)?;
-    assert!(rt; state.revision() == 1 && state.is_closed() && state.withdrawal().is_some());
-    Ok(())
-}
-
-#[test]
-fn a_board_has_sixty_four_places(rt: HostRuntime) -> Result<(), Fail> {
-    let alloc = rt.alloc();
-    let (_desk, mut pass) = open(alloc, rt, accepted(alloc)?)?;
-    let mut places = BoardPlaces::new();
-    let Ok(other) = places.take(&mut pass) else {
-        return Err(OutOfMemory.into());
-    };
-    other.give_back(&mut pass);
-    let mut others = Vec::new(alloc);
-    for _ in 1..PLACES {
-        let Ok(other) = places.take(&mut pass) else {
-            return Err(OutOfMemory.into());
-        };
-        others.push(other)?;
+// Whether the state of an open source has revision 0, and nothing is withdrawn.
+fn is_opening(pass: &mut Pass) -> bool
+    ensures { pass.new.book ≡ pass.old.book }
+{
+    match pass.state(false) {
+        Ok(state) => {
+            let found = state.revision() == 0 && !state.is_closed() && state.withdrawal().is_none();
+            drop(state);
+            found
+        }
+        Err(OutOfMemory) => false,
     }
-    assert!(rt; matches!(places.take(&mut pass), Err(PlaceFault::Refused)));
-    assert!(rt;
-        matches!(
-            RefusingPlaces::new().take(&mut pass),
-            Err(PlaceFault::Refused)
-        )
-    );
-    assert!(rt; !pass.is_usable(Some(0)));
-    Ok(())
+}
+
+// Whether the state of a closed source has revision 1, at which the material is withdrawn.
+fn is_withdrawn(pass: &mut Pass) -> bool
+    ensures { pass.new.book ≡ pass.old.book }
+{
+    match pass.state(true) {
+        Ok(state) => {
+            let found = state.revision() == 1 && state.is_closed() && state.withdrawal().is_some();
+            drop(state);
+            found
+        }
+        Err(OutOfMemory) => false,
+    }
+}
+
+// Whether what an ended writer has published is recorded, with its end.
+fn is_settled<R: Wait + Drop>(ended: Ended<R>, pass: &mut Pass) -> bool
+    requires { pass.old.book ≡ ended.book }
+{
+    match settle(ended, pass) {
+        Ok(recorded) => {
+            drop(recorded);
+            true
+        }
+        Err(OutOfMemory) => false,
+    }
 }
 
 #[test]
-fn a_pass_reads_on_after_the_writer(rt: HostRuntime) -> Result<(), Fail> {
+fn a_step_is_read_on_another_thread(rt: HostRuntime) {
     let alloc = rt.alloc();
-    let (desk, mut pass) = open(alloc, rt, accepted(alloc)?)?;
-    assert!(rt; settle(desk.stop(), &mut pass).is_err());
-    let state = pass.state(false)?;
-    assert!(rt; state.revision() == 0 && !state.is_closed() && state.withdrawal().is_none());
-    Ok(())
+    let (mut desk, mut pass) = opened(rt, alloc).expect(&rt, "a board");
+    assert!(rt; is_opening(&mut pass));
+    let mut other = pass.another().expect(&rt, "a place");
+    let reader = thread::spawn(&rt, move || reads(&mut other, 1)).expect(&rt, "a thread");
+    withdraw(alloc, &mut desk).expect(&rt, "a denial");
+    let ended = end_elsewhere(&rt, desk).expect(&rt, "a thread");
+    assert!(rt; reader.join(&rt));
+    assert!(rt; is_settled(ended, &mut pass));
+    assert!(rt; is_withdrawn(&mut pass));
+    drop(pass);
+}
+
+// Whether there is a place, which is given back.
+fn has_place(places: &mut BoardPlaces, pass: &mut Pass) -> bool {
+    match places.take(pass) {
+        Ok(other) => {
+            other.give_back(pass);
+            true
+        }
+        Err(_) => false,
+    }
+}
+
+// Whether there is no place.
+fn is_refused<L: Places>(places: &mut L, pass: &mut Pass) -> bool {
+    match places.take(pass) {
+        Ok(other) => {
+            drop(other);
+            false
+        }
+        Err(fault) => fault == PlaceFault::Refused,
+    }
+}
+
+#[test]
+fn a_board_has_sixty_four_places(rt: HostRuntime) {
+    let (desk, mut pass) = opened(rt, rt.alloc()).expect(&rt, "a board");
+    let mut places = BoardPlaces::new();
+    assert!(rt; has_place(&mut places, &mut pass));
+    let mut others = Vec::new(rt.alloc());
+    for _ in 1..PLACES {
+        let other = places.take(&mut pass).expect(&rt, "a place");
+        assert!(rt; others.push(other).is_ok());
+    }
+    assert!(rt; is_refused(&mut places, &mut pass));
+    assert!(rt; is_refused(&mut RefusingPlaces::new(), &mut pass));
+    assert!(rt; !pass.is_usable(Some(0)));
+    drop(others);
+    drop(pass);
+    drop(desk);
+}
+
+#[test]
+fn a_pass_reads_on_after_the_writer(rt: HostRuntime) {
+    let (desk, mut pass) = opened(rt, rt.alloc()).expect(&rt, "a board");
+    assert!(rt; !is_settled(desk.stop(), &mut pass));
+    assert!(rt; is_opening(&mut pass));
+    drop(pass);
 }

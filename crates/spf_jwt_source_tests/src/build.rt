@@ -4,6 +4,7 @@ ghost use Rattle.std.specs.Prelude.{◌≡◌};
 
 use crate::links::{good, refusing};
 use spf_api::GrpcStatusCode;
+use spf_io::OutOfMemory;
 use spf_job::{InlineSpawner, RefusingSpawner, Spawner, StepWords};
 use spf_jwt_board::{BoardPlaces, JwtPass, JwtPlaces, RefusingPlaces};
 use spf_jwt_feed::{JwtSourceError, NoRecorder};
@@ -12,7 +13,6 @@ use spf_link::MemConnector;
 use spf_system::{Clock, Pause};
 use std::alloc::Global;
 use std::sync::Wait;
-use std::test::Fail;
 use std::time::Duration;
 
 type Builder = JwtSourceBuilder<MemConnector, NoRecorder>;
@@ -57,7 +57,7 @@ enum Outcome {
     Other,
 }
 
-fn error_of(error: &JwtSourceError) -> Outcome {
+fn outcome_of(error: &JwtSourceError) -> Outcome {
     match error {
         JwtSourceError::Source(_) => Outcome::Source,
         JwtSourceError::UnsupportedRpc(_) => Outcome::UnsupportedRpc,
@@ -73,8 +73,12 @@ fn revision(source: &JwtSource, pass: &mut JwtPass) -> Outcome
     requires { pass.old.book ≡ source.now.board }
 {
     match source.state(pass) {
-        Ok(state) => Outcome::Revision(state.revision()),
-        Err(_) => Outcome::Other,
+        Ok(state) => {
+            let revision = state.revision();
+            drop(state);
+            Outcome::Revision(revision)
+        }
+        Err(OutOfMemory) => Outcome::Other,
     }
 }
 
@@ -101,13 +105,23 @@ where
         spawner,
         places,
     ) {
-        Ok((source, mut pass, _handle)) => revision(&source, &mut pass),
-        Err(error) => error_of(&error),
+        Ok((source, mut pass, handle)) => {
+            let found = revision(&source, &mut pass);
+            drop(handle);
+            drop(pass);
+            drop(source);
+            found
+        }
+        Err(error) => {
+            let found = outcome_of(&error);
+            drop(error);
+            found
+        }
     }
 }
 
 /// A builder over a link that refuses its start with this status.
-fn refused(alloc: Global, code: GrpcStatusCode) -> Result<Builder, Fail> {
+fn refused(alloc: Global, code: GrpcStatusCode) -> Result<Builder, OutOfMemory> {
     Ok(JwtSourceBuilder::new(refusing(alloc, code)?))
 }
 
@@ -122,38 +136,37 @@ fn built<R: Wait + Copy + Drop>(rt: R, alloc: Global, builder: Builder) -> Outco
     )
 }
 
+/// A builder over a link that gives the item JI.
+fn ready(alloc: Global) -> Result<Builder, OutOfMemory> {
+    Ok(JwtSourceBuilder::new(good(alloc)?))
+}
+
 /// The answers of one link, and the timeout.
 #[test]
-fn build_causes(rt: HostRuntime) -> Result<(), Fail> {
+fn build_causes(rt: HostRuntime) {
     let alloc = rt.alloc();
-    let rejected = refused(alloc, GrpcStatusCode::InvalidArgument)?;
+    let rejected = refused(alloc, GrpcStatusCode::InvalidArgument).expect(&rt, "a builder");
     assert!(rt; built(rt, alloc, rejected) == Outcome::Source);
-    let unsupported = refused(alloc, GrpcStatusCode::Unimplemented)?;
+    let unsupported = refused(alloc, GrpcStatusCode::Unimplemented).expect(&rt, "a builder");
     assert!(rt; built(rt, alloc, unsupported) == Outcome::UnsupportedRpc);
-    let late = JwtSourceBuilder::new(good(alloc)?).initial_sync_timeout(Duration::from_secs(0));
+    let late = ready(alloc).expect(&rt, "a builder");
+    let late = late.initial_sync_timeout(Duration::from_secs(0));
     assert!(rt; built(rt, alloc, late) == Outcome::TimedOut);
-    let ready = JwtSourceBuilder::new(good(alloc)?);
+    let ready = ready(alloc).expect(&rt, "a builder");
     assert!(rt; built(rt, alloc, ready) == Outcome::Revision(0));
-    Ok(())
 }
 
 /// What a build gives without a place, and without a supervisor.
 #[test]
-fn refused_builds(rt: HostRuntime) -> Result<(), Fail> {
+fn refused_builds(rt: HostRuntime) {
     let alloc = rt.alloc();
-    let unplaced = JwtSourceBuilder::new(good(alloc)?);
+    let unplaced = ready(alloc).expect(&rt, "a builder");
     let mut refusing = RefusingPlaces::new();
     let no_place = try_build(rt, alloc, unplaced, &mut InlineSpawner, &mut refusing);
     assert!(rt; no_place == Outcome::NoPlace);
-    let unsupervised = JwtSourceBuilder::new(good(alloc)?);
+    let unsupervised = ready(alloc).expect(&rt, "a builder");
     let mut spawner = RefusingSpawner::new();
-    let no_supervisor = try_build(
-        rt,
-        alloc,
-        unsupervised,
-        &mut spawner,
-        &mut BoardPlaces::new(),
-    );
+    let mut places = BoardPlaces::new();
+    let no_supervisor = try_build(rt, alloc, unsupervised, &mut spawner, &mut places);
     assert!(rt; no_supervisor == Outcome::NoSupervisor);
-    Ok(())
 }

@@ -4,10 +4,9 @@ use spf_api::{
     BundleEntry, BundlesResponse, GrpcStatusCode, GrpcStatusError, JwtSvidEntry, JwtSvidsResponse,
     LinkFault, Response,
 };
-use spf_io::{Bytes, List, Text};
+use spf_io::{Bytes, List, OutOfMemory, Text};
 use spf_link::{Answer, MemConnector, MemLink};
 use std::alloc::Global;
-use std::test::Fail;
 
 /// The header `{"alg":"ES256","kid":"k1","typ":"JWT"}` and the claims
 /// `{"sub":"spiffe://example.org/w","aud":"a","exp":9}`.
@@ -17,7 +16,7 @@ pub(crate) const TOKEN1: &str = "eyJhbGciOiJFUzI1NiIsImtpZCI6ImsxIiwidHlwIjoiSld
 const KEYS: &str = "{\"keys\":[{\"kid\":\"k\",\"kty\":\"EC\"}]}";
 
 /// The item JI: one key set, of `example.org`, with one key.
-pub(crate) fn key_sets(alloc: Global) -> Result<BundlesResponse, Fail> {
+pub(crate) fn key_sets(alloc: Global) -> Result<BundlesResponse, OutOfMemory> {
     let entry = BundleEntry {
         name: Text::copy_of(alloc, "spiffe://example.org")?,
         bundle: Bytes::copy_of(alloc, KEYS.as_bytes())?,
@@ -27,7 +26,7 @@ pub(crate) fn key_sets(alloc: Global) -> Result<BundlesResponse, Fail> {
 }
 
 /// A response with the one token.
-fn token(alloc: Global) -> Result<Response, Fail> {
+fn token(alloc: Global) -> Result<Response, OutOfMemory> {
     let entry = JwtSvidEntry {
         spiffe_id: Text::copy_of(alloc, "spiffe://example.org/w")?,
         svid: Text::copy_of(alloc, TOKEN1)?,
@@ -38,32 +37,32 @@ fn token(alloc: Global) -> Result<Response, Fail> {
 }
 
 /// A refusal with this status.
-fn refusal(alloc: Global, code: GrpcStatusCode) -> Result<Answer, Fail> {
+fn refusal(alloc: Global, code: GrpcStatusCode) -> Result<Answer, OutOfMemory> {
     let message = Text::copy_of(alloc, "no")?;
     let status = GrpcStatusError::new(code, message);
     Ok(Answer::Refused(LinkFault::Status(status)))
 }
 
 /// A connector with one link that gives these answers.
-fn over(alloc: Global, answers: Vec<Answer>) -> Result<MemConnector, Fail> {
+fn over(alloc: Global, answers: Vec<Answer>) -> Result<MemConnector, OutOfMemory> {
     let link = MemLink::new(alloc, answers);
     Ok(MemConnector::new(alloc, vec![in alloc; Ok(link)]?))
 }
 
 /// A link that gives the item JI.
-pub(crate) fn good(alloc: Global) -> Result<MemConnector, Fail> {
+pub(crate) fn good(alloc: Global) -> Result<MemConnector, OutOfMemory> {
     let item = Answer::Item(Response::JwtBundles(key_sets(alloc)?));
     over(alloc, vec![in alloc; Answer::Started, item]?)
 }
 
 /// A link that gives the one token.
-pub(crate) fn granting(alloc: Global) -> Result<MemConnector, Fail> {
+pub(crate) fn granting(alloc: Global) -> Result<MemConnector, OutOfMemory> {
     let item = Answer::Item(token(alloc)?);
     over(alloc, vec![in alloc; Answer::Started, item]?)
 }
 
 /// A link that refuses its start with this status.
-pub(crate) fn refusing(alloc: Global, code: GrpcStatusCode) -> Result<MemConnector, Fail> {
+pub(crate) fn refusing(alloc: Global, code: GrpcStatusCode) -> Result<MemConnector, OutOfMemory> {
     let refusal = refusal(alloc, code)?;
     over(alloc, vec![in alloc; refusal]?)
 }

@@ -15,8 +15,8 @@ use spf_jwt_feed::{JwtPublisher, JwtSourceError, JwtStep};
 use spf_jwt_source::{JwtSource, JwtSourceUpdates};
 use spf_system::StopFlag;
 use std::alloc::Global;
+use std::process::Abort;
 use std::sync::{Arc, Wait};
-use std::test::Fail;
 use std::time::Clock;
 
 /// A step that accepts the bundle set.
@@ -25,6 +25,7 @@ fn accepting(alloc: Global, bundle_set: JwtBundleSet) -> Result<SharedStep, OutO
 {
     let limits = JwtResourceLimits::default_limits();
     if validate_jwt_limits(&bundle_set, limits).is_err() {
+        drop(bundle_set);
         return Err(OutOfMemory);
     }
     Ok(SharedStep::new(JwtStep::Accept {
@@ -34,28 +35,52 @@ fn accepting(alloc: Global, bundle_set: JwtBundleSet) -> Result<SharedStep, OutO
 }
 
 /// The bundle set of the item JI.
-fn first_bundles(alloc: Global) -> Result<JwtBundleSet, Fail> {
-    match jwt_bundle_set_from(alloc, &key_sets(alloc)?) {
+fn first_bundles(alloc: Global) -> Result<JwtBundleSet, OutOfMemory> {
+    let item = key_sets(alloc)?;
+    let bundle_set = jwt_bundle_set_from(alloc, &item);
+    drop(item);
+    match bundle_set {
         Ok(bundle_set) => Ok(bundle_set),
-        Err(_) => Err(Fail::from("no bundle set")),
+        Err(e) => {
+            drop(e);
+            Err(OutOfMemory)
+        }
     }
 }
 
+/// The step that accepts them.
+fn first_step(alloc: Global) -> Result<SharedStep, OutOfMemory>
+    ensures { IfOk result (λ step. MayFollow (Some []) step) }
+{
+    accepting(alloc, first_bundles(alloc)?)
+}
+
+/// A board on which that step is published, and its first pass.
+fn board_of<R: Wait + Drop>(rt: R, alloc: Global) -> Result<(JwtDesk<R>, JwtPass), OutOfMemory>
+    ensures step { IfOk result (λ r. steps_of r.0.list ≢ []) }
+    ensures pass { IfOk result (λ r. r.1.book ≡ r.0.book) }
+{
+    let step = first_step(alloc)?;
+    open(alloc, rt, step)
+}
+
 /// An open source, with the closer that sets its mark, and a pass of its board.
-pub(crate) fn opened<R: Wait + Drop>(
+pub(crate) fn opened<R: Wait + Abort + Copy + Drop>(
     rt: R,
     alloc: Global,
-) -> Result<(JwtSource, JwtPass, JwtDesk<R>, StopFlag), Fail>
-    ensures pass { IfOk result (λ r. r.1.book ≡ r.0.board) }
-    ensures step { IfOk result (λ r. steps_of r.2.list ≢ []) }
+) -> (JwtSource, JwtPass, JwtDesk<R>, StopFlag)
+    ensures pass { result.1.book ≡ result.0.board }
+    ensures step { steps_of result.2.list ≢ [] }
 {
-    let step = accepting(alloc, first_bundles(alloc)?)?;
-    let (desk, pass) = open(alloc, rt, step)?;
-    let (caller, _supervisor, _watch) = closed_cell(alloc)?;
-    let stop = StopFlag::new(alloc)?;
-    let bell = Bell::new(alloc)?;
-    let source = JwtSource::over(alloc, desk.front(), caller, stop.try_clone()?, bell)?;
-    Ok((source, pass, desk, stop))
+    let (desk, pass) = board_of(rt, alloc).expect(&rt, "a board");
+    let (caller, supervisor, watch) = closed_cell(alloc).expect(&rt, "a closed cell");
+    drop(supervisor);
+    drop(watch);
+    let stop = StopFlag::new(alloc).expect(&rt, "a flag");
+    let flag = stop.try_clone().expect(&rt, "a flag");
+    let bell = Bell::new(alloc).expect(&rt, "a bell");
+    let source = JwtSource::over(alloc, desk.front(), caller, flag, bell);
+    (source.expect(&rt, "a source"), pass, desk, stop)
 }
 
 /// Publishes a denial.
@@ -75,7 +100,7 @@ enum Given {
     Other,
 }
 
-fn error_of(error: &JwtSourceError) -> Given {
+fn given_of(error: &JwtSourceError) -> Given {
     match error {
         JwtSourceError::Withdrawn(_) => Given::Withdrawn,
         JwtSourceError::Closed => Given::Closed,
@@ -89,8 +114,15 @@ fn bundles_of(source: &JwtSource, pass: &mut JwtPass) -> Given
     ensures { pass.new.book ≡ pass.old.book }
 {
     match source.bundle_set(pass) {
-        Ok(_) => Given::Value,
-        Err(error) => error_of(&error),
+        Ok(bundles) => {
+            drop(bundles);
+            Given::Value
+        }
+        Err(error) => {
+            let given = given_of(&error);
+            drop(error);
+            given
+        }
     }
 }
 
@@ -99,8 +131,14 @@ fn has_bundle(source: &JwtSource, pass: &mut JwtPass, trust_domain: &TrustDomain
     requires { pass.old.book ≡ source.now.board }
     ensures { pass.new.book ≡ pass.old.book }
 {
-    let bundle = source.try_bundle_for_trust_domain(pass, trust_domain);
-    matches!(bundle, Ok(Some(_)))
+    match source.try_bundle_for_trust_domain(pass, trust_domain) {
+        Ok(Some(bundle)) => {
+            drop(bundle);
+            true
+        }
+        Ok(None) => false,
+        Err(OutOfMemory) => false,
+    }
 }
 
 /// The bundle set, whether there is a bundle of the trust domain, and whether the source is
@@ -119,37 +157,53 @@ fn is_closed_at(source: &JwtSource, pass: &mut JwtPass, revision: u64) -> bool
     requires { pass.old.book ≡ source.now.board }
 {
     match source.state(pass) {
-        Ok(state) => state.is_closed() && state.revision() == revision,
-        Err(_) => false,
+        Ok(state) => {
+            let found = state.is_closed() && state.revision() == revision;
+            drop(state);
+            found
+        }
+        Err(OutOfMemory) => false,
     }
 }
 
 /// What the getters return before and after a shutdown.
 #[test]
-fn after_shutdown(rt: HostRuntime) -> Result<(), Fail> {
+fn after_shutdown(rt: HostRuntime) {
     let alloc = rt.alloc();
-    let domain = TrustDomain::new(alloc, "example.org")?;
-    let (mut source, mut pass, mut desk, stop) = opened(rt, alloc)?;
+    let domain = TrustDomain::new(alloc, "example.org").expect(&rt, "a trust domain");
+    let (mut source, mut pass, mut desk, stop) = opened(rt, alloc);
     assert!(rt; gets(&source, &mut pass, &domain) == (Given::Value, true, true));
-    withdraw(alloc, &mut desk)?;
+    assert!(rt; withdraw(alloc, &mut desk).is_ok());
     assert!(rt; gets(&source, &mut pass, &domain) == (Given::Withdrawn, false, false));
     source.shutdown();
     assert!(rt; stop.is_set());
     assert!(rt; gets(&source, &mut pass, &domain) == (Given::Closed, false, false));
     assert!(rt; is_closed_at(&source, &mut pass, 1));
-    Ok(())
+    drop(stop);
+    drop(desk);
+    drop(pass);
+    drop(source);
+    drop(domain);
 }
 
-/// The revision of the last state of updates, and whether it said that the source is closed, once
-/// by `last` and once by `state`.
-fn followed(source: &JwtSource, pass: &mut JwtPass) -> Result<(u64, u64, bool), JwtSourceError>
-    requires { pass.old.book ≡ source.now.board }
-    ensures { pass.new.book ≡ pass.old.book }
-{
-    let mut updates = source.updated(pass, &mut BoardPlaces::new())?;
-    let last = updates.last()?;
-    let state = updates.state()?;
-    Ok((last, state.revision(), state.is_closed()))
+/// Whether the last revision of updates is 0.
+fn has_last(updates: &mut JwtSourceUpdates) -> bool {
+    match updates.last() {
+        Ok(last) => last == 0,
+        Err(OutOfMemory) => false,
+    }
+}
+
+/// Whether the state of updates has revision 0, and says accordingly whether the source is closed.
+fn has_state(updates: &mut JwtSourceUpdates, is_closed: bool) -> bool {
+    match updates.state() {
+        Ok(state) => {
+            let found = state.revision() == 0 && state.is_closed() == is_closed;
+            drop(state);
+            found
+        }
+        Err(OutOfMemory) => false,
+    }
 }
 
 /// Whether updates follow revision 0, and say accordingly whether the source is closed.
@@ -157,9 +211,16 @@ fn follows_first(source: &JwtSource, pass: &mut JwtPass, is_closed: bool) -> boo
     requires { pass.old.book ≡ source.now.board }
     ensures { pass.new.book ≡ pass.old.book }
 {
-    match followed(source, pass) {
-        Ok(found) => found == (0, 0, is_closed),
-        Err(_) => false,
+    match source.updated(pass, &mut BoardPlaces::new()) {
+        Ok(mut updates) => {
+            let found = has_last(&mut updates) && has_state(&mut updates, is_closed);
+            drop(updates);
+            found
+        }
+        Err(error) => {
+            drop(error);
+            false
+        }
     }
 }
 
@@ -168,20 +229,30 @@ fn lacks_place(source: &JwtSource, pass: &mut JwtPass) -> bool
     requires { pass.old.book ≡ source.now.board }
 {
     match source.another_pass(pass, &mut RefusingPlaces::new()) {
-        Err(JwtSourceError::NoPlace) => true,
-        _ => false,
+        Ok(other) => {
+            drop(other);
+            false
+        }
+        Err(error) => {
+            let found = matches!(&error, JwtSourceError::NoPlace);
+            drop(error);
+            found
+        }
     }
 }
 
 /// Updates go on after the source is closed. Where there is no place there are none.
 #[test]
-fn updates_of_a_source(rt: HostRuntime) -> Result<(), Fail> {
-    let (mut source, mut pass, _desk, _stop) = opened(rt, rt.alloc())?;
+fn updates_of_a_source(rt: HostRuntime) {
+    let (mut source, mut pass, desk, stop) = opened(rt, rt.alloc());
     assert!(rt; follows_first(&source, &mut pass, false));
     source.shutdown();
     assert!(rt; follows_first(&source, &mut pass, true));
     assert!(rt; lacks_place(&source, &mut pass));
-    Ok(())
+    drop(stop);
+    drop(desk);
+    drop(pass);
+    drop(source);
 }
 
 /// What a wait for a revision returned.
@@ -192,45 +263,59 @@ enum Awaited {
     Other,
 }
 
-fn awaited_of(answer: &Result<u64, JwtSourceError>) -> Awaited {
+fn awaited_of(answer: Result<u64, JwtSourceError>) -> Awaited {
     match answer {
-        Ok(revision) => Awaited::Revision(*revision),
-        Err(JwtSourceError::Closed) => Awaited::Closed,
-        Err(_) => Awaited::Other,
+        Ok(revision) => Awaited::Revision(revision),
+        Err(error) => {
+            let is_closed = matches!(&error, JwtSourceError::Closed);
+            drop(error);
+            if is_closed {
+                Awaited::Closed
+            } else {
+                Awaited::Other
+            }
+        }
     }
 }
 
 /// What waits return: `wait_for` with the revisions from 1 on, and `changed`.
 fn waits<R: Wait + Clock>(rt: &R, updates: &mut JwtSourceUpdates) -> (Awaited, Awaited) {
-    let taken = updates.wait_for(rt, |revision| *revision >= 1);
-    let taken = awaited_of(&taken);
-    let changed = updates.changed(rt);
-    (taken, awaited_of(&changed))
+    let taken = awaited_of(updates.wait_for(rt, |revision| *revision >= 1));
+    (taken, awaited_of(updates.changed(rt)))
 }
 
 /// Waits end at once where there is another revision, or the source is closed.
 #[test]
-fn waits_for_a_change(rt: HostRuntime) -> Result<(), Fail> {
-    let (mut source, mut pass, mut desk, _stop) = opened(rt, rt.alloc())?;
-    let mut updates = source.updated(&mut pass, &mut BoardPlaces::new())?;
-    let mut late = source.updated(&mut pass, &mut BoardPlaces::new())?;
-    withdraw(rt.alloc(), &mut desk)?;
+fn waits_for_a_change(rt: HostRuntime) {
+    let (mut source, mut pass, mut desk, stop) = opened(rt, rt.alloc());
+    let updates = source.updated(&mut pass, &mut BoardPlaces::new());
+    let mut updates = updates.expect(&rt, "updates");
+    let late = source.updated(&mut pass, &mut BoardPlaces::new());
+    let mut late = late.expect(&rt, "updates");
+    assert!(rt; withdraw(rt.alloc(), &mut desk).is_ok());
     let first = Awaited::Revision(1);
     assert!(rt; waits(&rt, &mut updates) == (first, first));
     source.shutdown();
     assert!(rt; waits(&rt, &mut late) == (Awaited::Closed, first));
     assert!(rt; waits(&rt, &mut late) == (Awaited::Closed, Awaited::Closed));
-    Ok(())
+    drop(late);
+    drop(updates);
+    drop(stop);
+    drop(desk);
+    drop(pass);
+    drop(source);
 }
 
 /// The source is closed when its last handle is dropped, and not before.
 #[test]
-fn last_handle_closes(rt: HostRuntime) -> Result<(), Fail> {
-    let (mut source, _pass, _desk, stop) = opened(rt, rt.alloc())?;
-    let other = source.try_clone()?;
+fn last_handle_closes(rt: HostRuntime) {
+    let (mut source, pass, desk, stop) = opened(rt, rt.alloc());
+    let other = source.try_clone().expect(&rt, "a handle");
     drop(source);
     assert!(rt; !stop.is_set());
     drop(other);
     assert!(rt; stop.is_set());
-    Ok(())
+    drop(stop);
+    drop(desk);
+    drop(pass);
 }

@@ -71,7 +71,7 @@ pub enum Outcome {
     Other,
 }
 
-fn error_of(e: X509SourceError) -> Outcome {
+fn error_of(e: &X509SourceError) -> Outcome {
     match e {
         X509SourceError::Source(WorkloadApiError::Endpoint(EndpointError::Parse(_))) => {
             Outcome::NoEndpoint
@@ -90,7 +90,11 @@ fn revision(source: &X509Source, pass: &mut Pass) -> Outcome
     requires { pass.old.book ≡ source.now.board }
 {
     match source.state(pass) {
-        Ok(state) => Outcome::Revision(state.revision()),
+        Ok(state) => {
+            let revision = state.revision();
+            drop(state);
+            Outcome::Revision(revision)
+        }
         Err(OutOfMemory) => Outcome::Other,
     }
 }
@@ -122,7 +126,17 @@ where
         spawner,
         places,
     ) {
-        Ok((source, mut pass, _handle)) => revision(&source, &mut pass),
-        Err(e) => error_of(e),
+        Ok((source, mut pass, handle)) => {
+            let found = revision(&source, &mut pass);
+            drop(handle);
+            drop(pass);
+            drop(source);
+            found
+        }
+        Err(e) => {
+            let found = error_of(&e);
+            drop(e);
+            found
+        }
     }
 }

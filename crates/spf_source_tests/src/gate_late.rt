@@ -10,6 +10,7 @@ use spf_x509_board::{BoardPlaces, Desk, Pass};
 use spiffe::X509Source;
 use std::alloc::Global;
 use std::marker::Model;
+use std::process::Abort;
 use std::sync::Wait;
 use std::test::Fail;
 
@@ -92,40 +93,46 @@ impl<R: Wait + Drop> Source for LateAsk<R> {
 }
 
 /// An input of asks of this source, whose denial this desk publishes.
-fn late_ask<R: Wait + Drop>(
+fn late_ask<R: Wait + Abort + Copy + Drop>(
+    rt: R,
     alloc: Global,
     source: &mut X509Source,
     pass: &mut Pass,
     desk: Desk<R>,
-) -> Result<LateAsk<R>, Fail>
+) -> LateAsk<R>
     requires { (pass.old.book ≡ source.old.board) × (steps_of desk.list ≢ []) }
     ensures { pass.new.book ≡ source.new.board }
 {
-    let other = source.another_pass(pass, &mut BoardPlaces::new())?;
-    Ok(LateAsk {
+    let other = source.another_pass(pass, &mut BoardPlaces::new());
+    let other = other.expect(&rt, "a pass");
+    let source = source.try_clone().expect(&rt, "a handle");
+    LateAsk {
         alloc,
-        source: source.try_clone()?,
+        source,
         other,
         desk: Some(desk),
         spent: None,
         is_begun: false,
         failures: 0,
-    })
+    }
 }
 
 const LINES: &str = "no-rule 0 spiffe://example.org/w\nwithdrawn 1 spiffe://example.org/w\n";
 
-/// Whether the second of two asks is answered by a denial that another pass has read between them.
-fn is_late_denial_answered<R: Wait + Drop>(rt: R, alloc: Global) -> Result<bool, Fail> {
-    let mut out = MemSink::new(alloc, 4096, Vec::new(alloc))?;
-    let (mut source, mut pass, desk, _stop) = opened(rt, alloc)?;
-    let mut input = late_ask(alloc, &mut source, &mut pass, desk)?;
-    let end = gate_serve(alloc, &source, &mut pass, &mut input, &mut out, 100);
-    Ok(out.bytes() == LINES.as_bytes() && end == Ok(2))
-}
-
+/// The second of two asks is answered by a denial that another pass has read between them.
 #[test]
 fn denial_between_two_asks(rt: HostRuntime) -> Result<(), Fail> {
-    assert!(rt; is_late_denial_answered(rt, rt.alloc())?);
+    let alloc = rt.alloc();
+    let (mut source, mut pass, desk, stop) = opened(rt, alloc)?;
+    let mut out = MemSink::new(alloc, 4096, Vec::new(alloc)).expect(&rt, "a sink");
+    let mut input = late_ask(rt, alloc, &mut source, &mut pass, desk);
+    let end = gate_serve(alloc, &source, &mut pass, &mut input, &mut out, 100);
+    assert!(rt; end == Ok(2));
+    assert!(rt; out.bytes() == LINES.as_bytes());
+    drop(input);
+    drop(out);
+    drop(stop);
+    drop(pass);
+    drop(source);
     Ok(())
 }

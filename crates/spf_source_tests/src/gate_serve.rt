@@ -3,34 +3,19 @@
 use crate::source::opened;
 use spf_gate::{GateError, gate_serve};
 use spf_io::{MemSink, MemSource};
-use std::alloc::Global;
+use std::alloc::{AllocError, Global};
+use std::process::Abort;
 use std::sync::Wait;
 use std::test::Fail;
 
-/// The lines of an answered input, and how it ends.
-type Served = (MemSink, Result<u64, GateError>);
-
-/// What is written for an input by a source that holds the item I1, and how its answering ends.
-fn served<R: Wait + Drop>(
-    rt: R,
-    alloc: Global,
-    input: &[u8],
-    max_lines: u64,
-) -> Result<Served, Fail> {
-    let mut input = source_of(alloc, input)?;
-    let mut out = MemSink::new(alloc, 4096, Vec::new(alloc))?;
-    let (source, mut pass, _desk, _stop) = opened(rt, alloc)?;
-    let end = gate_serve(alloc, &source, &mut pass, &mut input, &mut out, max_lines);
-    Ok((out, end))
-}
-
-fn source_of(alloc: Global, input: &[u8]) -> Result<MemSource, Fail> {
+fn source_of(alloc: Global, input: &[u8]) -> Result<MemSource, AllocError> {
     let bytes = Vec::from_slice(alloc, input)?;
     Ok(MemSource::new(bytes, Vec::new(alloc), Vec::new(alloc)))
 }
 
-/// Whether these lines are written for the input, and its answering ends like this.
-fn is_served<R: Wait + Drop>(
+/// Whether these lines are written for the input by a source that holds the item I1, and its
+/// answering ends like this.
+fn is_served<R: Wait + Abort + Copy + Drop>(
     rt: R,
     alloc: Global,
     input: &[u8],
@@ -38,8 +23,18 @@ fn is_served<R: Wait + Drop>(
     lines: &str,
     wanted: Result<u64, GateError>,
 ) -> Result<bool, Fail> {
-    let (out, end) = served(rt, alloc, input, max_lines)?;
-    Ok(out.bytes() == lines.as_bytes() && end == wanted)
+    let (source, mut pass, desk, stop) = opened(rt, alloc)?;
+    let mut input = source_of(alloc, input).expect(&rt, "an input");
+    let mut out = MemSink::new(alloc, 4096, Vec::new(alloc)).expect(&rt, "a sink");
+    let end = gate_serve(alloc, &source, &mut pass, &mut input, &mut out, max_lines);
+    let found = out.bytes() == lines.as_bytes() && end == wanted;
+    drop(out);
+    drop(input);
+    drop(stop);
+    drop(desk);
+    drop(pass);
+    drop(source);
+    Ok(found)
 }
 
 /// An input, the maximum number of its lines, what is written, and the end.
@@ -110,26 +105,27 @@ fn inputs(rt: HostRuntime) -> Result<(), Fail> {
     Ok(())
 }
 
-/// An input without rules, whose second ask has that many bytes.
-fn long_ask(alloc: Global, count: usize) -> Result<Vec<u8>, Fail> {
-    let mut ask = Vec::new(alloc);
-    ask.resize(count, b'a')?;
-    let mut input = Vec::from_slice(alloc, b"---\nx\n")?;
-    input.extend_from_slice(ask.as_slice())?;
-    input.push(b'\n')?;
-    Ok(input)
+/// Adds an input without rules, whose second ask has that many bytes.
+fn add_long_ask(input: &mut Vec<u8>, count: usize) -> Result<(), Fail> {
+    input.extend_from_slice(b"---\nx\n")?;
+    input.resize(input.len().saturating_add(count), b'a')?;
+    input.extend_from_slice(b"\n")?;
+    Ok(())
 }
 
 /// Whether an ask of `count` bytes after a first ask gives these lines and this result.
-fn is_long_ask_served<R: Wait + Drop>(
+fn is_long_ask_served<R: Wait + Abort + Copy + Drop>(
     rt: R,
     alloc: Global,
     count: usize,
     lines: &str,
     wanted: Result<u64, GateError>,
 ) -> Result<bool, Fail> {
-    let input = long_ask(alloc, count)?;
-    is_served(rt, alloc, input.as_slice(), 100, lines, wanted)
+    let mut input = Vec::new(alloc);
+    add_long_ask(&mut input, count)?;
+    let found = is_served(rt, alloc, input.as_slice(), 100, lines, wanted);
+    drop(input);
+    found
 }
 
 /// A line of 4,096 bytes is an ask, and a longer one is refused, after the answers before it.

@@ -40,8 +40,14 @@ fn recorded<R: Wait + Copy + Drop>(handle: Handle<R>, pass: Pass) -> Option<Show
     requires { pass.book ≡ handle.job.board }
 {
     let mut pass = pass;
-    match handle.close_and_join().into_record(&mut pass) {
-        Ok(record) => Some(summary(&record)),
+    let record = handle.close_and_join().into_record(&mut pass);
+    drop(pass);
+    match record {
+        Ok(record) => {
+            let shown = summary(&record);
+            drop(record);
+            Some(shown)
+        }
         Err(_) => None,
     }
 }
@@ -61,8 +67,15 @@ fn recorded_of<R: Wait + Copy + Drop>(
         &mut InlineSpawner,
         &mut BoardPlaces::new(),
     ) {
-        Ok((_source, pass, handle)) => recorded(handle, pass),
-        Err(_) => None,
+        Ok((source, pass, handle)) => {
+            let shown = recorded(handle, pass);
+            drop(source);
+            shown
+        }
+        Err(e) => {
+            drop(e);
+            None
+        }
     }
 }
 

@@ -18,6 +18,7 @@ use spf_x509::X509Context;
 use spf_x509_board::{BoardPlaces, Desk, Pass, RefusingPlaces, open};
 use spiffe::{X509Source, X509SourceUpdates};
 use std::alloc::Global;
+use std::process::Abort;
 use std::sync::{Arc, Wait};
 use std::test::Fail;
 use std::time::Clock;
@@ -28,6 +29,7 @@ fn accepting(alloc: Global, context: X509Context) -> Result<Prepared, OutOfMemor
 {
     let limits = ResourceLimits::default_limits();
     if validate_limits(&context, limits).is_err() {
+        drop(context);
         return Err(OutOfMemory);
     }
     let choice = select_svid(&context, None::<&NoPicker>);
@@ -41,10 +43,10 @@ fn accepting(alloc: Global, context: X509Context) -> Result<Prepared, OutOfMemor
 
 /// The context of the item I1.
 fn first_context(alloc: Global) -> Result<X509Context, Fail> {
-    match context_from(alloc, &first_item(alloc)?) {
-        Ok(context) => Ok(context),
-        Err(_) => Err(Fail::from("no context")),
-    }
+    let item = first_item(alloc)?;
+    let context = context_from(alloc, &item);
+    drop(item);
+    Ok(context?)
 }
 
 /// What a getter returned.
@@ -56,12 +58,25 @@ enum Given {
     Other,
 }
 
+fn given_of(e: &X509SourceError) -> Given {
+    match e {
+        X509SourceError::NoSuitableSvid => Given::NoSvid,
+        X509SourceError::Closed => Given::Closed,
+        _ => Given::Other,
+    }
+}
+
 fn outcome_of<T: Drop>(answer: Result<T, X509SourceError>) -> Given {
     match answer {
-        Ok(_) => Given::Value,
-        Err(X509SourceError::NoSuitableSvid) => Given::NoSvid,
-        Err(X509SourceError::Closed) => Given::Closed,
-        Err(_) => Given::Other,
+        Ok(value) => {
+            drop(value);
+            Given::Value
+        }
+        Err(e) => {
+            let given = given_of(&e);
+            drop(e);
+            given
+        }
     }
 }
 
@@ -75,18 +90,32 @@ fn gets(source: &X509Source, pass: &mut Pass, now: Option<i64>) -> (Given, Given
     (context, svid, outcome_of(source.bundle_set(pass)))
 }
 
+/// Whether something was found.
+fn is_found<T: Drop>(answer: Result<Option<T>, OutOfMemory>) -> bool {
+    match answer {
+        Ok(Some(value)) => {
+            drop(value);
+            true
+        }
+        Ok(None) => false,
+        Err(OutOfMemory) => false,
+    }
+}
+
 /// Whether there is an SVID at 999, and a bundle of the trust domain.
 fn tries(source: &X509Source, pass: &mut Pass, trust_domain: &TrustDomain) -> (bool, bool)
     requires { pass.old.book ≡ source.now.board }
     ensures { pass.new.book ≡ pass.old.book }
 {
-    let svid = matches!(source.try_svid(pass, Some(999)), Ok(Some(_)));
-    let bundle = source.try_bundle_for_trust_domain(pass, trust_domain);
-    (svid, matches!(bundle, Ok(Some(_))))
+    let svid = is_found(source.try_svid(pass, Some(999)));
+    (
+        svid,
+        is_found(source.try_bundle_for_trust_domain(pass, trust_domain)),
+    )
 }
 
 /// An open source, with the closer that sets its mark, and a pass of its board.
-pub(crate) fn opened<R: Wait + Drop>(
+pub(crate) fn opened<R: Wait + Abort + Copy + Drop>(
     rt: R,
     alloc: Global,
 ) -> Result<(X509Source, Pass, Desk<R>, StopFlag), Fail>
@@ -95,11 +124,14 @@ pub(crate) fn opened<R: Wait + Drop>(
 {
     let step = accepting(alloc, first_context(alloc)?)?;
     let (desk, pass) = open(alloc, rt, step)?;
-    let (caller, _supervisor, _watch) = closed_cell(alloc)?;
-    let stop = StopFlag::new(alloc)?;
-    let bell = Bell::new(alloc)?;
-    let source = X509Source::over(alloc, desk.front(), caller, stop.try_clone()?, bell)?;
-    Ok((source, pass, desk, stop))
+    let (caller, supervisor, watch) = closed_cell(alloc).expect(&rt, "a closed cell");
+    drop(supervisor);
+    drop(watch);
+    let stop = StopFlag::new(alloc).expect(&rt, "a flag");
+    let flag = stop.try_clone().expect(&rt, "a flag");
+    let bell = Bell::new(alloc).expect(&rt, "a bell");
+    let source = X509Source::over(alloc, desk.front(), caller, flag, bell);
+    Ok((source.expect(&rt, "a source"), pass, desk, stop))
 }
 
 /// Whether an open source gives its values, whose SVID has expired at 1000.
@@ -127,25 +159,38 @@ fn gives_nothing(source: &X509Source, pass: &mut Pass, domain: &TrustDomain) -> 
 /// What the getters return before and after a shutdown.
 #[test]
 fn after_shutdown(rt: HostRuntime) -> Result<(), Fail> {
-    let domain = TrustDomain::new(rt.alloc(), "example.org")?;
-    let (mut source, mut pass, _desk, stop) = opened(rt, rt.alloc())?;
+    let (mut source, mut pass, desk, stop) = opened(rt, rt.alloc())?;
+    let domain = TrustDomain::new(rt.alloc(), "example.org").expect(&rt, "a trust domain");
     assert!(rt; gives_values(&source, &mut pass, &domain));
     source.shutdown();
     assert!(rt; stop.is_set());
     assert!(rt; gives_nothing(&source, &mut pass, &domain));
+    drop(domain);
+    drop(stop);
+    drop(desk);
+    drop(pass);
+    drop(source);
     Ok(())
 }
 
-/// The revision of the last state of updates, and whether it said that the source is closed, once
-/// by `last` and once by `state`.
-fn followed(source: &X509Source, pass: &mut Pass) -> Result<(u64, u64, bool), X509SourceError>
-    requires { pass.old.book ≡ source.now.board }
-    ensures { pass.new.book ≡ pass.old.book }
-{
-    let mut updates = source.updated(pass, &mut BoardPlaces::new())?;
-    let last = updates.last()?;
-    let state = updates.state()?;
-    Ok((last, state.revision(), state.is_closed()))
+/// Whether the last revision of updates is 0.
+fn has_last(updates: &mut X509SourceUpdates) -> bool {
+    match updates.last() {
+        Ok(last) => last == 0,
+        Err(OutOfMemory) => false,
+    }
+}
+
+/// Whether the state of updates has revision 0, and says accordingly whether the source is closed.
+fn has_state(updates: &mut X509SourceUpdates, is_closed: bool) -> bool {
+    match updates.state() {
+        Ok(state) => {
+            let found = state.revision() == 0 && state.is_closed() == is_closed;
+            drop(state);
+            found
+        }
+        Err(OutOfMemory) => false,
+    }
 }
 
 /// Whether updates follow revision 0, and say accordingly whether the source is closed.
@@ -153,9 +198,16 @@ fn follows_first(source: &X509Source, pass: &mut Pass, is_closed: bool) -> bool
     requires { pass.old.book ≡ source.now.board }
     ensures { pass.new.book ≡ pass.old.book }
 {
-    match followed(source, pass) {
-        Ok(found) => found == (0, 0, is_closed),
-        Err(_) => false,
+    match source.updated(pass, &mut BoardPlaces::new()) {
+        Ok(mut updates) => {
+            let found = has_last(&mut updates) && has_state(&mut updates, is_closed);
+            drop(updates);
+            found
+        }
+        Err(e) => {
+            drop(e);
+            false
+        }
     }
 }
 
@@ -164,19 +216,30 @@ fn lacks_place(source: &X509Source, pass: &mut Pass) -> bool
     requires { pass.old.book ≡ source.now.board }
 {
     match source.another_pass(pass, &mut RefusingPlaces::new()) {
-        Err(X509SourceError::NoPlace) => true,
-        _ => false,
+        Ok(other) => {
+            drop(other);
+            false
+        }
+        Err(e) => {
+            let found = matches!(&e, X509SourceError::NoPlace);
+            drop(e);
+            found
+        }
     }
 }
 
 /// Updates go on after the source is closed. Where there is no place there are none.
 #[test]
 fn updates_of_a_source(rt: HostRuntime) -> Result<(), Fail> {
-    let (mut source, mut pass, _desk, _stop) = opened(rt, rt.alloc())?;
+    let (mut source, mut pass, desk, stop) = opened(rt, rt.alloc())?;
     assert!(rt; follows_first(&source, &mut pass, false));
     source.shutdown();
     assert!(rt; follows_first(&source, &mut pass, true));
     assert!(rt; lacks_place(&source, &mut pass));
+    drop(stop);
+    drop(desk);
+    drop(pass);
+    drop(source);
     Ok(())
 }
 
@@ -199,8 +262,15 @@ enum Awaited {
 fn awaited_of(answer: Result<u64, X509SourceError>) -> Awaited {
     match answer {
         Ok(revision) => Awaited::Revision(revision),
-        Err(X509SourceError::Closed) => Awaited::Closed,
-        Err(_) => Awaited::Other,
+        Err(e) => {
+            let is_closed = matches!(&e, X509SourceError::Closed);
+            drop(e);
+            if is_closed {
+                Awaited::Closed
+            } else {
+                Awaited::Other
+            }
+        }
     }
 }
 
@@ -213,26 +283,37 @@ fn waits<R: Wait + Clock>(rt: &R, updates: &mut X509SourceUpdates) -> (Awaited, 
 /// Waits end at once where there is another revision, or the source is closed.
 #[test]
 fn waits_for_a_change(rt: HostRuntime) -> Result<(), Fail> {
-    let (mut source, mut pass, mut desk, _stop) = opened(rt, rt.alloc())?;
-    let mut updates = source.updated(&mut pass, &mut BoardPlaces::new())?;
-    let mut late = source.updated(&mut pass, &mut BoardPlaces::new())?;
-    withdraw(rt.alloc(), &mut desk)?;
+    let (mut source, mut pass, mut desk, stop) = opened(rt, rt.alloc())?;
+    let updates = source.updated(&mut pass, &mut BoardPlaces::new());
+    let mut updates = updates.expect(&rt, "updates");
+    let late = source.updated(&mut pass, &mut BoardPlaces::new());
+    let mut late = late.expect(&rt, "updates");
+    assert!(rt; withdraw(rt.alloc(), &mut desk).is_ok());
     let first = Awaited::Revision(1);
     assert!(rt; waits(&rt, &mut updates) == (first, first));
     source.shutdown();
     assert!(rt; waits(&rt, &mut late) == (Awaited::Closed, first));
     assert!(rt; waits(&rt, &mut late) == (Awaited::Closed, Awaited::Closed));
+    drop(late);
+    drop(updates);
+    drop(stop);
+    drop(desk);
+    drop(pass);
+    drop(source);
     Ok(())
 }
 
 /// The source is closed when its last handle is dropped, and not before.
 #[test]
 fn last_handle_closes(rt: HostRuntime) -> Result<(), Fail> {
-    let (mut source, _pass, _desk, stop) = opened(rt, rt.alloc())?;
-    let other = source.try_clone()?;
+    let (mut source, pass, desk, stop) = opened(rt, rt.alloc())?;
+    let other = source.try_clone().expect(&rt, "a handle");
     drop(source);
     assert!(rt; !stop.is_set());
     drop(other);
     assert!(rt; stop.is_set());
+    drop(stop);
+    drop(desk);
+    drop(pass);
     Ok(())
 }

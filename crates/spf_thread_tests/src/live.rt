@@ -7,7 +7,7 @@ use spf_agent::{
     Agent, AgentConnector, FixedClock, HeldRecorder, Marks, Scene, ShortPause, TURNS, is_set_soon,
 };
 use spf_feed::{NoPicker, Step, X509SourceError};
-use spf_io::Text;
+use spf_io::{Failed, OutOfMemory, Text};
 use spf_job::StepWords;
 use spf_x509_board::{BoardPlaces, Pass};
 use spiffe::{Supervised, SupervisorEnd, SupervisorHandle, X509Source};
@@ -18,6 +18,11 @@ use std::thread::{self, Threads};
 use std::time::{Duration, Instant};
 
 type Handle<R> = SupervisorHandle<AgentJob<R>, OnThread<R>>;
+
+fn connector_to(host: HostRuntime, path: &str) -> Result<AgentConnector, OutOfMemory> {
+    let path = Text::copy_of(host.alloc(), path)?;
+    Ok(AgentConnector::to(host, host.alloc(), path))
+}
 
 /// A source of the agent at this path, whose supervisor runs on a thread.
 fn built<R: Threads + Wait + Copy + Drop + Send + 'static>(
@@ -30,8 +35,14 @@ fn built<R: Threads + Wait + Copy + Drop + Send + 'static>(
     ensures job { IfOk result (λ r. r.2.job.board ≡ r.0.board) }
 {
     let alloc = host.alloc();
-    let connector = AgentConnector::to(host, alloc, Text::copy_of(alloc, path)?);
-    let recorder = HeldRecorder::new(host, marks.try_clone()?);
+    let connector = connector_to(host, path)?;
+    let recorder = match marks.try_clone() {
+        Ok(marks) => HeldRecorder::new(host, marks),
+        Err(e) => {
+            drop(connector);
+            return Err(e.into());
+        }
+    };
     let (source, pass, job, pending) = X509Source::builder(connector).metrics(recorder).prepare(
         rt,
         alloc,
@@ -42,7 +53,12 @@ fn built<R: Threads + Wait + Copy + Drop + Send + 'static>(
     )?;
     match start_on_thread(rt, job) {
         Ok(handle) => Ok((source, pass, pending.started(handle))),
-        Err(_) => Err(X509SourceError::NoSupervisor),
+        Err(Failed) => {
+            drop(pending);
+            drop(pass);
+            drop(source);
+            Err(X509SourceError::NoSupervisor)
+        }
     }
 }
 
@@ -52,8 +68,12 @@ fn state_of(source: &X509Source, pass: &mut Pass) -> Option<(u64, bool)>
     ensures { pass.new.book ≡ pass.old.book }
 {
     match source.state(pass) {
-        Ok(state) => Some((state.revision(), state.withdrawal().is_some())),
-        Err(_) => None,
+        Ok(state) => {
+            let found = (state.revision(), state.withdrawal().is_some());
+            drop(state);
+            Some(found)
+        }
+        Err(OutOfMemory) => None,
     }
 }
 
@@ -113,8 +133,12 @@ fn records<R: Threads + Wait + Copy + Drop + Send + 'static>(
     ensures { pass.new.book ≡ pass.old.book }
 {
     match handle.close_and_join().into_record(pass) {
-        Ok(record) => is_record(&record, kinds),
-        Err(_) => false,
+        Ok(record) => {
+            let found = is_record(&record, kinds);
+            drop(record);
+            found
+        }
+        Err(OutOfMemory) => false,
     }
 }
 
@@ -135,6 +159,8 @@ fn is_denial_recorded<R: Threads + Wait + Copy + Drop + Send + 'static>(
     let is_read = reads(host, &source, &mut pass, (1, true));
     let is_recorded = records(handle, &mut pass, &[Kind::Accept, Kind::Deny]);
     let is_left = state_of(&source, &mut pass) == Some((1, true));
+    drop(pass);
+    drop(source);
     is_read && is_recorded && is_left
 }
 
@@ -144,7 +170,10 @@ fn is_soon(host: HostRuntime, begun: io::Result<Instant>) -> bool {
         Ok(begun) => begun
             .elapsed(&host)
             .is_ok_and(|taken| taken < Duration::from_secs(2)),
-        Err(_) => false,
+        Err(e) => {
+            drop(e);
+            false
+        }
     }
 }
 
@@ -167,6 +196,8 @@ fn is_stopped_soon<R: Threads + Wait + Copy + Drop + Send + 'static>(
     let is_read = reads(host, &source, &mut pass, (0, false)) && is_set_soon(host, &marks.reached);
     let begun = Instant::now(&host);
     let is_recorded = records(handle, &mut pass, &[Kind::Accept]);
+    drop(pass);
+    drop(source);
     is_read && is_recorded && is_soon(host, begun)
 }
 
@@ -192,6 +223,8 @@ fn is_read_meanwhile<R: Threads + Wait + Copy + Drop + Send + 'static>(
     }
     let is_later = reads(host, &source, &mut pass, (2, false));
     let is_recorded = records(handle, &mut pass, &[Kind::Accept, Kind::Deny, Kind::Accept]);
+    drop(pass);
+    drop(source);
     is_read && is_later && is_recorded
 }
 
@@ -213,6 +246,8 @@ fn is_kept_at_shutdown<R: Threads + Wait + Copy + Drop + Send + 'static>(
     let is_read = is_set_soon(host, &marks.reached) && reads(host, &source, &mut pass, (1, false));
     marks.go.set();
     let is_recorded = records(handle, &mut pass, &[Kind::Accept, Kind::Accept]);
+    drop(pass);
+    drop(source);
     is_read && is_recorded
 }
 
@@ -240,7 +275,10 @@ fn is_found<R: Threads + Wait + Copy + Drop + Send + 'static>(
             Row::ReadMeanwhile => is_read_meanwhile(host, source, pass, handle, marks),
             Row::KeptAtShutdown => is_kept_at_shutdown(host, source, pass, handle, marks),
         },
-        Err(_) => false,
+        Err(e) => {
+            drop(e);
+            false
+        }
     }
 }
 

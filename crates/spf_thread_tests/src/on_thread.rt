@@ -48,6 +48,9 @@ pub fn start_on_thread<R: Threads + Wait + Copy + Drop + Send + 'static>(
             job: kept,
             rt,
         }),
-        Err(_) => Err(Failed),
+        Err(e) => {
+            drop(e);
+            Err(Failed)
+        }
     }
 }

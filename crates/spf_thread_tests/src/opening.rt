@@ -36,9 +36,17 @@ fn times_out<R: Wait + Copy + Drop>(
         &mut BoardPlaces::new(),
     );
     match built {
-        Ok(_) => Ok(false),
-        Err(X509SourceError::InitialSyncTimeout) => Ok(true),
-        Err(_) => Ok(false),
+        Ok((source, pass, handle)) => {
+            drop(handle);
+            drop(pass);
+            drop(source);
+            Ok(false)
+        }
+        Err(e) => {
+            let is_late = matches!(&e, X509SourceError::InitialSyncTimeout);
+            drop(e);
+            Ok(is_late)
+        }
     }
 }
 
@@ -63,8 +71,12 @@ fn is_first(source: &X509Source, pass: &mut Pass) -> bool
     requires { pass.old.book ≡ source.now.board }
 {
     match source.state(pass) {
-        Ok(state) => state.revision() == 0,
-        Err(_) => false,
+        Ok(state) => {
+            let found = state.revision() == 0;
+            drop(state);
+            found
+        }
+        Err(OutOfMemory) => false,
     }
 }
 
@@ -87,8 +99,17 @@ fn opens<R: Wait + Copy + Drop>(host: HostRuntime, rt: R, environment: MemEnviro
         &mut InlineSpawner,
         &mut BoardPlaces::new(),
     ) {
-        Ok((source, mut pass, _handle)) => is_first(&source, &mut pass),
-        Err(_) => false,
+        Ok((source, mut pass, handle)) => {
+            let found = is_first(&source, &mut pass);
+            drop(handle);
+            drop(pass);
+            drop(source);
+            found
+        }
+        Err(e) => {
+            drop(e);
+            false
+        }
     }
 }
 
@@ -98,7 +119,7 @@ fn endpoint_of_the_environment(rt: HostRuntime) -> Result<(), Fail> {
     let agent = Agent::start(rt, &rt, "environment", &ITEM)?;
     let found = match environment_of(rt.alloc(), agent.path()) {
         Ok(environment) => opens(rt, rt, environment),
-        Err(_) => false,
+        Err(OutOfMemory) => false,
     };
     agent.end(rt, &rt)?;
     assert!(rt; found);
