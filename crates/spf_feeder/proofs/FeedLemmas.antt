@@ -21,7 +21,8 @@ use Rattle.spf_feeder.specs.declared.session.Stop.{Stop}
 use Rattle.spf_feeder.specs.declared.session.Stop.TheVariants as stops
 use Rattle.spf_feeder.specs.Asking.{Asked, AsksFor, AsksOnceFor, Wanted, kind_wanted}
 use Rattle.spf_feeder.specs.Coming.{AllYieldedBy, Holds, left_after_by}
-use Rattle.spf_feeder.specs.Fed.{FedOf, IsReadyFor, StopsBy, StopsFor, TurnedAway, TurnsBy, YieldsBy}
+use Rattle.spf_feeder.specs.Fed.{FedOf, IsReadyFor, StopsBy, StopsFor, TurnedAway, TurnsBy}
+use Rattle.spf_feeder.specs.Fed.{YieldsBy}
 use Rattle.spf_feeder.specs.Kept.{AdvancesBy, Progress}
 use Rattle.spf_feeder.specs.Kinds.{Kind}
 use Rattle.spf_feeder.specs.Orderly.{AddsAnswer, IsAboutToAsk, IsOneStep, IsOpening, IsSynced}

@@ -1,4 +1,6 @@
-use Rattle.std.proofs.Common.{◌≡◌, false, ap, ◌∙◌, subst}
+use Rattle.std.proofs.Common.{◌≡◌, false, arith, ap, ◌∙◌, of_z, subst, to_z}
+use Rattle.std.proofs.lemmas.Int.{ints, to_z-of_z}
+use Rattle.std.specs.Int.{w64}
 use Rattle.spf_feed.specs.declared.event.SessionEvent.TheVariants as events
 use Rattle.spf_jwt_feed.specs.Items.{Rules}
 use Rattle.spf_jwt_feeder.specs.Coming.{AllYielded, left_after}
@@ -35,7 +37,13 @@ returns-clause-ended g c =
 
 pub returns-clause-advances : goal.returns-clause-advances
 returns-clause-advances g c =
+    let before = c.self.inside.session in
+    let same : to_z w64 (of_z w64 c.args.moment) ≡ c.args.moment =
+    search (arith, ints, to_z-of_z) in
     subst (λ f.
-    Advances g.M.JwtMetricsRecorder.records (rules_of f.core.settings) f.core
-    (events.Moment c.args.moment) c.advance.result c.advance.new.self) c.self.view_is
-    c.advance.ensures.advances
+    Advances g.M.JwtMetricsRecorder.records
+    (rules_of f.core.settings) f.core (events.Moment c.args.moment)
+    c.advance.result c.advance.new.self) c.self.view_is
+    (subst (λ m.
+    Advances g.M.JwtMetricsRecorder.records (rules_of before.settings) before
+    (events.Moment m) c.advance.result c.advance.new.self) same c.advance.ensures.advances)
