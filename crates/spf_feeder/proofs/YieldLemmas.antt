@@ -1,7 +1,7 @@
 -- What asks take of what a connector has to yield.
 use Rattle.std.proofs.Common.{◌≡◌, Bool, true, false, List, [], ◌∷◌, ◌++◌, reverse, Option, None}
 use Rattle.std.proofs.Common.{Some, Result, Ok, Err, cond, refl, sym, ap, ◌∙◌, subst}
-use Rattle.std.specs.Prelude.{IfOk}
+use Rattle.std.specs.Prelude.{IfOk, ℤ}
 use Rattle.std.specs.Option.{option_map}
 use Rattle.spf_view.proofs.ViewLemmas.{last_first}
 use Rattle.spf_api.specs.Refused.{Refused}
@@ -241,6 +241,7 @@ pub record FollowsEvents {I : Type 0} (ask : List (SessionEvent I) → Phase) : 
   pub broken : (past : List (SessionEvent I)) (s : Refused)
       → ask (events.ItemStatus s ∷ past) ≡ phases.Client
   pub ended : (past : List (SessionEvent I)) → ask (events.StreamEnd ∷ past) ≡ phases.Client
+  pub moment : (past : List (SessionEvent I)) (m : ℤ) → ask (events.Moment m ∷ past) ≡ ask past
 
 ready_client : {L : Type 0} (kind : ResponseKind) (kind_of : L → Option ResponseKind) (ask : Phase)
     (link : Option L) → ask ≡ phases.Client → IsReadyFor kind kind_of ask link

@@ -115,6 +115,12 @@ AsksOnceFor wanted connector link phases.Connect old result new =
 AsksOnceFor wanted connector link phases.Next old result new =
     LinkAsked (λ l l'. ItemAsked wanted.item link l result l') old new
 
+-- that call; or none, where memory ran out before it
+abbrev pub AsksFor : {I S L E : Type 0} → Wanted I → connectors.Ghosts S L → links.Ghosts L → Phase
+    → Asked S L → Result (SessionEvent I) E → Asked S L → Type 0
+AsksFor wanted connector link ask old result new =
+    AsksOnceFor wanted connector link ask old result new ⊎ (IsErr result × (new ≡ old))
+
 -- ---- of an X.509 session
 
 abbrev pub context_of : Response → Option ContextResponse
@@ -128,12 +134,6 @@ contexts = record {
   item = context_of;
 }
 
-abbrev pub AsksOnce : {S L E : Type 0} → connectors.Ghosts S L → links.Ghosts L → Phase → Asked S L
-    → Result Event E → Asked S L → Type 0
-AsksOnce connector link ask old result new = AsksOnceFor contexts connector link ask old result new
-
--- that call; or none, where memory ran out before it
 abbrev pub Asks : {S L E : Type 0} → connectors.Ghosts S L → links.Ghosts L → Phase → Asked S L
     → Result Event E → Asked S L → Type 0
-Asks connector link ask old result new =
-    AsksOnce connector link ask old result new ⊎ (IsErr result × (new ≡ old))
+Asks connector link ask old result new = AsksFor contexts connector link ask old result new

@@ -2,38 +2,43 @@
 use Rattle.std.specs.Prelude.{◌≡◌, true, List, ◌∷◌, [], ◌++◌, reverse, Option, None}
 use Rattle.std.specs.Prelude.{Some, Result, Ok, Err, ◌⊎◌}
 use Rattle.spf_io.specs.declared.memory.OutOfMemory.{OutOfMemory}
+use Rattle.spf_api.specs.declared.response.ContextResponse.{ContextResponse}
 use Rattle.spf_api.specs.declared.response.ResponseKind.{ResponseKind}
 use Rattle.spf_link.specs.Connecting.{Member}
 use Rattle.spf_link.specs.declared.answer.Answer.{Answer}
 use Rattle.spf_link.specs.declared.connector.Connector as connectors
 use Rattle.spf_link.specs.declared.link.Link as links
 use Rattle.spf_pace.specs.declared.pacer.AttemptEnd.{AttemptEnd}
+use Rattle.spf_feed.specs.declared.event.SessionEvent.{SessionEvent}
 use Rattle.spf_feed.specs.declared.phase.Phase.{Phase}
 use Rattle.spf_feed.specs.declared.phase.Phase.TheVariants as phases
 use Rattle.spf_feed.specs.declared.record.MetricsRecord.{MetricsRecord}
-use Rattle.spf_feed.specs.Items.{Event, Rules, context_in}
-use Rattle.spf_feed.specs.Run.{ask_of, stream}
+use Rattle.spf_feed.specs.Items.{Event, Rules}
 use Rattle.spf_feeder.specs.declared.session.Stop.{Stop}
 use Rattle.spf_feeder.specs.declared.session.Stop.TheVariants as stops
-use Rattle.spf_feeder.specs.Asking.{Asked, AsksOnce, contexts}
-use Rattle.spf_feeder.specs.Asking.{kind_wanted}
-use Rattle.spf_feeder.specs.Coming.{AllYielded, Holds, left_after}
-use Rattle.spf_feeder.specs.Kept.{Advanced, Core}
+use Rattle.spf_feeder.specs.Asking.{Asked, AsksOnceFor, contexts, kind_wanted}
+use Rattle.spf_feeder.specs.Coming.{AllYielded, Coming, Holds, left_after}
+use Rattle.spf_feeder.specs.Kept.{Advanced, Core, Progress, progress}
+use Rattle.spf_feeder.specs.Kinds.{Kind, x509}
 
--- What contracts see of a feeder.
-pub record Fed (S L P M K : Type 0) : Type 0 where
+-- What contracts see of a feeder, where C is the core.
+pub record FedOf (S L C : Type 0) : Type 0 where
   -- the connector and its link
   pub asked : Asked S L
-  pub core : Core P M K
+  pub core : C
   -- the connector as it was handed in
   pub first : S
 
-abbrev pub fed : {S L P M K : Type 0} → S → Option L → Core P M K → S → Fed S L P M K
+abbrev pub fed : {S L C : Type 0} → S → Option L → C → S → FedOf S L C
 fed connector link core first = record {
   asked = record { connector = connector; link = link };
   core = core;
   first = first;
 }
+
+-- the same with another core
+abbrev pub with_core : {S L C D : Type 0} → (C → D) → FedOf S L C → FedOf S L D
+with_core core f = record { asked = f.asked; core = core f.core; first = f.first }
 
 -- where the link is asked next there is one, and its responses are of the wanted kind
 abbrev pub IsReadyFor : {L : Type 0} → ResponseKind → (L → Option ResponseKind) → Phase → Option L
@@ -43,59 +48,80 @@ IsReadyFor kind kind_of ask None = ⊥
 IsReadyFor kind kind_of phases.Connect (Some link) = Unit {0}
 IsReadyFor kind kind_of phases.Next (Some link) = kind_of link ≡ Some kind
 
--- ---- of an X.509 session
-
-abbrev pub IsReady : {L : Type 0} → (L → Option ResponseKind) → Phase → Option L → Type 0
-IsReady kind_of ask link = IsReadyFor (kind_wanted contexts) kind_of ask link
-
 -- The events other than moments are what the asks, in order, take of what the connector had to
--- yield when it was handed in, and the connector and its link have the rest.
-pub record Yields {S L : Type 0} (members : S → Option (List Member))
-    (answers : L → Option (List Answer)) (rules : Rules) (run : List Event) (asked : Asked S L)
+-- yield when it was handed in, as `All` says, and the connector and its link have the rest.
+pub record YieldsBy {S L I : Type 0} (All : List Member → List (SessionEvent I) → Type 0)
+    (left : List Member → List (SessionEvent I) → Coming) (members : S → Option (List Member))
+    (answers : L → Option (List Answer)) (run : List (SessionEvent I)) (asked : Asked S L)
     (first : List Member) : Type 0 where
-  pub yielded : AllYielded rules first (reverse run)
-  pub rest : Holds members answers (left_after rules first (reverse run)) asked.connector asked.link
+  pub yielded : All first (reverse run)
+  pub rest : Holds members answers (left first (reverse run)) asked.connector asked.link
 
 -- A turn that went through: one ask, one more event, which is published before the next turn.
-pub record TurnedOnce {S L P M K : Type 0} (connector : connectors.Ghosts S L)
-    (link : links.Ghosts L) (records : M → Option (List MetricsRecord)) (rules : Rules)
-    (old : Fed S L P M K) (end : Option AttemptEnd) (new : Fed S L P M K) : Type 0 where
-  pub event : Event
-  pub asked : AsksOnce {E = OutOfMemory} connector link
-      (ask_of context_in rules (reverse old.core.run)) old.asked (Ok event) new.asked
-  pub advanced : Advanced records rules old.core event end new.core
+pub record TurnedOnce {S L I M B R N : Type 0} (k : Kind I M B R)
+    (connector : connectors.Ghosts S L) (link : links.Ghosts L) (records : N → Option (List R))
+    (old : FedOf S L (Progress N I)) (end : Option AttemptEnd) (new : FedOf S L (Progress N I)) :
+    Type 0 where
+  pub event : SessionEvent I
+  pub asked : AsksOnceFor {E = OutOfMemory} k.wanted connector link (k.ask (reverse old.core.run))
+      old.asked (Ok event) new.asked
+  pub advanced : Advanced k records old.core event end new.core
 
 -- nothing was asked, and no event was added
-pub record IsIdle {S L P M K : Type 0} (old new : Fed S L P M K) : Type 0 where
+pub record IsIdle {S L I N : Type 0} (old new : FedOf S L (Progress N I)) : Type 0 where
   pub asked : new.asked ≡ old.asked
   pub run_is : new.core.run ≡ old.core.run
 
 -- one ask, and at most the event that it yielded
-pub record AsksInVain {S L P M K : Type 0} (connector : connectors.Ghosts S L)
-    (link : links.Ghosts L) (rules : Rules) (old new : Fed S L P M K) : Type 0 where
-  pub answer : Result Event OutOfMemory
-  pub asked : AsksOnce connector link (ask_of context_in rules (reverse old.core.run)) old.asked
-      answer new.asked
+pub record AsksInVain {S L I M B R N : Type 0} (k : Kind I M B R)
+    (connector : connectors.Ghosts S L) (link : links.Ghosts L)
+    (old new : FedOf S L (Progress N I)) : Type 0 where
+  pub answer : Result (SessionEvent I) OutOfMemory
+  pub asked : AsksOnceFor k.wanted connector link (k.ask (reverse old.core.run)) old.asked answer
+      new.asked
   pub run_is : (new.core.run ≡ old.core.run)
-      ⊎ ((e : Event) × (answer ≡ Ok e) × (new.core.run ≡ old.core.run ++ e ∷ []))
+      ⊎ ((e : SessionEvent I) × (answer ≡ Ok e) × (new.core.run ≡ old.core.run ++ e ∷ []))
 
 -- A turn that is refused: at most one ask, and no turn after it asks.
-pub record TurnedAway {S L P M K : Type 0} (connector : connectors.Ghosts S L)
-    (link : links.Ghosts L) (rules : Rules) (old new : Fed S L P M K) : Type 0 where
-  pub how : IsIdle old new ⊎ AsksInVain connector link rules old new
+pub record TurnedAway {S L I M B R N : Type 0} (k : Kind I M B R)
+    (connector : connectors.Ghosts S L) (link : links.Ghosts L)
+    (old new : FedOf S L (Progress N I)) : Type 0 where
+  pub how : IsIdle old new ⊎ AsksInVain k connector link old new
   pub stuck_is : new.core.stuck ≡ true
   pub idle : old.core.stuck ≡ true → IsIdle old new
 
 -- what a turn does
+abbrev pub TurnsBy : {S L I M B R N E : Type 0} → Kind I M B R → connectors.Ghosts S L
+    → links.Ghosts L → (N → Option (List R)) → FedOf S L (Progress N I)
+    → Result (Option AttemptEnd) E → FedOf S L (Progress N I) → Type 0
+TurnsBy k connector link records old (Ok end) new =
+    TurnedOnce k connector link records old end new
+TurnsBy k connector link records old (Err e) new = TurnedAway k connector link old new
+
+-- a terminal event came after the run, and is not part of it; or memory ran out
+abbrev pub StopsFor : {I M B R : Type 0} → Kind I M B R → List (SessionEvent I) → Stop → Type 0
+StopsFor {I} k run (stops.Terminal end) =
+    (e : SessionEvent I) × (k.refusal (reverse run) e ≡ Some end)
+StopsFor k run stops.OutOfMemory = Unit {0}
+
+-- ---- of an X.509 session
+
+abbrev pub Fed : (S L P M K : Type 0) → Type 0
+Fed S L P M K = FedOf S L (Core P M K)
+
+abbrev pub IsReady : {L : Type 0} → (L → Option ResponseKind) → Phase → Option L → Type 0
+IsReady kind_of ask link = IsReadyFor (kind_wanted contexts) kind_of ask link
+
+abbrev pub Yields : {S L : Type 0} → (S → Option (List Member)) → (L → Option (List Answer)) → Rules
+    → List Event → Asked S L → List Member → Type 0
+Yields members answers rules run asked first =
+    YieldsBy (AllYielded rules) (left_after rules) members answers run asked first
+
 abbrev pub Turns : {S L P M K E : Type 0} → connectors.Ghosts S L → links.Ghosts L
     → (M → Option (List MetricsRecord)) → Rules → Fed S L P M K → Result (Option AttemptEnd) E
     → Fed S L P M K → Type 0
-Turns connector link records rules old (Ok end) new =
-    TurnedOnce connector link records rules old end new
-Turns connector link records rules old (Err e) new = TurnedAway connector link rules old new
+Turns connector link records rules old r new =
+    TurnsBy (x509 rules) connector link records (with_core progress old) r (with_core progress new)
 
--- a terminal event came after the run, and is not part of it; or memory ran out
 abbrev pub StopsBy : Rules → List Event → Stop → Type 0
-StopsBy rules run (stops.Terminal end) =
-    (e : Event) × ((stream rules).refusal (reverse run) e ≡ Some end)
-StopsBy rules run stops.OutOfMemory = Unit {0}
+StopsBy rules run stop = StopsFor (x509 rules) run stop

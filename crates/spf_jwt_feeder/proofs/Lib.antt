@@ -1,3 +1,2 @@
 pub mod FeedLemmas
 pub mod RunLemmas
-pub mod TurnLemmas

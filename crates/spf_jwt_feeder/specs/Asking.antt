@@ -1,5 +1,5 @@
 -- One ask of a connector or of its link, and the event that it yields.
-use Rattle.std.specs.Prelude.{◌≡◌, [], Option, None, Some, Result, IsErr, ◌⊎◌}
+use Rattle.std.specs.Prelude.{[], Option, None, Some, Result}
 use Rattle.spf_api.specs.declared.response.BundlesResponse.{BundlesResponse}
 use Rattle.spf_api.specs.declared.response.Response.{Response}
 use Rattle.spf_api.specs.declared.response.Response.TheVariants as response
@@ -8,7 +8,7 @@ use Rattle.spf_link.specs.declared.connector.Connector as connectors
 use Rattle.spf_link.specs.declared.link.Link as links
 use Rattle.spf_link.specs.declared.request.Request.TheVariants as request
 use Rattle.spf_feed.specs.declared.phase.Phase.{Phase}
-use Rattle.spf_feeder.specs.Asking.{Asked, AsksOnceFor, Wanted}
+use Rattle.spf_feeder.specs.Asking.{Asked, AsksFor, Wanted}
 use Rattle.spf_jwt_feed.specs.Items.{Event}
 
 abbrev pub bundles_of : Response → Option BundlesResponse
@@ -22,13 +22,6 @@ jwt_bundles = record {
   item = bundles_of;
 }
 
-abbrev pub AsksOnce : {S L E : Type 0} → connectors.Ghosts S L → links.Ghosts L → Phase → Asked S L
-    → Result Event E → Asked S L → Type 0
-AsksOnce connector link ask old result new =
-    AsksOnceFor jwt_bundles connector link ask old result new
-
--- that call; or none, where memory ran out before it
 abbrev pub Asks : {S L E : Type 0} → connectors.Ghosts S L → links.Ghosts L → Phase → Asked S L
     → Result Event E → Asked S L → Type 0
-Asks connector link ask old result new =
-    AsksOnce connector link ask old result new ⊎ (IsErr result × (new ≡ old))
+Asks connector link ask old result new = AsksFor jwt_bundles connector link ask old result new

@@ -3,6 +3,7 @@ pub mod Attempts
 pub mod Coming
 pub mod Fed
 pub mod Kept
+pub mod Kinds
 pub mod Opened
 pub mod Orderly
 pub mod Pacing

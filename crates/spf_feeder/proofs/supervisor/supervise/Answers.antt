@@ -1,7 +1,6 @@
 use Rattle.std.proofs.Common.{rules, ◌≡◌, ◌∙◌, subst, sym}
 use Rattle.spf_feeder.specs.Kept.{rules_by}
-use Rattle.spf_feeder.specs.Pacing.{Halted}
-use Rattle.spf_feeder.proofs.FeedLemmas.{keeps_as}
+use Rattle.spf_feeder.specs.Pacing.{Halted, KeepsPace}
 use Rattle.spf_feeder.proofs.OrderLemmas.{goes_further}
 use Rattle.spf_feeder.proofs.supervisor.supervise.Goals as goal
 
@@ -18,7 +17,7 @@ returns-in-Err-clause-halted g c =
     λ i. rules_by g.K.SvidPicker.picks (loop.settings i) (loop.picker i) in
     subst (λ r. Halted r c.paced_ask.new.feeder.core.run c.paced_ask.new.pace) same
     (c.in-Err.ensures.paces
-    (keeps_as _ _ c.turns.feeder.core.run c.turns.pace (sym same) loop.keeps))
+    (subst (λ r. KeepsPace r c.turns.feeder.core.run c.turns.pace) (sym same) loop.keeps))
 
 pub turns-preserved : goal.turns-preserved
 turns-preserved g c =
@@ -29,7 +28,7 @@ turns-preserved g c =
     ≡ rules_by g.K.SvidPicker.picks core.settings core.picker =
     λ i. rules_by g.K.SvidPicker.picks (loop.settings i) (loop.picker i) in
     let paced = after.paces
-    (keeps_as _ _ c.turns.feeder.core.run c.turns.pace (sym same) loop.keeps) in
+    (subst (λ r. KeepsPace r c.turns.feeder.core.run c.turns.pace) (sym same) loop.keeps) in
     record {
       next = search rules;
       finite = search rules;
@@ -40,5 +39,6 @@ turns-preserved g c =
       goes_on = goes_further _ _ _ loop.goes_on after.goes_on;
       bounds = after.bounds ∙ loop.bounds;
       going = after.going;
-      keeps = keeps_as _ _ c.paced_ask.new.feeder.core.run c.paced_ask.new.pace same paced;
+      keeps = subst (λ r. KeepsPace r c.paced_ask.new.feeder.core.run c.paced_ask.new.pace) same
+          paced;
     }

@@ -4,10 +4,10 @@ use Rattle.spf_view.specs.Views.{has_synced}
 use Rattle.spf_feed.specs.declared.event.SessionEvent.TheVariants as events
 use Rattle.spf_jwt_feed.specs.Items.{Rules, item_in, subject}
 use Rattle.spf_jwt_feed.specs.Run.{ask_of}
+use Rattle.spf_jwt_feeder.specs.Fed.{StopsBy}
 use Rattle.spf_jwt_feeder.specs.Kept.{rules_of}
 use Rattle.spf_jwt_feeder.specs.Orderly.{IsOneStep, IsTimed}
 use Rattle.spf_jwt_feeder.specs.Pacing.{KeepsPace}
-use Rattle.spf_jwt_feeder.proofs.FeedLemmas.{stops_as}
 use Rattle.spf_feeder.proofs.PaceLemmas.{passes_on}
 use Rattle.spf_feeder.proofs.TimeLemmas.{gives_moment, gives_more}
 use Rattle.spf_jwt_feeder.proofs.opening.open_jwt_feeder.Goals as goal
@@ -53,7 +53,7 @@ returns-in-Err-synchronise-clause-ended g c =
       deadline = c.deadline_of.result;
       counts = search rules;
       run = c.synchronise.new.feeder.core.run;
-      stops = stops_as _ _ c.synchronise.new.feeder.core.run c.in-Err-synchronise.stop
+      stops = subst (λ r. StopsBy r c.synchronise.new.feeder.core.run c.in-Err-synchronise.stop)
           (λ i. rules_of ((moment.settings ∙ ap (λ k. k.settings) c.new-feeder.ensures.core) i))
           c.in-Err-synchronise.ensures.ended;
     }

@@ -1,7 +1,11 @@
 use Rattle.std.proofs.lemmas.Result.{err_from_is_err_and}
 use Rattle.spf_jwt_feed.specs.Items.{Rules}
+use Rattle.spf_jwt.specs.Bundle.{set_eq}
+use Rattle.spf_jwt_feed.specs.declared.record.JwtMetricsRecord.TheVariants as jwt_records
+use Rattle.spf_jwt_feed.specs.Turns.{listed}
 use Rattle.spf_jwt_feeder.specs.Kept.{rules_of}
-use Rattle.spf_jwt_feeder.proofs.RunLemmas.{advanced_by, refused_by, unpublished}
+use Rattle.spf_feeder.proofs.RunLemmas.{unpublished}
+use Rattle.spf_jwt_feeder.proofs.RunLemmas.{advanced_by, refused_by}
 use Rattle.spf_jwt_feeder.proofs.session.take.Goals as goal
 
 pub returns-clause-takes : goal.returns-clause-takes
@@ -23,7 +27,7 @@ returns-in_err-records-clause-takes g c = λ run published going.
     let p = err_from_is_err_and c.from_residual-in_err-records.result
     c.from_residual-in_err-records.ensures.1 in
     rw (p.1, p.2)
-    (refused_by rule run c.args.event.now c.is_some.result c.args.place.now _ _
+    (refused_by rule run c.args.event.now c.is_some.result c.args.place.now _
     c.args.snapshot.now c.publish_turn.new.snapshot _ _ _ c.is_some.ensures
     c.in_ok-turn.ensures.foresees c.in_err-records.ensures.published going)
 
@@ -32,5 +36,5 @@ returns-in_err-records-clause-refused g c =
     let p = err_from_is_err_and c.from_residual-in_err-records.result
     c.from_residual-in_err-records.ensures.1 in
     rw p.1
-    (unpublished c.args.rules.limits _ c.args.snapshot.now
+    (unpublished set_eq jwt_records.Update listed c.args.rules.limits _ c.args.snapshot.now
     c.publish_turn.new.snapshot _ _ _ c.in_err-records.ensures.published)

@@ -3,10 +3,10 @@ use Rattle.std.proofs.lemmas.Result.{err_from_is_err_and}
 use Rattle.spf_view.specs.Views.{has_synced}
 use Rattle.spf_jwt_feed.specs.Items.{Rules, subject}
 use Rattle.spf_jwt_feeder.specs.Kept.{rules_of}
-use Rattle.spf_jwt_feeder.proofs.FeedLemmas.{keeps_as, one_step, opening_after, stops_as}
-use Rattle.spf_jwt_feeder.proofs.FeedLemmas.{timed_after}
+use Rattle.spf_jwt_feeder.proofs.FeedLemmas.{one_step, opening_after, stops_as, timed_after}
 use Rattle.std.proofs.Common.{rules, false}
 use Rattle.spf_jwt_feeder.specs.Orderly.{AddsAnswer, IsAboutToAsk}
+use Rattle.spf_jwt_feeder.specs.Pacing.{KeepsPace}
 use Rattle.spf_feeder.proofs.OrderLemmas.{first_step, no_moment}
 use Rattle.spf_feeder.proofs.TimeLemmas.{gives_more, gives_still}
 use Rattle.spf_jwt_feeder.proofs.synchronisation.synchronise.Goals as goal
@@ -101,8 +101,9 @@ asks-preserved g c =
     ap (λ r. has_synced (subject r) (reverse c.paced_ask.new.feeder.core.run)) (sym at_end)
     ∙ sym c.is_synced.ensures ∙ c.if-is_synced.false in
     let waited = before.paces c.asks.pace
-    (keeps_as _ _ c.asks.feeder.core.run c.asks.pace (sym at_loop) loop.keeps) in
-    let paced = after.paces (keeps_as _ _ middle c.asks.pace (at_loop ∙ sym at_ask) waited) in
+    (subst (λ r. KeepsPace r c.asks.feeder.core.run c.asks.pace) (sym at_loop) loop.keeps) in
+    let paced = after.paces
+    (subst (λ r. KeepsPace r middle c.asks.pace) (at_loop ∙ sym at_ask) waited) in
     record {
       next = search rules;
       finite = search rules;
@@ -110,7 +111,8 @@ asks-preserved g c =
       first = after.first ∙ before.handed ∙ loop.first;
       bounds = after.bounds ∙ loop.bounds;
       going = after.going;
-      keeps = keeps_as _ _ c.paced_ask.new.feeder.core.run c.paced_ask.new.pace at_ask paced;
+      keeps = subst (λ r. KeepsPace r c.paced_ask.new.feeder.core.run c.paced_ask.new.pace) at_ask
+          paced;
       timed = opening_after rule _ _ about adds unsynced;
       clock = gives_still _ _ _ _ _ adds.event (no_moment _ adds.event adds.answers) adds.run_is
           (gives_more _ _ _ _ _ _ loop.clock before.clock);
