@@ -166,7 +166,7 @@ fn position_after<C: SvidPicker>(
         ≡ standing_after
         (rules_with acceptance.limits None acceptance.ready
         (option_map (λ p. C.picks p.now) picker.entry)) acceptance.start (standing position)
-        (option_map (λ c. c.now) context) }
+        (option_map (λ c. c.now) context.entry) }
 {
     let synced = position.synced;
     match context {
