@@ -9,7 +9,8 @@ ghost use Rattle.spf_frame.specs.Parts.{FailureHasCause};
 ghost use Rattle.spf_feed.specs.Records.{RecordAppends, AppendsOnce};
 ghost use Rattle.spf_feed.specs.Steps.{plain, is_accept, HasStep, MayFollow, same_material};
 ghost use Rattle.spf_feed.specs.Turns.{MayTake, listed};
-ghost use Rattle.spf_feed.specs.Items.{Event as SessionOf, context_in, Rules, rules_with};
+ghost use Rattle.spf_feed.specs.Events.{event_at};
+ghost use Rattle.spf_feed.specs.Items.{Event as SessionOf, context_in, item_at, Rules, rules_with};
 ghost use Rattle.spf_feed.specs.declared.follow_error.FollowError.TheVariants as follow_errors;
 ghost use Rattle.spf_frame.specs.declared.error.FrameError.TheVariants as errors;
 ghost use Rattle.spf_feed.specs.Received.{received_moment, received_close};
@@ -33,7 +34,7 @@ use crate::sharing::{NoSharing, Sharing};
 use crate::snapshot::Snapshot;
 use crate::step::{Publisher, Step};
 use crate::turn::{Records, SessionRules, Turn, turn_of};
-use spf_frame::FrameError;
+use spf_frame::{FrameError, frame_kind};
 use spf_io::{OutOfMemory, Sink, Source};
 use spf_x509::X509Context;
 use std::alloc::Global;
@@ -47,19 +48,28 @@ fn held_context(snapshot: &Option<Snapshot>) -> Option<&X509Context> {
     }
 }
 
-/// The context beside the source, and else the held one.
-fn shared_context<'a, S, W: Sharing<S>>(
-    source: &'a S,
-    held: Option<&'a X509Context>,
-) -> Option<&'a X509Context> {
-    match W::context(source) {
-        Some(context) => Some(context),
-        None => held,
+/// The event that a frame lays out. An item whose context is known beside the source is not read,
+/// and what another one has of the bytes of the held context is shared.
+#[inline(always)]
+#[tactic(auto, unfolding(crate::specs::Events::event_at))]
+fn event_of<S, W: Sharing<S>>(
+    alloc: Global,
+    source: &S,
+    kind: u8,
+    payload: &[u8],
+    held: Option<&X509Context>,
+) -> Result<Option<Received>, OutOfMemory>
+    ensures { IfOk result (λ o. o ≡ event_at item_at kind payload.now) }
+{
+    if kind == frame_kind::ITEM {
+        if let Some(context) = W::context(source, payload) {
+            return Ok(Some(Received::Item(Some(context.try_clone(alloc)?))));
+        }
     }
+    event_in(alloc, kind, payload, held)
 }
 
-/// The next event. Its payload is read into the buffer, and what it has of the
-/// bytes of the context beside the source, or else of the held one, is shared.
+/// The next event. Its payload is read into the buffer.
 fn next_event<S: Source, W: Sharing<S>>(
     alloc: Global,
     source: &mut S,
@@ -78,8 +88,7 @@ fn next_event<S: Source, W: Sharing<S>>(
         Some(kind) => kind,
         None => return Ok(None),
     };
-    let shared = shared_context::<S, W>(source, held);
-    match event_in(alloc, kind, payload.as_slice(), shared) {
+    match event_of::<S, W>(alloc, source, kind, payload.as_slice(), held) {
         Ok(Some(event)) => Ok(Some(event)),
         Ok(None) => Err(FrameError::BadFrame),
         Err(_) => Err(FrameError::OutOfMemory),
@@ -362,8 +371,8 @@ fn show(
     }
 }
 
-/// Follows an update stream as [`follow_x509`] does. What an item has of the bytes of
-/// the context beside the source, or else of the held one, is shared and not read again.
+/// Follows an update stream as [`follow_x509`] does. An item whose context is known beside the
+/// source is shared and not read again.
 pub fn follow_x509_sharing<
     S: Source,
     K: Sink,

@@ -1,20 +1,24 @@
-//! Contexts that are lent beside a source, whose parts are shared and not read again.
+//! Items that were read before they came, as by a source that translates other messages.
+
+ghost use Rattle.std.specs.Prelude.{◌≡◌, IfSome, Some};
+ghost use Rattle.spf_feed.specs.Items.{item_at};
 
 use spf_x509::X509Context;
 
-/// A context beside a source. An item that has its bytes shares it in place of reading them, so
-/// what follows is the same whichever context it is.
+/// What is known beside a source of the items that it gives. Such an item is shared and not read
+/// again, so what follows is the same with it and without it.
 pub trait Sharing<S> {
-    /// The context that most likely has the bytes of the item that was read last.
-    fn context(source: &S) -> Option<&X509Context>;
+    /// The context that the payload of an item reads as, where the source knows it.
+    fn context<'a>(source: &'a S, payload: &[u8]) -> Option<&'a X509Context>
+        ensures { IfSome result (λ context. item_at payload.now ≡ Some (Some context.now)) };
 }
 
-/// No context beside a source.
+/// Nothing is known beside a source.
 #[derive(Clone, Copy, Debug, PartialEq, Eq)]
 pub struct NoSharing;
 
 impl<S> Sharing<S> for NoSharing {
-    fn context(_source: &S) -> Option<&X509Context> {
+    fn context<'a>(_source: &'a S, _payload: &[u8]) -> Option<&'a X509Context> {
         None
     }
 }

@@ -17,7 +17,7 @@ use Rattle.spf_api.specs.declared.response.ResponseKind.TheVariants as kinds
 use Rattle.spf_api.specs.Layout.{IsContext, context_payload}
 use Rattle.spf_api.specs.Payload.{IsRead, Payload}
 use Rattle.spf_api.specs.Reading.{context_at}
-use Rattle.spf_api.proofs.Payloads.{laid_is_read}
+use Rattle.spf_proto.proofs.TranslatingLemmas.{payload_read}
 use Rattle.spf_frame.specs.declared.frame_kind.TheConstants.{CLIENT_MADE, CONNECTED, ITEM, MOMENT}
 use Rattle.spf_view.specs.Frames.{raw_text}
 use Rattle.spf_view.specs.Sessions.{IsFrame, IsReading, onto}
@@ -88,18 +88,6 @@ moment_before rules past true = refl
 moment_before rules past false = refl
 
 -- ---- frames
-
-response_is : (o : Option ContextResponse) (r : ContextResponse)
-    → Some (response.Context r) ≡ option_map response.Context o → o ≡ Some r
-response_is None r is = absurd cc
-response_is (Some x) r is = ap Some cc
-
-payload_read : (r : ContextResponse) → IsContext r → context_at (context_payload r) ≡ Some r
-unfolding IsRead Payload
-payload_read r laid =
-    response_is (context_at (context_payload r)) r
-    (laid_is_read kinds.Context (context_payload r) (response.Context r)
-    (record { fits = laid; octets = refl }))
 
 moment_read : (seconds : ℕ) → seconds < 2 ^ 63
     → moment_at (to_be_bytes w64 seconds) ≡ Some (pos seconds)

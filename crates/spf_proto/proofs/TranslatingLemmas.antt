@@ -1,7 +1,8 @@
 -- How a message is translated.
 use Rattle.std.proofs.Common.{◌≡◌, ◌∙◌, ℕ, ◌^◌, ◌≤◌, ◌<◌, Bool, true, false, cond, List, [], ◌∷◌}
 use Rattle.std.proofs.Common.{◌+◌, ◌-◌, ◌++◌, length, take, drop, Option, Some, None, refl, ap}
-use Rattle.std.proofs.Common.{append_assoc, arith, length-append}
+use Rattle.std.proofs.Common.{absurd, append_assoc, arith, length-append, sym}
+use Rattle.std.specs.Option.{option_map}
 use Rattle.std.specs.Int.{w32, to_be_bytes}
 use Rattle.std.specs.Prelude.{nat_lt}
 use Rattle.std.proofs.Math.Seq.{take-append_seam, drop-append_seam}
@@ -9,11 +10,18 @@ use Rattle.std.proofs.lemmas.Bool.Decides.{nat_tests}
 use Rattle.spf_io.specs.Option.{◌>>=◌}
 use Rattle.spf_view.specs.Frames.{sized}
 use Rattle.spf_api.specs.declared.response.ContextResponse.{ContextResponse}
-use Rattle.spf_api.specs.Layout.{context_payload, field_text}
+use Rattle.spf_x509.specs.Context.{Context}
+use Rattle.spf_api.specs.declared.response.Response.TheVariants as response
+use Rattle.spf_api.specs.declared.response.ResponseKind.TheVariants as kinds
+use Rattle.spf_api.specs.Layout.{IsContext, context_payload, field_text}
+use Rattle.spf_api.specs.Payload.{IsRead, Payload}
+use Rattle.spf_api.specs.Reading.{context_at}
+use Rattle.spf_api.proofs.Payloads.{laid_is_read}
+use Rattle.spf_feed.specs.Items.{context_in, item_at}
 use Rattle.spf_proto.specs.Message.{context_message}
 use Rattle.spf_proto.specs.Body.{fits, response_of}
 use Rattle.spf_proto.specs.Translated.{client_frames, message_frames}
-use Rattle.spf_proto.specs.Translating.{item_frames, ArePut, IsLengthPut}
+use Rattle.spf_proto.specs.Translating.{item_frames, payload_start, ArePut, IsLengthPut}
 use Rattle.spf_frame.specs.declared.frame_kind.TheConstants.{ITEM}
 
 pub client_is : 1 ∷ 0 ∷ 0 ∷ 0 ∷ 0 ∷ 3 ∷ 0 ∷ 0 ∷ 0 ∷ 0 ∷ [] ≡ client_frames
@@ -108,3 +116,34 @@ response_some octets r short is fitting =
     let second : nat_lt (2 ^ 24) (length (context_payload r)) ≡ false =
     grind (arith, nat_tests, fitting) in
     after_fit (nat_lt (2 ^ 24) (length octets)) octets (Some r) is ∙ rw (first, second) refl
+
+-- ---- what a payload reads as
+
+response_is : (o : Option ContextResponse) (r : ContextResponse)
+    → Some (response.Context r) ≡ option_map response.Context o → o ≡ Some r
+response_is None r is = absurd cc
+response_is (Some x) r is = ap Some cc
+
+pub payload_read : (r : ContextResponse) → IsContext r → context_at (context_payload r) ≡ Some r
+unfolding IsRead Payload
+payload_read r laid =
+    response_is (context_at (context_payload r)) r
+    (laid_is_read kinds.Context (context_payload r) (response.Context r)
+    (record { fits = laid; octets = refl }))
+
+-- the payload of an item is what stands from there on
+pub payload_of : (is_open : Bool) (payload : List ℕ)
+    → drop (payload_start is_open) (item_frames is_open payload) ≡ payload
+unfolding item_frames field_text client_frames sized
+payload_of true payload = refl
+payload_of false payload = refl
+
+-- the payload that was put reads as what was read of the response
+pub known_is : (is_open : Bool) (r : ContextResponse) (frames : List ℕ) (context : Option Context)
+    → IsContext r → frames ≡ item_frames is_open (context_payload r) → context ≡ context_in r
+    → item_at (drop (payload_start is_open) frames) ≡ Some context
+known_is is_open r frames context laid made is =
+    ap (λ (l : List ℕ). item_at (drop (payload_start is_open) l)) made
+    ∙ ap item_at (payload_of is_open (context_payload r))
+    ∙ ap (option_map context_in) (payload_read r laid)
+    ∙ ap Some (sym is)

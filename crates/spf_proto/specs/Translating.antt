@@ -1,16 +1,17 @@
 -- How a message is translated.
 use Rattle.std.specs.Prelude.{◌≡◌, ◌≤◌, ◌<◌, ◌+◌, ◌-◌, ◌^◌, ℕ, ℤ, Bool, true, false}
 use Rattle.std.specs.Prelude.{if◌then◌else◌, List, [], ◌∷◌, ◌++◌, length, take, drop, Option, Some}
-use Rattle.std.specs.Prelude.{None}
+use Rattle.std.specs.Prelude.{IfSome, None}
 use Rattle.std.specs.Int.{w32, to_be_bytes}
 use Rattle.std.specs.Prelude.{Result, Ok, Err}
 use Rattle.spf_proto.specs.declared.taking.Stop.{Stop}
 use Rattle.spf_proto.specs.declared.taking.Stop.TheVariants as stops
 unfoldable pub use Rattle.spf_api.specs.Layout.{field_text}
-use Rattle.spf_feed.specs.Items.{Rules, context_in}
+use Rattle.spf_feed.specs.Items.{Rules, context_in, item_at}
 use Rattle.spf_api.specs.declared.response.ContextResponse.{ContextResponse}
 use Rattle.spf_api.specs.Layout.{IsContext}
 use Rattle.spf_frame.specs.declared.frame_kind.TheConstants.{ITEM}
+use Rattle.spf_proto.specs.declared.translating.LastRead.{LastRead}
 use Rattle.spf_proto.specs.declared.translating.Position.{Position}
 use Rattle.spf_proto.specs.Body.{response_of}
 unfoldable pub use Rattle.spf_proto.specs.Translated.{client_frames}
@@ -28,6 +29,15 @@ abbrev pub ArePut : Bool → List ℕ → List ℕ → Bool → Type 0
 ArePut is_open payload frames true =
     (length payload ≤ 2 ^ 24) × (frames ≡ item_frames is_open payload)
 ArePut is_open payload frames false = 2 ^ 24 < length payload
+
+-- where the payload of an item begins: after the frames of a client, its kind and its length
+abbrev pub payload_start : Bool → ℕ
+payload_start is_open = if is_open then 5 else 15
+
+-- where it is known where the payload begins that the held context was read from, these frames hold
+-- it
+abbrev pub IsKnown : LastRead → List ℕ → Type 0
+IsKnown last frames = IfSome last.payload_at (λ at. item_at (drop at frames) ≡ Some last.context)
 
 -- the length of what stands after four octets takes their place, unless no frame may hold so much
 abbrev pub IsLengthPut : ℕ → List ℕ → List ℕ → Bool → Type 0

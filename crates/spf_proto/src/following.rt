@@ -11,7 +11,7 @@ use crate::frame_end::FrameEnd;
 use crate::lent::LentSource;
 use crate::proto_error::ProtoError;
 use crate::translating::Acceptance;
-use crate::translator::{LastRead, Origin, Translator};
+use crate::translator::{LastItem, Origin, Translator};
 use spf_feed::{
     FollowError, MetricsRecorder, Publisher, Ready, ResourceLimits, SvidPicker,
     follow_x509_sharing, frame_kind,
@@ -98,7 +98,7 @@ fn follow_lent<N: Origin, T: LentSource, K: Sink, P: Publisher, M: MetricsRecord
         max_messages,
         frames,
     );
-    let followed = follow_x509_sharing::<Translator<'_, T, C, N>, K, P, M, C, LastRead>(
+    let followed = follow_x509_sharing::<Translator<'_, T, C, N>, K, P, M, C, LastItem>(
         alloc,
         &mut translator,
         sink,

@@ -2,13 +2,13 @@
 
 ghost use Rattle.std.specs.Prelude.{◌≡◌, ◌≤◌, length, drop, None, Some, IfSome, OnErr, IsTrue};
 ghost use Rattle.std.specs.Option.{ForSome, option_map};
-ghost use Rattle.spf_feed.specs.Items.{rules_with};
-ghost use Rattle.spf_proto.specs.Translating.{IsMadeOrStopped};
+ghost use Rattle.spf_feed.specs.Items.{item_at, rules_with};
+ghost use Rattle.spf_proto.specs.Translating.{IsKnown, IsMadeOrStopped};
 ghost use Rattle.spf_proto.specs.Latest.{IsLatest, IsAgain};
 
 use crate::incoming::Incoming;
 use crate::taking::Stop;
-use crate::translating::{Acceptance, Position, frames_of};
+use crate::translating::{Acceptance, LastRead, Position, frames_of};
 use spf_feed::SvidPicker;
 use spf_x509::X509Context;
 use std::alloc::Global;
@@ -20,9 +20,8 @@ pub(crate) struct Latest {
     pub(crate) message: Incoming,
     /// Where the session stood before and after it. None where the frames are those of no message.
     pub(crate) stood: Option<(Position, Position)>,
-    /// The last context that was read.
-    pub(crate) held: Option<X509Context>,
     pub(crate) frames: Vec<u8>,
+    pub(crate) read: LastRead,
 }
 
 impl Latest {
@@ -30,12 +29,13 @@ impl Latest {
     pub(crate) fn none(alloc: Global, frames: Vec<u8>) -> Latest
         ensures frames { result.frames ≡ frames }
         ensures stood { result.stood ≡ None }
+        ensures known { IsKnown result.read result.frames.items }
     {
         Latest {
             message: Incoming::new(alloc),
             stood: None,
-            held: None,
             frames,
+            read: LastRead::none(),
         }
     }
 
@@ -52,6 +52,19 @@ impl Latest {
                 }
             }
             None => None,
+        }
+    }
+
+    /// The context that a payload reads as, where it is that of the frames.
+    pub(crate) fn known(&self, payload: &[u8]) -> Option<&X509Context>
+        requires { IsKnown self.now.read self.now.frames.items }
+        ensures { IfSome result (λ context. item_at payload.now ≡ Some (Some context.now)) }
+    {
+        let at = self.read.payload_at?;
+        if self.frames.as_slice().get(at..)? == payload {
+            self.read.context.as_ref()
+        } else {
+            None
         }
     }
 }
@@ -71,9 +84,11 @@ pub(crate) fn translate<C: SvidPicker>(
     requires latest { IsLatest
         (rules_with acceptance.limits None acceptance.ready
         (option_map (λ p. C.picks p.now) picker)) acceptance.start latest.old }
+    requires known { IsKnown latest.old.read latest.old.frames.items }
     ensures latest { IsLatest
         (rules_with acceptance.limits None acceptance.ready
         (option_map (λ p. C.picks p.now) picker.entry)) acceptance.start latest.new }
+    ensures known { IsKnown latest.new.read latest.new.frames.items }
     ensures made { IsMadeOrStopped
         (rules_with acceptance.limits None acceptance.ready
         (option_map (λ p. C.picks p.now) picker.entry)) acceptance.start position
@@ -90,7 +105,7 @@ pub(crate) fn translate<C: SvidPicker>(
         picker,
         position,
         &message.as_slice()[5..],
-        &mut latest.held,
+        &mut latest.read,
         &mut latest.frames,
     ) {
         Ok(Some(after)) => {

@@ -1,18 +1,18 @@
 //! The frames that a message stands for.
 
 ghost use Rattle.std.specs.Prelude.{◌≡◌, ◌+◌, ◌≤◌, [], IfOk, OnOk, Some, None, false, is_some};
-ghost use Rattle.std.specs.Prelude.{length};
+ghost use Rattle.std.specs.Prelude.{drop, length};
 ghost use Rattle.std.specs.Prelude.{if◌then◌else◌};
 ghost use Rattle.std.specs.Option.{ForSome, option_map};
 ghost use Rattle.spf_api.specs.Views.{context_of};
 ghost use Rattle.spf_proto.specs.Payloads.{IsContext, context_payload};
-ghost use Rattle.spf_feed.specs.Items.{IsReceived, context_in, rules_with};
+ghost use Rattle.spf_feed.specs.Items.{IsReceived, context_in, item_at, rules_with};
 ghost use Rattle.spf_feed.specs.Items as items_spec;
 ghost use Rattle.spf_feed.specs.Pick.{usable};
 ghost use Rattle.spf_feed.specs.Steps.{chosen_of};
 ghost use Rattle.spf_proto.specs.Translated.{is_accepted, standing_after};
 ghost use Rattle.spf_proto.specs.Translating.{standing, client_frames, ArePut, IsLengthPut};
-ghost use Rattle.spf_proto.specs.Translating.{IsTranslated};
+ghost use Rattle.spf_proto.specs.Translating.{IsKnown, IsTranslated, payload_start};
 
 use crate::message::read_message;
 use crate::payload::put_context;
@@ -55,6 +55,38 @@ pub(crate) struct Position {
     pub(crate) is_open: bool,
     /// An item was accepted.
     pub(crate) synced: bool,
+}
+
+/// The last context that was read, and where the payload begins that it was read from, while the
+/// frames hold that.
+#[derive(Debug, Drop)]
+pub(crate) struct LastRead {
+    pub(crate) context: Option<X509Context>,
+    pub(crate) payload_at: Option<usize>,
+}
+
+impl LastRead {
+    /// No context.
+    pub(crate) fn none() -> LastRead
+        ensures { result.payload_at ≡ None }
+    {
+        LastRead {
+            context: None,
+            payload_at: None,
+        }
+    }
+
+    /// Holds the context of an update. One that breaks a rule leaves what was held.
+    fn hold(&mut self, context: Option<X509Context>, at: usize, frames: &[u8])
+        requires reads { item_at (drop at frames.now) ≡ Some context }
+        requires forgotten { self.old.payload_at ≡ None }
+        ensures { IsKnown self.new frames.now }
+    {
+        if let Some(context) = context {
+            self.context = Some(context);
+            self.payload_at = Some(at);
+        }
+    }
 }
 
 /// Whether there is a choice, and it has not expired.
@@ -122,31 +154,26 @@ fn received(
     }
 }
 
-/// Where a session stands after an update, whose context is held from then on.
+/// Where a session stands after an update.
 fn position_after<C: SvidPicker>(
     acceptance: Acceptance,
     picker: Option<&C>,
     position: Position,
-    context: Option<X509Context>,
-    held: &mut Option<X509Context>,
+    context: Option<&X509Context>,
 ) -> Position
     requires { ForSome picker (λ p. C.can_pick p.now) }
     ensures { standing result
         ≡ standing_after
         (rules_with acceptance.limits None acceptance.ready
         (option_map (λ p. C.picks p.now) picker.entry)) acceptance.start (standing position)
-        context }
+        (option_map (λ c. c.now) context.entry) }
 {
     let synced = position.synced;
     match context {
-        Some(context) => {
-            let accepted = synced || accepts(acceptance, picker, &context);
-            *held = Some(context);
-            Position {
-                is_open: synced,
-                synced: accepted,
-            }
-        }
+        Some(context) => Position {
+            is_open: synced,
+            synced: synced || accepts(acceptance, picker, context),
+        },
         None => Position {
             is_open: false,
             synced,
@@ -160,6 +187,13 @@ fn frames_before(is_open: bool) -> &'static [u8]
     ensures { result.now ≡ (if is_open then [] else client_frames) }
 {
     if is_open { &[] } else { &CLIENT }
+}
+
+/// Where the payload of an item begins.
+fn payload_start(is_open: bool) -> usize
+    ensures { result ≡ payload_start is_open }
+{
+    if is_open { 5 } else { 15 }
 }
 
 /// Writes the length of the payload into the four octets at `at`, after which it begins. Returns
@@ -197,23 +231,25 @@ fn put_frames(
 }
 
 /// Puts the frames of a message in place of what the buffer held, and returns where the session
-/// stands after it. None where the octets are not a message. What is held is the last context that
-/// was read: with any other the result is the same.
+/// stands after it. None where the octets are not a message. With any other context that was read
+/// last the result is the same.
 pub(crate) fn frames_of<C: SvidPicker>(
     alloc: Global,
     acceptance: Acceptance,
     picker: Option<&C>,
     position: Position,
     octets: &[u8],
-    held: &mut Option<X509Context>,
+    last: &mut LastRead,
     frames: &mut Vec<u8>,
 ) -> Result<Option<Position>, OutOfMemory>
     requires { ForSome picker (λ p. C.can_pick p.now) }
-    ensures { IfOk result (IsTranslated
+    ensures translated { IfOk result (IsTranslated
         (rules_with acceptance.limits None acceptance.ready
         (option_map (λ p. C.picks p.now) picker.entry)) acceptance.start position octets.now
         frames.new.items) }
+    ensures known { IsKnown last.new frames.new.items }
 {
+    last.payload_at = None;
     if octets.len() > MAX_PAYLOAD {
         return Ok(None);
     }
@@ -223,6 +259,8 @@ pub(crate) fn frames_of<C: SvidPicker>(
     if !put_frames(frames, position.is_open, &view)? {
         return Ok(None);
     }
-    let context = read_context(alloc, &view, held.as_ref())?;
-    Ok(Some(position_after(acceptance, picker, position, context, held)))
+    let context = read_context(alloc, &view, last.context.as_ref())?;
+    let after = position_after(acceptance, picker, position, context.as_ref());
+    last.hold(context, payload_start(position.is_open), frames.as_slice());
+    Ok(Some(after))
 }

@@ -61,7 +61,7 @@ impl<'p, T: LentSource, C: SvidPicker, N: Origin> Model for Translator<'p, T, C,
     ghost use Rattle.std.specs.Prelude.{◌≡◌, ◌≤◌, ◌<◌, drop, vec_len, None};
     ghost use Rattle.std.specs.Option.{ForSome, option_map};
     ghost use Rattle.spf_feed.specs.Items.{rules_with};
-    ghost use Rattle.spf_proto.specs.Translating.{standing};
+    ghost use Rattle.spf_proto.specs.Translating.{IsKnown, standing};
     ghost use Rattle.spf_proto.specs.Translator.{Translating, IsTranslator};
     ghost use Rattle.spf_proto.specs.Latest.{IsLatest};
 
@@ -94,7 +94,8 @@ impl<'p, T: LentSource, C: SvidPicker, N: Origin> Model for Translator<'p, T, C,
           failures = s.failed;
         })
         × IsLatest (rules_with s.acceptance.limits None s.acceptance.ready
-        (option_map (λ p. C.picks p.now) s.picker)) s.acceptance.start s.latest };
+        (option_map (λ p. C.picks p.now) s.picker)) s.acceptance.start s.latest
+        × IsKnown s.latest.read s.latest.frames.items };
 }
 
 impl<'p, T: LentSource, C: SvidPicker, N: Origin> Translator<'p, T, C, N> {
@@ -319,12 +320,11 @@ impl<'p, T: LentSource, C: SvidPicker, N: Origin> Source for Translator<'p, T, C
     }
 }
 
-/// What a translator lends to whoever reads its frames: the context that it read last, which most
-/// often is that of the update whose frames come next.
-pub(crate) struct LastRead;
+/// What a translator knows of its frames: the context of the item that it made last.
+pub(crate) struct LastItem;
 
-impl<'p, T: LentSource, C: SvidPicker, N: Origin> Sharing<Translator<'p, T, C, N>> for LastRead {
-    fn context<'a>(source: &'a Translator<'p, T, C, N>) -> Option<&'a X509Context> {
-        source.latest.held.as_ref()
+impl<'p, T: LentSource, C: SvidPicker, N: Origin> Sharing<Translator<'p, T, C, N>> for LastItem {
+    fn context<'a>(source: &'a Translator<'p, T, C, N>, payload: &[u8]) -> Option<&'a X509Context> {
+        source.latest.known(payload)
     }
 }

@@ -4,29 +4,29 @@ use Rattle.std.proofs.lemmas.Bool.Decides.{nat_tests}
 use Rattle.spf_api.specs.Views.{context_of}
 use Rattle.spf_api.specs.Layout.{context_payload}
 use Rattle.spf_proto.specs.Translating.{ArePut}
-use Rattle.spf_proto.proofs.TranslatingLemmas.{frames_made, response_large, response_long}
+use Rattle.spf_proto.proofs.TranslatingLemmas.{frames_made, known_is, response_large, response_long}
 use Rattle.spf_proto.proofs.TranslatingLemmas.{response_none, response_some}
 use Rattle.spf_proto.proofs.translating.frames_of.Goals as goal
 
-pub returns-then-octets-gt-MAX_PAYLOAD : goal.returns-then-octets-gt-MAX_PAYLOAD
-returns-then-octets-gt-MAX_PAYLOAD g c =
+pub returns-then-octets-gt-MAX_PAYLOAD-clause-translated : goal.returns-then-octets-gt-MAX_PAYLOAD-clause-translated
+returns-then-octets-gt-MAX_PAYLOAD-clause-translated g c =
     response_long c.args.octets.now (grind (arith, nat_tests))
 
-pub returns-in_default : goal.returns-in_default
-returns-in_default g c =
+pub returns-in_default-clause-translated : goal.returns-in_default-clause-translated
+returns-in_default-clause-translated g c =
     response_none c.args.octets.now
     (sym c.in_ok-view.ensures.exact ∙ ap (option_map context_of) c.in_default.is)
 
-pub returns-then-not-branch : goal.returns-then-not-branch
-returns-then-not-branch g c =
+pub returns-then-not-branch-clause-translated : goal.returns-then-not-branch-clause-translated
+returns-then-not-branch-clause-translated g c =
     let put : c.in_ok-put_frames.field-0 ≡ false = search rules in
     response_large c.args.octets.now (context_of c.in-Some.view)
     (sym c.in_ok-view.ensures.exact ∙ ap (option_map context_of) c.in-Some.is)
     (subst (ArePut c.args.position.is_open (context_payload (context_of c.in-Some.view))
     c.put_frames.new.frames.items) put c.in_ok-put_frames.ensures.frames)
 
-pub returns : goal.returns
-returns g c =
+pub returns-clause-translated : goal.returns-clause-translated
+returns-clause-translated g c =
     let put : c.in_ok-put_frames.field-0 ≡ true = search rules in
     let are : ArePut c.args.position.is_open (context_payload (context_of c.in-Some.view))
     c.put_frames.new.frames.items true =
@@ -41,3 +41,13 @@ returns g c =
           c.put_frames.new.frames.items are.1;
       standing_is = rw (← c.in_ok-context.ensures) c.position_after.ensures;
     }
+
+pub hold-requires-reads : goal.hold-requires-reads
+hold-requires-reads g c =
+    let put : c.in_ok-put_frames.field-0 ≡ true = search rules in
+    let are : ArePut c.args.position.is_open (context_payload (context_of c.in-Some.view))
+    c.put_frames.new.frames.items true =
+    subst (ArePut c.args.position.is_open (context_payload (context_of c.in-Some.view))
+    c.put_frames.new.frames.items) put c.in_ok-put_frames.ensures.frames in
+    known_is c.args.position.is_open (context_of c.in-Some.view) _ _ c.in_ok-put_frames.ensures.fits
+    are.1 c.in_ok-context.ensures

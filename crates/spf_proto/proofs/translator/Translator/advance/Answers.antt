@@ -18,6 +18,7 @@ invariant_of-self-in-Ok-Whole g c =
           c.take_message-taken.new.got c.self.view_is i.4 c.requires.going
           c.requires.unended taken.came taken.loan taken.cause.later taken.sized,
       i.5,
+      i.6,
     )
 
 pub invariant_of-self-in-Err : goal.invariant_of-self-in-Err
@@ -33,6 +34,7 @@ invariant_of-self-in-Err g c =
           c.take_message-taken.new.got c.self.view_is i.4 c.requires.going
           c.requires.unended taken.came taken.loan taken.cause.later taken.sized,
       i.5,
+      i.6,
     )
 
 pub returns-in-Ok-End-clause-at_end : goal.returns-in-Ok-End-clause-at_end

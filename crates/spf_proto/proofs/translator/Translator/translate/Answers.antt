@@ -18,6 +18,7 @@ invariant_of-self g c =
           refl
           made c.clear.ensures,
       c.translate-made.ensures.latest,
+      c.translate-made.ensures.known,
     )
 
 pub returns-in-Ok-clause-left : goal.returns-in-Ok-clause-left
