@@ -1,5 +1,5 @@
 -- What a pass has seen, and what a read does to it.
-use Rattle.std.specs.Prelude.{◌≡◌, ℕ, ◌+◌, ◌-◌, ◌^◌, ◌<◌, ◌⊎◌, true, List}
+use Rattle.std.specs.Prelude.{◌≡◌, ℕ, ◌+◌, ◌-◌, ◌^◌, ◌<◌, ◌⊎◌, true, List, Option}
 use mathlib.Core.List.{IsPrefix}
 use Rattle.logbook.specs.Pages.{Book}
 use Rattle.spf_io.specs.Outside.{Rose}
@@ -42,6 +42,35 @@ passed m v = record {
   entered = m.entered;
   missed = m.missed;
   enters = v.enters;
+}
+
+-- what contracts see of a pass of a source: the same, and which mark it knows of the closed cell
+pub record PassView (S C : Type 0) : Type 0 where
+  pub book : Book
+  pub seen : List (Entry S)
+  pub entered : List (Entry S)
+  pub missed : ℕ
+  pub enters : ℕ
+  pub closed : Option C
+
+abbrev pub pass_view : {S C : Type 0} → Remembered S → Place → Option C → PassView S C
+pass_view m v closed = record {
+  book = m.book;
+  seen = m.seen;
+  entered = m.entered;
+  missed = m.missed;
+  enters = v.enters;
+  closed = closed;
+}
+
+-- what it has read
+abbrev pub read_of : {S C : Type 0} → PassView S C → Passed S
+read_of p = record {
+  book = p.book;
+  seen = p.seen;
+  entered = p.entered;
+  missed = p.missed;
+  enters = p.enters;
 }
 
 -- it remembers no less than before, of the same board

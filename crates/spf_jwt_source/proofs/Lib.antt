@@ -1,8 +1,5 @@
 mod Reading
 pub mod Failing
 pub mod Joining
-pub mod Leaving
-pub mod Marking
 pub mod Recording
-pub mod Tasks
 pub mod Unyielded

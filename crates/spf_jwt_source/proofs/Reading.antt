@@ -1,30 +1,16 @@
--- Reads one after another.
-use Rattle.std.proofs.Common.{ℕ, ◌∙◌}
+-- Why a wait ends without a revision, over reads one after another.
+use Rattle.std.proofs.Common.{ℕ}
 use Rattle.spf_jwt_feed.specs.declared.state.JwtSourceError.{JwtSourceError}
 use Rattle.spf_jwt_feed.specs.declared.state.JwtSourceError.TheVariants as errors
-use Rattle.spf_history.proofs.Prefixes.{begins_trans}
 use Rattle.spf_jwt_board.specs.Passes.{PassView}
+use Rattle.spf_jwt_board.specs.Steps.{Legal}
+use Rattle.spiffe.proofs.Passing.{reads_later}
 use Rattle.spf_jwt_source.specs.Reads.{HasClosedCause, IsRevision, ReadsOn, SeesNoLess, Stays}
-
-pub sees_on : (old mid new : PassView) → SeesNoLess old mid → SeesNoLess mid new
-    → SeesNoLess old new
-sees_on old mid new before after = record {
-  book = after.book ∙ before.book;
-  seen = begins_trans old.seen mid.seen new.seen before.seen after.seen;
-  entered = begins_trans old.entered mid.entered new.entered before.entered after.entered;
-}
-
-pub reads_later : (old mid new : PassView) → SeesNoLess old mid → ReadsOn mid new → ReadsOn old new
-reads_later old mid new before after = record {
-  between = after.between;
-  seen = sees_on old mid after.between before after.seen;
-  renews = after.renews;
-}
 
 pub stays_later : (cell revision : ℕ) (old mid new : PassView) (e : JwtSourceError)
     → SeesNoLess old mid → Stays cell revision mid new e → Stays cell revision old new e
 stays_later cell revision old mid new errors.Closed before stays =
-    (stays.0, stays.1, reads_later old mid new before stays.2)
+    (stays.0, stays.1, reads_later Legal old mid new before stays.2)
 stays_later cell revision old mid new errors.OutOfMemory before stays = tt
 stays_later cell revision old mid new _ before stays = absurd stays
 

@@ -1,5 +1,3 @@
-pub mod Shutdowns
-pub mod Sources
 pub mod Building
 pub mod Records
 pub mod Reads

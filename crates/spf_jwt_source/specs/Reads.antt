@@ -1,17 +1,16 @@
 -- What the calls of a source return, and what they do to the pass that they are lent.
-use Rattle.std.specs.Prelude.{◌≡◌, ◌≢◌, ◌⊎◌, ◌≤◌, ℕ, Bool, false, List, Option, Some, None}
-use Rattle.std.specs.Prelude.{Result, Ok, Err, IfSome, IsSomeAnd, is_some}
+use Rattle.std.specs.Prelude.{◌≡◌, ◌≢◌, ◌⊎◌, ◌≤◌, ℕ, Bool, List, Option, Some, None}
+use Rattle.std.specs.Prelude.{Result, Ok, Err}
 use Rattle.std.specs.Option.{option_map, option_and_then}
 use Rattle.std.specs.Arc.{arc_value}
 use Rattle.std.specs.declared.alloc.Global.{Global}
 use Rattle.std.specs.declared.sync.Arc.{Arc}
-use mathlib.Core.List.{IsPrefix}
 use Rattle.spf_io.specs.Outside.{Rose}
 use Rattle.spf_io.specs.declared.memory.OutOfMemory.{OutOfMemory}
 use Rattle.spf_view.specs.Views.{View}
 use Rattle.spf_view.specs.Standing.{held_in, reason_of}
 use Rattle.spf_x509.specs.Bundle.{find_entry}
-use Rattle.spf_board.specs.Passes.{Peeks, Renews}
+use Rattle.spf_board.specs.Passes.{Renews}
 use Rattle.spf_close.specs.Marks.{mark_by}
 use Rattle.spf_close.specs.declared.maker.Maker.TheVariants as makers
 use Rattle.spf_feed.specs.declared.step.Denial.{Denial}
@@ -19,7 +18,7 @@ use Rattle.spf_jwt.specs.Bundle.{Bundle}
 use Rattle.spf_jwt_feed.specs.declared.state.JwtSourceError.{JwtSourceError}
 use Rattle.spf_jwt_feed.specs.declared.state.JwtSourceError.TheVariants as errors
 use Rattle.spf_jwt_feed.specs.States.{StateView}
-use Rattle.spf_jwt_feed.specs.Steps.{BundleSet}
+use Rattle.spf_jwt_feed.specs.Steps.{BundleSet, PlainStep}
 use Rattle.spf_jwt_board.specs.Passes.{PassView, read_of}
 use Rattle.spf_jwt_board.specs.Steps.{Legal, Replays, is_usable}
 use Rattle.spf_jwt_board.specs.States.{IsStateOf}
@@ -28,35 +27,15 @@ use Rattle.spf_link.specs.declared.connector.Connector as connectors
 use Rattle.spf_link.specs.declared.link.Link as links
 use Rattle.spf_link.specs.declared.request.Request.{Request}
 use Rattle.spf_jwt_client.specs.Fetching.{FetchesJwt, Fetcher}
-use Rattle.spiffe.specs.Sources.{Source}
-use Rattle.spf_jwt_source.specs.Sources.{Updates}
-
--- A pass that learns whether the source of this cell is closed: it knows a mark of the cell, or
--- none, and all else of it is as before.
-pub record LooksAt (cell : ℕ) (old new : PassView) : Type 0 where
-  pub read : new ≡ record old { closed = new.closed }
-  pub mark : IfSome new.closed (λ known. known.cell ≡ cell)
-
--- a caller closed this cell, which the pass knows by a note
-abbrev pub IsClosedByCaller : ℕ → PassView → Type 0
-IsClosedByCaller cell pass = pass.closed ≡ Some (mark_by cell makers.Caller)
+use Rattle.spiffe.specs.Passing.{FollowsBy, IsHealthyBy, ReadsOnBy}
+pub use Rattle.spiffe.specs.Passing.{IsClosedByCaller, LooksAt, SaysClosed, SeesNoLess}
+use Rattle.spiffe.specs.Sources.{Source, Updates}
 
 -- Why a call refuses without a read: a caller closed the cell, or memory ran out.
 abbrev pub HasClosedCause : ℕ → PassView → JwtSourceError → Type 0
 HasClosedCause cell pass errors.Closed = IsClosedByCaller cell pass
 HasClosedCause cell pass errors.OutOfMemory = Unit {0}
 HasClosedCause cell pass _ = ⊥
-
--- A state says that the source of this cell is closed exactly where a mark of it is known.
-pub record SaysClosed (cell : ℕ) (pass : PassView) (closed : Bool) : Type 0 where
-  pub mark : IfSome pass.closed (λ known. known.cell ≡ cell)
-  pub exact : closed ≡ is_some pass.closed
-
--- a pass that has seen no less than before, of the same board
-pub record SeesNoLess (old new : PassView) : Type 0 where
-  pub book : new.book ≡ old.book
-  pub seen : IsPrefix old.seen new.seen
-  pub entered : IsPrefix old.entered new.entered
 
 -- something is so of a state that the pass has read, and it knows of no mark of the closed cell
 pub record Reads (old new : PassView) (holds : View BundleSet Denial → Type 0) : Type 0 where
@@ -97,15 +76,9 @@ TriesBundle domain cell old new (Ok None) =
     × Gets (λ view. BundleAnswer view domain) cell old new (Err e))
 TriesBundle domain cell old new (Err e) = Unit {0}
 
--- Whether a source is healthy: where a mark of its cell is known it is not, and nothing is read;
--- otherwise what is published is usable, which the pass does not keep.
+-- whether a source is healthy: what is published is usable
 abbrev pub IsHealthy : ℕ → PassView → PassView → Bool → Type 0
-IsHealthy cell old new healthy =
-    ((healthy ≡ false) × IsSomeAnd new.closed (λ known. known.cell ≡ cell)
-    × (new ≡ record old { closed = new.closed }))
-    ⊎ ((new.closed ≡ None)
-    × Peeks Legal Replays (λ shown found. found ≡ is_usable shown)
-    (read_of old) (read_of new) healthy)
+IsHealthy cell old new healthy = IsHealthyBy Legal Replays is_usable cell old new healthy
 
 -- No place comes only where the count of refused places rose; the only other error is out of
 -- memory.
@@ -121,10 +94,8 @@ IsRevision pass revision =
     (state : StateView) × IsStateOf pass.seen state.closed state × (revision ≡ state.revision)
 
 -- a pass that has read, once it had seen no less than before
-pub record ReadsOn (old new : PassView) : Type 0 where
-  pub between : PassView
-  pub seen : SeesNoLess old between
-  pub renews : Renews Legal (read_of between) (read_of new)
+abbrev pub ReadsOn : PassView → PassView → Type 0
+ReadsOn old new = ReadsOnBy Legal old new
 
 -- Why a wait for another revision than this one ends without it: a caller closed the cell, and this
 -- one was read even so; or memory ran out.
@@ -134,13 +105,9 @@ Stays cell revision old new errors.Closed =
 Stays cell revision old new errors.OutOfMemory = Unit {0}
 Stays cell revision old new _ = ⊥
 
--- Updates of a source: their pass is of its board and has seen at least what the giver has seen,
--- and the revision of what it has read is marked as seen.
-pub record Follows (source : Source) (giver : PassView) (updates : Updates) : Type 0 where
-  pub cell : updates.cell ≡ source.cell
-  pub board : updates.pass.book ≡ source.board
-  pub seen : IsPrefix giver.seen updates.pass.seen
-  pub marked : IsRevision updates.pass updates.marked
+-- updates of a source
+abbrev pub Follows : Source → PassView → Updates PlainStep → Type 0
+Follows source giver updates = FollowsBy IsRevision source giver updates
 
 -- something holds of the view of a state that the pass has read
 abbrev pub OfState : PassView → (View BundleSet Denial → Type 0) → Type 0

@@ -4,8 +4,8 @@ ghost use Rattle.std.specs.Prelude.{◌≡◌, true, IfOk, Some};
 ghost use mathlib.Core.List.{IsPrefix};
 ghost use Rattle.spf_history.specs.Lists.{is_ended, steps_of};
 ghost use Rattle.spf_jwt_source.specs.Records.{IsOf, IsRecord};
-ghost use Rattle.spf_jwt_source.specs.Shutdowns.{Shuts, ShutsBy, ShutsConfigured};
-ghost use Rattle.spiffe.specs.Shutdowns.{is_late as spec_is_late};
+ghost use Rattle.spf_jwt_feed.specs.declared.state.JwtSourceError.TheVariants as errors;
+ghost use Rattle.spiffe.specs.Shutdowns.{Shuts, ShutsBy, ShutsConfigured, is_late as spec_is_late};
 
 use crate::job::JwtJob;
 use crate::record::JwtSupervised;
@@ -97,7 +97,8 @@ impl<J: Job, H: Joins<J> + Drop> JwtSupervisorHandle<J, H> {
         clock: &mut T,
         grace: Duration,
     ) -> Result<(), JwtSourceError>
-        ensures { ShutsBy grace (T.moments clock.old) (T.moments clock.new) result }
+        ensures { ShutsBy errors.ShutdownTimeout grace (T.moments clock.old)
+            (T.moments clock.new) result }
     {
         let JwtSupervisorHandle {
             handle,
@@ -114,7 +115,8 @@ impl<J: Job, H: Joins<J> + Drop> JwtSupervisorHandle<J, H> {
     /// The same with the grace that the builder set. Where it set none, no clock is asked and
     /// nothing times out.
     pub fn shutdown_configured<T: Clock>(self, clock: &mut T) -> Result<(), JwtSourceError>
-        ensures { ShutsConfigured self.grace (T.moments clock.old) (T.moments clock.new) result }
+        ensures { ShutsConfigured errors.ShutdownTimeout self.grace (T.moments clock.old)
+            (T.moments clock.new) result }
     {
         match self.grace {
             Some(grace) => self.shutdown_with_timeout(clock, grace),
@@ -142,7 +144,7 @@ fn is_late(started: i64, ended: i64, grace: Duration) -> bool
 
 /// The result of a shutdown by its two moments.
 fn shut(started: Option<i64>, ended: Option<i64>, grace: Duration) -> Result<(), JwtSourceError>
-    ensures { Shuts grace started ended result }
+    ensures { Shuts errors.ShutdownTimeout grace started ended result }
 {
     match (started, ended) {
         (Some(started), Some(ended)) if is_late(started, ended, grace) => {

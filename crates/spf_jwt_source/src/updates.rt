@@ -31,9 +31,10 @@ pub struct JwtSourceUpdates {
 }
 
 impl Model for JwtSourceUpdates {
-    ghost use Rattle.spf_jwt_source.specs.Sources.{Updates};
+    ghost use Rattle.spf_jwt_feed.specs.Steps.{PlainStep};
+    ghost use Rattle.spiffe.specs.Sources.{Updates};
 
-    ghost Value = { Updates };
+    ghost Value = { Updates PlainStep };
 
     ghost view = { λ u. record { cell = u.watch; pass = u.pass; marked = u.marked } };
 }

@@ -2,7 +2,6 @@
 use Rattle.std.proofs.Common.{◌≡◌, inl, inr, ap, ◌∙◌}
 use Rattle.std.specs.Prelude.{◌⊎◌}
 use Rattle.logbook.specs.Pages.{Book}
-use Rattle.spf_feed.specs.Steps.{PlainStep}
 use Rattle.spf_history.specs.declared.entry.Entry.TheVariants as entry
 use Rattle.spf_history.specs.Lists.{steps_of}
 use Rattle.spf_history.specs.Past.{Past, added}
@@ -10,11 +9,11 @@ use Rattle.spf_history.proofs.Prefixes.{steps_end}
 use Rattle.spiffe.specs.Boards.{numbers_of}
 
 -- an End is not a step
-pub same_steps : (new old : Past PlainStep) → (new ≡ added old entry.End) ⊎ (new ≡ old)
+pub same_steps : {S : Type 0} (new old : Past S) → (new ≡ added old entry.End) ⊎ (new ≡ old)
     → steps_of new.list ≡ steps_of old.list
-same_steps new old (inl ended) =
-    ap (λ (p : Past PlainStep). steps_of p.list) ended ∙ steps_end old.list
-same_steps new old (inr same) = ap (λ (p : Past PlainStep). steps_of p.list) same
+same_steps {S} new old (inl ended) =
+    ap (λ (p : Past S). steps_of p.list) ended ∙ steps_end old.list
+same_steps {S} new old (inr same) = ap (λ (p : Past S). steps_of p.list) same
 
 -- the numbers of a board name it
 pub same_board : (a b : Book) → numbers_of a ≡ numbers_of b → a ≡ b

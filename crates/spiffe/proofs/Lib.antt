@@ -2,6 +2,5 @@ mod Reading
 pub mod Failing
 pub mod Joining
 pub mod Leaving
-pub mod Marking
-pub mod Tasks
+pub mod Passing
 pub mod Unyielded

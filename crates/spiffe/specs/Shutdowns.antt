@@ -5,8 +5,6 @@ use Rattle.std.specs.Prelude.{pos, List, Option, None, Some, Result, Ok, Err, if
 use Rattle.std.specs.Duration.{as_nanos}
 use Rattle.std.specs.declared.time.Duration.{Duration}
 use Rattle.spf_system.specs.Clock.{later, next_moment}
-use Rattle.spf_feed.specs.declared.state.X509SourceError.{X509SourceError}
-use Rattle.spf_feed.specs.declared.state.X509SourceError.TheVariants as errors
 
 -- the cell that a handle is to close, and the grace of its builder
 pub record Pending : Type 0 where
@@ -25,26 +23,29 @@ is_late grace started ended =
     int_lt (pos 0) (ended -ℤ started)
     && nat_lt (as_nanos grace) (nat_abs (ended -ℤ started) * 1_000_000_000)
 
--- it timed out exactly where both moments are there and the second is late
-abbrev pub shuts : Duration → Option ℤ → Option ℤ → Result (Unit {0}) X509SourceError
-shuts grace (Some started) (Some ended) =
-    if is_late grace started ended then Err (errors.ShutdownTimeout started ended) else Ok tt
-shuts grace _ _ = Ok tt
+-- It timed out exactly where both moments are there and the second is late. The error says both.
+abbrev pub shuts : {E : Type 0} → (ℤ → ℤ → E) → Duration → Option ℤ → Option ℤ
+    → Result (Unit {0}) E
+shuts timed_out grace (Some started) (Some ended) =
+    if is_late grace started ended then Err (timed_out started ended) else Ok tt
+shuts timed_out grace _ _ = Ok tt
 
-abbrev pub Shuts : Duration → Option ℤ → Option ℤ → Result (Unit {0}) X509SourceError → Type 0
-Shuts grace started ended result = result ≡ shuts grace started ended
+abbrev pub Shuts : {E : Type 0} → (ℤ → ℤ → E) → Duration → Option ℤ → Option ℤ
+    → Result (Unit {0}) E → Type 0
+Shuts timed_out grace started ended result = result ≡ shuts timed_out grace started ended
 
 -- It takes exactly the next two answers of the clock, where the moments of the clock are known.
-abbrev pub ShutsBy : Duration → Option (List (Option ℤ)) → Option (List (Option ℤ))
-    → Result (Unit {0}) X509SourceError → Type 0
-ShutsBy grace None new result =
-    (started : Option ℤ) × (ended : Option ℤ) × (result ≡ shuts grace started ended)
-ShutsBy grace (Some old) None result = ⊥
-ShutsBy grace (Some old) (Some new) result =
-    (new ≡ later (later old)) × (result ≡ shuts grace (next_moment old) (next_moment (later old)))
+abbrev pub ShutsBy : {E : Type 0} → (ℤ → ℤ → E) → Duration → Option (List (Option ℤ))
+    → Option (List (Option ℤ)) → Result (Unit {0}) E → Type 0
+ShutsBy timed_out grace None new result =
+    (started : Option ℤ) × (ended : Option ℤ) × Shuts timed_out grace started ended result
+ShutsBy timed_out grace (Some old) None result = ⊥
+ShutsBy timed_out grace (Some old) (Some new) result =
+    (new ≡ later (later old))
+    × Shuts timed_out grace (next_moment old) (next_moment (later old)) result
 
 -- the same where a grace is set; without one, no moment is asked for
-abbrev pub ShutsConfigured : Option Duration → Option (List (Option ℤ)) → Option (List (Option ℤ))
-    → Result (Unit {0}) X509SourceError → Type 0
-ShutsConfigured None old new result = (new ≡ old) × (result ≡ Ok tt)
-ShutsConfigured (Some grace) old new result = ShutsBy grace old new result
+abbrev pub ShutsConfigured : {E : Type 0} → (ℤ → ℤ → E) → Option Duration
+    → Option (List (Option ℤ)) → Option (List (Option ℤ)) → Result (Unit {0}) E → Type 0
+ShutsConfigured timed_out None old new result = (new ≡ old) × (result ≡ Ok tt)
+ShutsConfigured timed_out (Some grace) old new result = ShutsBy timed_out grace old new result

@@ -1,19 +1,14 @@
 -- What updates have read, and what is marked.
-use Rattle.std.specs.Prelude.{◌≡◌, ◌⊎◌, ℕ}
-use Rattle.spf_board.specs.Passes.{Renews}
-use Rattle.spf_x509_board.specs.Passes.{PassView, Seen, read_of}
+use Rattle.std.specs.Prelude.{ℕ}
+use Rattle.spf_x509_board.specs.Passes.{PassView, Seen}
 use Rattle.spf_x509_board.specs.Steps.{Legal}
-use Rattle.spiffe.specs.Reads.{IsRevision, SeesNoLess}
+use Rattle.spiffe.specs.Passing.{MarksOnBy, ReadsFromBy}
+use Rattle.spiffe.specs.Reads.{IsRevision}
 
 -- a pass that has read, once it had seen just this
-pub record ReadsFrom (seen : Seen) (new : PassView) : Type 0 where
-  pub taken : PassView
-  pub begun : taken.seen ≡ seen
-  pub renews : Renews Legal (read_of taken) (read_of new)
+abbrev pub ReadsFrom : Seen → PassView → Type 0
+ReadsFrom seen new = ReadsFromBy Legal seen new
 
--- What is marked where a wait ended without a revision: what was marked before, or the revision of
--- something that was read in the wait.
+-- what is marked where a wait ended without a revision
 abbrev pub MarksOn : PassView → ℕ → PassView → ℕ → Type 0
-MarksOn old was new marked =
-    (marked ≡ was)
-    ⊎ ((read : PassView) × SeesNoLess old read × IsRevision read marked × SeesNoLess read new)
+MarksOn old was new marked = MarksOnBy IsRevision old was new marked

@@ -30,9 +30,10 @@ pub struct X509SourceUpdates {
 }
 
 impl Model for X509SourceUpdates {
+    ghost use Rattle.spf_feed.specs.Steps.{PlainStep};
     ghost use Rattle.spiffe.specs.Sources.{Updates};
 
-    ghost Value = { Updates };
+    ghost Value = { Updates PlainStep };
 
     ghost view = { λ u. record { cell = u.watch; pass = u.pass; marked = u.marked } };
 }

@@ -1,12 +1,13 @@
 use Rattle.std.proofs.Common.{rules, refl}
 use denote.Param.Always.{mut_next}
-use Rattle.spf_jwt_source.proofs.Marking.{marks_later, marks_now, on_any}
-use Rattle.spf_jwt_source.proofs.Reading.{sees_on, reads_later}
+use Rattle.spf_jwt_board.specs.Steps.{Legal}
+use Rattle.spiffe.proofs.Passing.{marks_later, marks_now, on_any, reads_later, sees_on}
+use Rattle.spf_jwt_source.specs.Reads.{IsRevision}
 use Rattle.spf_jwt_source.proofs.updates.JwtSourceUpdates.wait_for.Goals as goal
 
 pub returns-then-f-2-clause-reads : goal.returns-then-f-2-clause-reads
 returns-then-f-2-clause-reads g c =
-    reads_later _ _ _ c.changes.invariant.pass c.in_ok-revision.ensures.reads
+    reads_later Legal _ _ _ c.changes.invariant.pass c.in_ok-revision.ensures.reads
 
 pub returns-then-f-2-clause-pass : goal.returns-then-f-2-clause-pass
 returns-then-f-2-clause-pass g c =
@@ -14,7 +15,7 @@ returns-then-f-2-clause-pass g c =
 
 pub returns-in_err-revision-clause-unmarked : goal.returns-in_err-revision-clause-unmarked
 returns-in_err-revision-clause-unmarked g c =
-    on_any _ _ (marks_later _ _ _ _ _ _ c.changes.invariant.marks
+    on_any _ _ (marks_later IsRevision _ _ _ _ _ _ c.changes.invariant.marks
     c.in_err-revision.ensures.unmarked c.changed.ensures.pass)
 
 pub changes-preserved : goal.changes-preserved
@@ -24,7 +25,7 @@ changes-preserved g c = record {
   callable = mut_next g.F.FnMut _ _ _ _ _ c.f-in-changes.ensures refl c.changes.invariant.callable;
   cell = search rules;
   pass = sees_on _ _ _ c.changes.invariant.pass c.changed.ensures.pass;
-  marks = marks_now _ _ _ _ c.in_ok-revision.revision (sees_on _ _ _ c.changes.invariant.pass
-      c.changed.ensures.pass) c.in_ok-revision.ensures.revision.0
-      c.in_ok-revision.ensures.revision.2;
+  marks = marks_now IsRevision _ _ _ _ c.in_ok-revision.revision
+      (sees_on _ _ _ c.changes.invariant.pass c.changed.ensures.pass)
+      c.in_ok-revision.ensures.revision.0 c.in_ok-revision.ensures.revision.2;
 }
