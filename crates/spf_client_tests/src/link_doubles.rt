@@ -7,7 +7,7 @@ use spf_api::{
 use spf_io::{List, Text};
 use spf_link::{Answer, Connector, Headers, Link, MemConnector, MemLink, Request};
 use spf_responses::{FIRST, SvidRow, bundle_entries, context};
-use std::alloc::{AllocError, Global};
+use std::alloc::Global;
 use std::test::Fail;
 
 /// An SVID entry whose key is not one.
@@ -73,59 +73,22 @@ pub fn connector(alloc: Global, words: &[&str]) -> Result<MemConnector, Fail> {
     Ok(MemConnector::new(alloc, links))
 }
 
-/// Whether a text was made, and is this one.
-pub fn is_text(made: Result<String, AllocError>, wanted: &str) -> bool {
-    match made {
-        Ok(text) => {
-            let found = text.as_str() == wanted;
-            drop(text);
-            found
-        }
-        Err(_) => false,
-    }
-}
-
-fn fault_text(alloc: Global, fault: LinkFault) -> Result<String, AllocError> {
-    let text = format!(in alloc; "{fault}");
-    drop(fault);
-    text
-}
-
-/// Whether a start of this request, with a header, returns what this text says.
-fn starts(alloc: Global, link: &mut MemLink, request: &Request, wanted: &str) -> bool {
+fn started(alloc: Global, link: &mut MemLink, request: &Request) -> Result<String, Fail> {
     let mut headers = Headers::new(alloc);
-    let is_set = headers.set("a", "1").is_ok();
-    let started = link.start(&headers, request);
-    drop(headers);
-    match started {
-        Ok(()) => is_set && wanted == "started",
-        Err(fault) => is_text(fault_text(alloc, fault), wanted) && is_set,
+    headers.set("a", "1")?;
+    match link.start(&headers, request) {
+        Ok(()) => Ok(String::from_str(alloc, "started")?),
+        Err(e) => Ok(format!(in alloc; "{e}")?),
     }
 }
 
-/// Whether the next answer is what this text says.
-fn answers(alloc: Global, link: &mut MemLink, wanted: &str) -> bool {
+fn next(alloc: Global, link: &mut MemLink) -> Result<String, Fail> {
     match link.next() {
-        Ok(Some(item)) => {
-            drop(item);
-            wanted == "item"
-        }
-        Ok(None) => wanted == "end",
-        Err(fault) => is_text(fault_text(alloc, fault), wanted),
+        Ok(Some(_)) => Ok(String::from_str(alloc, "item")?),
+        Ok(None) => Ok(String::from_str(alloc, "end")?),
+        Err(e) => Ok(format!(in alloc; "{e}")?),
     }
 }
-
-const UNAVAILABLE: &str = "gRPC status unavailable: ";
-
-/// What `next` returns after a second start, which finds no answer that fits.
-const LATER: &[&str] = &[
-    UNAVAILABLE,
-    UNAVAILABLE,
-    "end",
-    "item",
-    UNAVAILABLE,
-    UNAVAILABLE,
-];
 
 /// A `start` takes one answer, and so does each `next`: what does not fit refuses like none.
 #[test]
@@ -135,129 +98,77 @@ fn link_answers_in_turn(rt: HostRuntime) -> Result<(), Fail> {
         "first", "started", "first", "bundles", "started", "end", "first",
     ];
     let mut link = link(alloc, &words)?;
-    assert!(rt; answers(alloc, &mut link, UNAVAILABLE));
-    assert!(rt; starts(alloc, &mut link, &Request::X509Svid, "started"));
-    assert!(rt; answers(alloc, &mut link, "item"));
-    for &wanted in LATER {
-        assert!(rt; answers(alloc, &mut link, wanted), "{wanted}");
+    let request = Request::X509Svid;
+    let unavailable = "gRPC status unavailable: ";
+    assert_eq!(rt; next(alloc, &mut link)?.as_str(), unavailable);
+    assert_eq!(rt; started(alloc, &mut link, &request)?.as_str(), "started");
+    assert_eq!(rt; next(alloc, &mut link)?.as_str(), "item");
+    for _ in 0..2 {
+        assert_eq!(rt; next(alloc, &mut link)?.as_str(), unavailable);
     }
-    assert!(rt; starts(alloc, &mut link, &Request::X509Svid, UNAVAILABLE));
-    drop(link);
+    for wanted in ["end", "item", unavailable, unavailable] {
+        assert_eq!(rt; next(alloc, &mut link)?.as_str(), wanted);
+    }
+    assert_eq!(rt; started(alloc, &mut link, &request)?.as_str(), unavailable);
     Ok(())
-}
-
-fn validation(alloc: Global) -> Result<Request, Fail> {
-    Ok(Request::ValidateJwt {
-        audience: Text::copy_of(alloc, "a")?,
-        svid: Text::copy_of(alloc, "t")?,
-    })
-}
-
-/// Whether the start at this index was of that request, with its header.
-fn has_start(link: &MemLink, index: usize, request: &Request) -> bool {
-    match link.starts().get(index) {
-        Some(start) => start.request == *request && start.headers.get("a") == Some("1"),
-        None => false,
-    }
 }
 
 /// Each `start` but one that is out of memory is kept with its headers.
 #[test]
 fn link_keeps_starts(rt: HostRuntime) -> Result<(), Fail> {
     let alloc = rt.alloc();
-    let request = validation(alloc)?;
     let mut link = link(alloc, &["started", "memory", "denied"])?;
-    assert!(rt; starts(alloc, &mut link, &Request::X509Svid, "started"));
-    assert!(rt; starts(alloc, &mut link, &Request::JwtBundles, "out of memory"));
-    let refused = "gRPC status permission_denied: no";
-    assert!(rt; starts(alloc, &mut link, &request, refused));
-    assert!(rt; link.starts().len() == 2);
-    assert!(rt; has_start(&link, 0, &Request::X509Svid));
-    assert!(rt; has_start(&link, 1, &request));
-    drop(link);
-    drop(request);
-    Ok(())
-}
-
-fn two_audiences(alloc: Global) -> Result<List<Text>, Fail> {
-    let first = Text::copy_of(alloc, "a")?;
-    let second = Text::copy_of(alloc, "b")?;
-    Ok(List::new(vec![in alloc; first, second]?))
-}
-
-fn jwt_request(alloc: Global) -> Result<Request, Fail> {
-    let audience = two_audiences(alloc)?;
-    let spiffe_id = Text::copy_of(alloc, "spiffe://example.org/w")?;
-    Ok(Request::JwtSvid {
-        spiffe_id,
-        audience,
-    })
-}
-
-/// Whether a copy of a request is equal to it.
-fn is_copied(alloc: Global, request: Request) -> bool {
-    let found = match request.try_clone(alloc) {
-        Ok(copy) => {
-            let is_same = copy == request;
-            drop(copy);
-            is_same
-        }
-        Err(_) => false,
+    assert_eq!(rt;
+        started(alloc, &mut link, &Request::X509Svid)?.as_str(),
+        "started"
+    );
+    assert_eq!(rt;
+        started(alloc, &mut link, &Request::JwtBundles)?.as_str(),
+        "out of memory"
+    );
+    let request = Request::ValidateJwt {
+        audience: Text::copy_of(alloc, "a")?,
+        svid: Text::copy_of(alloc, "t")?,
     };
-    drop(request);
-    found
+    let refused = started(alloc, &mut link, &request)?;
+    assert_eq!(rt; refused.as_str(), "gRPC status permission_denied: no");
+    assert_eq!(rt; link.starts().len(), 2);
+    assert!(rt; link.starts()[0].request == Request::X509Svid);
+    assert!(rt; link.starts()[1].request == request);
+    assert_eq!(rt; link.starts()[1].headers.get("a"), Some("1"));
+    Ok(())
 }
 
 #[test]
 fn request_is_copied(rt: HostRuntime) -> Result<(), Fail> {
-    assert!(rt; is_copied(rt.alloc(), jwt_request(rt.alloc())?));
-    assert!(rt; is_copied(rt.alloc(), Request::X509Bundles));
+    let alloc = rt.alloc();
+    let mut audience = Vec::new(alloc);
+    audience.push(Text::copy_of(alloc, "a")?)?;
+    audience.push(Text::copy_of(alloc, "b")?)?;
+    let request = Request::JwtSvid {
+        spiffe_id: Text::copy_of(alloc, "spiffe://example.org/w")?,
+        audience: List::new(audience),
+    };
+    assert!(rt; request.try_clone(alloc)? == request);
+    assert!(rt; Request::X509Bundles.try_clone(alloc)? == Request::X509Bundles);
     Ok(())
 }
 
-/// Whether the connector gives a link.
-fn connects(connector: &mut MemConnector) -> bool {
-    match connector.connect() {
-        Ok(link) => {
-            drop(link);
-            true
-        }
-        Err(fault) => {
-            drop(fault);
-            false
-        }
-    }
-}
-
-/// Whether the connector gives this error.
-fn is_refused(alloc: Global, connector: &mut MemConnector, wanted: &str) -> bool {
-    match connector.connect() {
-        Ok(link) => {
-            drop(link);
-            false
-        }
-        Err(fault) => {
-            let text = format!(in alloc; "{fault}");
-            drop(fault);
-            is_text(text, wanted)
-        }
-    }
-}
-
-const REFUSALS: &[&str] = &[
-    "gRPC status permission_denied: no",
-    "nobody listens",
-    UNAVAILABLE,
-];
-
 #[test]
 fn connector_gives_links_in_turn(rt: HostRuntime) -> Result<(), Fail> {
-    let mut connector = connector(rt.alloc(), &["started"])?;
-    assert!(rt; connector.validate().is_ok());
-    assert!(rt; connects(&mut connector));
-    for &wanted in REFUSALS {
-        assert!(rt; is_refused(rt.alloc(), &mut connector, wanted), "{wanted}");
+    let alloc = rt.alloc();
+    let mut connector = connector(alloc, &["started"])?;
+    assert_eq!(rt; connector.validate(), Ok(()));
+    assert!(rt; connector.connect().is_ok());
+    for wanted in [
+        "gRPC status permission_denied: no",
+        "nobody listens",
+        "gRPC status unavailable: ",
+    ] {
+        let Err(e) = connector.connect() else {
+            return Err(Fail::from("a link"));
+        };
+        assert_eq!(rt; format!(in alloc; "{e}")?.as_str(), wanted);
     }
-    drop(connector);
     Ok(())
 }

@@ -2,11 +2,11 @@
 
 use spf_api::{LinkFault, Response};
 use spf_fixtures::octets;
-use spf_io::{MemSink, MemSource, OutOfMemory, Text};
+use spf_io::{MemSink, MemSource, Text};
 use spf_link::{Headers, Link, Request};
 use spf_responses::first_item;
 use spf_wire::WireLink;
-use std::alloc::{AllocError, Global};
+use std::alloc::Global;
 use std::test::Fail;
 
 /// What a link over memory reads, `s` for each `start` and
@@ -69,253 +69,127 @@ fn fault_name(fault: &LinkFault) -> &'static str {
     }
 }
 
-fn start_name(started: Result<(), LinkFault>) -> &'static str {
+fn start_name(started: &Result<(), LinkFault>) -> &'static str {
     match started {
         Ok(()) => "started",
-        Err(fault) => {
-            let name = fault_name(&fault);
-            drop(fault);
-            name
-        }
+        Err(fault) => fault_name(fault),
     }
 }
 
-fn next_name(next: Result<Option<Response>, LinkFault>) -> &'static str {
+fn next_name(next: &Result<Option<Response>, LinkFault>) -> &'static str {
     match next {
-        Ok(Some(response)) => {
-            drop(response);
-            "item"
-        }
+        Ok(Some(_)) => "item",
         Ok(None) => "end",
-        Err(fault) => {
-            let name = fault_name(&fault);
-            drop(fault);
-            name
-        }
+        Err(fault) => fault_name(fault),
     }
 }
 
-type MemWire = WireLink<MemSource, MemSink>;
-
-/// A source that gives these octets in these cuts.
-fn source_of(alloc: Global, text: &str, cuts: Vec<usize>) -> Result<MemSource, Fail> {
-    match octets(alloc, text) {
-        Ok(bytes) => Ok(MemSource::new(bytes, cuts, Vec::new(alloc))),
-        Err(e) => {
-            drop(cuts);
-            Err(e)
-        }
-    }
-}
-
-/// A link over this source, and over a sink of that room.
-fn link_of(alloc: Global, source: MemSource, room: usize) -> Result<MemWire, OutOfMemory> {
-    match MemSink::new(alloc, room, Vec::new(alloc)) {
-        Ok(sink) => Ok(WireLink::new(alloc, source, sink)),
-        Err(e) => {
-            drop(source);
-            Err(e)
-        }
-    }
+fn source_of(
+    alloc: Global,
+    text: &str,
+    cuts: Vec<usize>,
+    failing: Vec<u64>,
+) -> Result<MemSource, Fail> {
+    Ok(MemSource::new(octets(alloc, text)?, cuts, failing))
 }
 
 /// What one call returns.
-fn call_name(link: &mut MemWire, headers: &Headers, call: u8) -> &'static str {
+fn call_name(link: &mut WireLink<MemSource, MemSink>, headers: &Headers, call: u8) -> &'static str {
     if call == b's' {
-        return start_name(link.start(headers, &Request::X509Svid));
+        return start_name(&link.start(headers, &Request::X509Svid));
     }
-    next_name(link.next())
+    next_name(&link.next())
 }
 
-fn add(text: &mut String, name: &str) -> Result<(), AllocError> {
-    text.push_str(name)?;
-    text.push_str(" ")
-}
-
-/// Adds what the calls return, one after another.
-fn add_names(
-    text: &mut String,
-    link: &mut MemWire,
-    headers: &Headers,
-    calls: &str,
-) -> Result<(), AllocError> {
+/// What the calls return, one after another, over a source that gives its octets in these cuts.
+fn names(alloc: Global, source: MemSource, calls: &str) -> Result<String, Fail> {
+    let sink = MemSink::new(alloc, 100, Vec::new(alloc))?;
+    let mut link = WireLink::new(alloc, source, sink);
+    let headers = Headers::new(alloc);
+    let mut names = String::new(alloc);
     for call in calls.as_bytes() {
-        add(text, call_name(link, headers, *call))?;
+        names.push_str(call_name(&mut link, &headers, *call))?;
+        names.push_str(" ")?;
     }
-    Ok(())
-}
-
-/// Whether the calls of a link over this source return what the names say.
-fn are_names(alloc: Global, source: MemSource, calls: &str, wanted: &str) -> bool {
-    match link_of(alloc, source, 100) {
-        Ok(mut link) => {
-            let headers = Headers::new(alloc);
-            let mut text = String::new(alloc);
-            let added = add_names(&mut text, &mut link, &headers, calls);
-            let found = added.is_ok() && text.as_str() == wanted;
-            drop(text);
-            drop(headers);
-            drop(link);
-            found
-        }
-        Err(_) => false,
-    }
-}
-
-/// The same over these octets, which come whole or one at a time.
-fn is_answered(
-    alloc: Global,
-    text: &str,
-    is_cut: bool,
-    calls: &str,
-    wanted: &str,
-) -> Result<bool, Fail> {
-    let cuts = if is_cut {
-        vec![in alloc; 1usize; 600]?
-    } else {
-        Vec::new(alloc)
-    };
-    let source = source_of(alloc, text, cuts)?;
-    Ok(are_names(alloc, source, calls, wanted))
+    Ok(names)
 }
 
 #[test]
 fn answers(rt: HostRuntime) -> Result<(), Fail> {
-    for &(text, calls, wanted) in CALLS.iter() {
-        assert!(rt;
-            is_answered(rt.alloc(), text, false, calls, wanted)?,
-            "{text}"
-        );
-        assert!(rt;
-            is_answered(rt.alloc(), text, true, calls, wanted)?,
-            "{text}"
-        );
+    let alloc = rt.alloc();
+    for (text, calls, wanted) in CALLS.iter() {
+        let source = source_of(alloc, text, Vec::new(alloc), Vec::new(alloc))?;
+        assert!(rt; names(alloc, source, calls)?.as_str() == *wanted, "{text}");
+        // One octet at a time.
+        let source = source_of(alloc, text, vec![in alloc; 1usize; 600]?, Vec::new(alloc))?;
+        assert!(rt; names(alloc, source, calls)?.as_str() == *wanted, "{text}");
     }
     Ok(())
-}
-
-/// Whether the next answer of a link is this response, or the end.
-fn is_next(link: &mut MemWire, wanted: Option<&Response>) -> bool {
-    match link.next() {
-        Ok(found) => {
-            let is_same = found.as_ref() == wanted;
-            drop(found);
-            is_same
-        }
-        Err(fault) => {
-            drop(fault);
-            false
-        }
-    }
 }
 
 #[test]
 fn wire_link(rt: HostRuntime) -> Result<(), Fail> {
     let alloc = rt.alloc();
-    let wanted = octets(alloc, "110000000400000000")?;
+    let source = source_of(alloc, "CN I1 07 00000000", Vec::new(alloc), Vec::new(alloc))?;
+    let sink = MemSink::new(alloc, 9, Vec::new(alloc))?;
+    let mut link = WireLink::new(alloc, source, sink);
+    assert!(rt; link.start(&Headers::new(alloc), &Request::X509Svid).is_ok());
+    assert!(rt; link.sink().bytes() == octets(alloc, "110000000400000000")?.as_slice());
     let item = Response::Context(first_item(alloc)?);
-    let source = source_of(alloc, "CN I1 07 00000000", Vec::new(alloc))?;
-    let mut link = link_of(alloc, source, 9).expect(&rt, "a link");
-    let headers = Headers::new(alloc);
-    assert!(rt; start_name(link.start(&headers, &Request::X509Svid)) == "started");
-    assert!(rt; link.sink().bytes() == wanted.as_slice());
-    assert!(rt; is_next(&mut link, Some(&item)));
-    assert!(rt; is_next(&mut link, None));
-    drop(link);
-    drop(headers);
-    drop(item);
-    drop(wanted);
+    assert!(rt; link.next() == Ok(Some(item)));
+    assert!(rt; link.next() == Ok(None));
+    let failing = source_of(alloc, "CN", Vec::new(alloc), vec![in alloc; 1]?)?;
+    assert!(rt; names(alloc, failing, "s")?.as_str() == "unavailable ");
     Ok(())
 }
 
-/// A source that fails at its first read.
-#[test]
-fn failing_source(rt: HostRuntime) -> Result<(), Fail> {
-    let alloc = rt.alloc();
-    let bytes = octets(alloc, "CN")?;
-    let failing = vec![in alloc; 1].expect(&rt, "room");
-    let source = MemSource::new(bytes, Vec::new(alloc), failing);
-    assert!(rt; are_names(alloc, source, "s", "unavailable "));
-    Ok(())
-}
-
-/// Whether a start puts these octets.
-fn puts(alloc: Global, headers: &Headers, request: &Request, wanted: &str) -> Result<bool, Fail> {
-    let wanted = octets(alloc, wanted)?;
-    let source = source_of(alloc, "CN", Vec::new(alloc))?;
-    let found = is_put(alloc, source, headers, request, wanted.as_slice());
-    drop(wanted);
-    Ok(found)
-}
-
-/// The same over this source.
-fn is_put(
+/// The octets that a start puts.
+fn put_by(
     alloc: Global,
-    source: MemSource,
     headers: &Headers,
     request: &Request,
-    wanted: &[u8],
-) -> bool {
-    match link_of(alloc, source, 200) {
-        Ok(mut link) => {
-            let started = start_name(link.start(headers, request));
-            let found = started == "started" && link.sink().bytes() == wanted;
-            drop(link);
-            found
-        }
-        Err(_) => false,
+) -> Result<WireLink<MemSource, MemSink>, Fail> {
+    let source = source_of(alloc, "CN", Vec::new(alloc), Vec::new(alloc))?;
+    let mut link = WireLink::new(alloc, source, MemSink::new(alloc, 200, Vec::new(alloc))?);
+    match link.start(headers, request) {
+        Ok(()) => Ok(link),
+        Err(_) => Err(Fail::from("refused")),
     }
 }
-
-fn validation(alloc: Global) -> Result<Request, OutOfMemory> {
-    Ok(Request::ValidateJwt {
-        audience: Text::copy_of(alloc, "a")?,
-        svid: Text::copy_of(alloc, "t")?,
-    })
-}
-
-const WITH_A_HEADER: &str = "12 0000000f 00000001 00000001 61 00000002 6263";
-
-const OF_A_TOKEN: &str = "15 0000000e 00000000 00000001 61 00000001 74";
 
 #[test]
 fn requests(rt: HostRuntime) -> Result<(), Fail> {
     let alloc = rt.alloc();
     let mut headers = Headers::new(alloc);
-    headers.set("a", "bc").expect(&rt, "a header");
-    assert!(rt; puts(alloc, &headers, &Request::X509Bundles, WITH_A_HEADER)?);
-    drop(headers);
-    let headers = Headers::new(alloc);
-    let request = validation(alloc).expect(&rt, "a request");
-    assert!(rt; puts(alloc, &headers, &request, OF_A_TOKEN)?);
-    drop(request);
-    drop(headers);
+    headers.set("a", "bc")?;
+    let link = put_by(alloc, &headers, &Request::X509Bundles)?;
+    let wanted = octets(alloc, "12 0000000f 00000001 00000001 61 00000002 6263")?;
+    assert!(rt; link.sink().bytes() == wanted.as_slice());
+    let request = Request::ValidateJwt {
+        audience: Text::copy_of(alloc, "a")?,
+        svid: Text::copy_of(alloc, "t")?,
+    };
+    let link = put_by(alloc, &Headers::new(alloc), &request)?;
+    let wanted = octets(alloc, "15 0000000e 00000000 00000001 61 00000001 74")?;
+    assert!(rt; link.sink().bytes() == wanted.as_slice());
     Ok(())
-}
-
-/// A link to which the other side confirms a start, and whose first write fails.
-fn failing_sink(alloc: Global) -> Result<MemWire, Fail> {
-    let failing = vec![in alloc; 1]?;
-    let sink = MemSink::new(alloc, 100, failing)?;
-    let source = source_of(alloc, "CN", Vec::new(alloc))?;
-    Ok(WireLink::new(alloc, source, sink))
 }
 
 #[test]
 fn refused_before_it_is_read(rt: HostRuntime) -> Result<(), Fail> {
     let alloc = rt.alloc();
-    let mut link = failing_sink(alloc)?;
     let mut headers = Headers::new(alloc);
-    assert!(rt; start_name(link.start(&headers, &Request::X509Svid)) == "unavailable");
-    let long = vec![in alloc; b'a'; 1 << 24].expect(&rt, "room");
-    let long = String::from_utf8(long).expect(&rt, "a text");
-    headers.set("long", long.as_str()).expect(&rt, "a header");
-    drop(long);
-    assert!(rt; start_name(link.start(&headers, &Request::X509Svid)) == "resource_exhausted");
+    let source = source_of(alloc, "CN", Vec::new(alloc), Vec::new(alloc))?;
+    let sink = MemSink::new(alloc, 100, vec![in alloc; 1]?)?;
+    let mut link = WireLink::new(alloc, source, sink);
+    let first = link.start(&headers, &Request::X509Svid);
+    assert!(rt; start_name(&first) == "unavailable");
+    let long = String::from_utf8(vec![in alloc; b'a'; 1 << 24]?)?;
+    headers.set("long", long.as_str())?;
+    let second = link.start(&headers, &Request::X509Svid);
+    assert!(rt; start_name(&second) == "resource_exhausted");
     assert!(rt; link.sink().bytes().is_empty());
-    headers.set("long", "short").expect(&rt, "a header");
-    assert!(rt; start_name(link.start(&headers, &Request::X509Svid)) == "started");
-    drop(headers);
-    drop(link);
+    headers.set("long", "short")?;
+    assert!(rt; link.start(&headers, &Request::X509Svid).is_ok());
     Ok(())
 }
