@@ -1,7 +1,7 @@
 -- How a message is translated.
 use Rattle.std.proofs.Common.{◌≡◌, ◌∙◌, ℕ, ◌^◌, ◌≤◌, ◌<◌, Bool, true, false, cond, List, [], ◌∷◌}
 use Rattle.std.proofs.Common.{◌+◌, ◌-◌, ◌++◌, length, take, drop, Option, Some, None, refl, ap}
-use Rattle.std.proofs.Common.{absurd, append_assoc, arith, length-append, sym}
+use Rattle.std.proofs.Common.{append_assoc, arith, length-append, sym}
 use Rattle.std.specs.Option.{option_map}
 use Rattle.std.specs.Int.{w32, to_be_bytes}
 use Rattle.std.specs.Prelude.{nat_lt}

@@ -39,15 +39,17 @@ returns-clause-translated g c =
       laid = c.in_ok-put_frames.ensures.fits;
       frames_are = frames_made c.args.position.is_open (context_of c.in-Some.view)
           c.put_frames.new.frames.items are.1;
-      standing_is = rw (← c.in_ok-context.ensures) c.position_after.ensures;
+      standing_is = rw (← c.in_ok-context.ensures, ← c.as_ref-2.ensures.value)
+          c.position_after-after.ensures;
     }
 
-pub hold-requires-reads : goal.hold-requires-reads
-hold-requires-reads g c =
+pub hold-requires-clause-reads : goal.hold-requires-clause-reads
+hold-requires-clause-reads g c =
     let put : c.in_ok-put_frames.field-0 ≡ true = search rules in
     let are : ArePut c.args.position.is_open (context_payload (context_of c.in-Some.view))
     c.put_frames.new.frames.items true =
     subst (ArePut c.args.position.is_open (context_payload (context_of c.in-Some.view))
     c.put_frames.new.frames.items) put c.in_ok-put_frames.ensures.frames in
-    known_is c.args.position.is_open (context_of c.in-Some.view) _ _ c.in_ok-put_frames.ensures.fits
-    are.1 c.in_ok-context.ensures
+    rw (c.payload_start.ensures, c.as_slice.ensures.value)
+    (known_is c.args.position.is_open (context_of c.in-Some.view) c.put_frames.new.frames.items
+    c.in_ok-context.context c.in_ok-put_frames.ensures.fits are.1 c.in_ok-context.ensures)
