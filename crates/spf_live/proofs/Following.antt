@@ -38,7 +38,7 @@ unyielded_assigned : {S K : Type 0} (members : S → Option (List Member))
     (picks : K → List Svid → Option ℕ) (set : Settings K) (connector : S)
     (clock clock' : Moments) (job : Assigned S K)
     → IsAssigned members picks set connector clock clock' job
-    → IsAssigned (λ connector. None) picks set connector None None job
+    → IsAssigned (λ connector. None) picks set connector clock clock' job
 unyielded_assigned members picks set connector clock clock' job is = record {
   limits = is.limits;
   ready = is.ready;
@@ -47,7 +47,7 @@ unyielded_assigned members picks set connector clock clock' job is = record {
   bounds = is.bounds;
   members_are = refl;
   synced = is.synced;
-  clock_is = tt;
+  clock_is = is.clock_is;
 }
 
 -- all lines are printed, and there is a record
@@ -103,19 +103,20 @@ followed {S} {K} members picks job count clock clock' held held' r done seen las
 -- a source that was built by these arguments was followed by the handle of its job
 pub runs_unyielded : {S K : Type 0} (members : S → Option (List Member))
     (picks : K → List Svid → Option ℕ) (setting : LiveSetting) (set : Settings K) (connector : S)
-    (clock clock' : Moments) (held held' : Option (List ℕ)) (job followed : Assigned S K)
+    (clock between clock' : Moments) (held held' : Option (List ℕ)) (job followed : Assigned S K)
     (r : Result (Unit {0}) LiveError) (count : ℕ) → IsSetTo picks setting set
-    → IsAssigned members picks set connector clock clock' job → followed ≡ job
+    → IsAssigned members picks set connector clock between job → followed ≡ job
     → count ≡ setting.lines
-    → Follows (λ connector. None) picks followed count None None held held' r
-    → Runs None picks setting None None held held' r
-runs_unyielded {S} {K} members picks setting set connector clock clock' held held' job followed r
-    count is assigned same lines follows =
+    → Follows (λ connector. None) picks followed count between clock' held held' r
+    → Runs None picks setting clock clock' held held' r
+runs_unyielded {S} {K} members picks setting set connector clock between clock' held held' job
+    followed r count is assigned same lines follows =
     let of_job = subst (λ (j : Assigned S K).
-    Follows (λ connector. None) picks j count None None held held' r) same follows in
-    runs_by (λ connector. None) picks setting set connector None None None held held' job r is
-    (unyielded_assigned members picks set connector clock clock' job assigned)
-    (subst (λ (n : ℕ). Follows (λ connector. None) picks job n None None held held' r) lines of_job)
+    Follows (λ connector. None) picks j count between clock' held held' r) same follows in
+    runs_by (λ connector. None) picks setting set connector clock between clock' held held' job r is
+    (unyielded_assigned members picks set connector clock between job assigned)
+    (subst (λ (n : ℕ). Follows (λ connector. None) picks job n between clock' held held' r) lines
+    of_job)
 
 -- printing failed, whatever was recorded
 pub failed_follows : {S K : Type 0} (members : S → Option (List Member))

@@ -14,7 +14,7 @@ pub returns-in-Ok-start_on_thread : goal.returns-in-Ok-start_on_thread
 returns-in-Ok-start_on_thread g c = record {
   does = does_by _ _ _ _ _ _ _ c.in-Some.options _ _ _ _ c.follow_on_thread.result
       (sym c.in-Some.is ∙ c.live_options.ensures.setting)
-      (runs_unyielded _ _ c.in-Some.options c.in-Ok.builder.settings c.in-Ok.builder.connector _ _
+      (runs_unyielded _ _ c.in-Some.options c.in-Ok.builder.settings c.in-Ok.builder.connector _ _ _
       (g.K.Sink.held c.args.out.now) (g.K.Sink.held c.follow_on_thread.new.out)
       c.in-Ok-prepare.job c.started.result.job c.follow_on_thread.result c.options.inside.lines
       c.in-Ok.ensures.settings c.in-Ok-prepare.ensures.assigned
