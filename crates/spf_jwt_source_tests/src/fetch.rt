@@ -29,7 +29,7 @@ fn outcome_of(error: &JwtSourceError) -> Outcome {
 }
 
 /// What a fetch returned.
-fn outcome_of(answer: Result<JwtSvid, JwtSourceError>) -> Outcome {
+fn summary(answer: Result<JwtSvid, JwtSourceError>) -> Outcome {
     match answer {
         Ok(svid) => {
             let is_token = svid.token() == TOKEN1;
@@ -58,7 +58,7 @@ fn fetched(
     let mut fetcher = JwtFetcher::new(connector);
     let answer = source.fetch_jwt_svid(alloc, &mut fetcher, audience);
     drop(fetcher);
-    outcome_of(answer)
+    summary(answer)
 }
 
 fn audience_of(alloc: Global, name: &str) -> Result<Vec<Text>, OutOfMemory> {
