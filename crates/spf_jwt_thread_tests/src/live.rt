@@ -142,7 +142,8 @@ fn records_opening<R: Wait + Copy + Drop>(handle: InlineHandle<R>, pass: JwtPass
     }
 }
 
-/// Whether it is so of a source of the agent at this path, whose supervisor runs where it is joined.
+/// Whether it is so of a source of the agent at this path, whose supervisor runs where it is
+/// joined.
 fn is_found_inline<R: Wait + Copy + Drop>(host: HostRuntime, rt: R, path: &str) -> bool {
     let alloc = host.alloc();
     let Ok(path) = Text::copy_of(alloc, path) else {
