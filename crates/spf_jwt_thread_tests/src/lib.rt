@@ -2,6 +2,8 @@
 #![tactic(auto)]
 
 #[cfg(test)]
+mod fetch;
+#[cfg(test)]
 mod live;
 mod on_thread;
 

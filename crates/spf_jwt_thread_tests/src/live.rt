@@ -17,7 +17,7 @@ use std::time::Duration;
 
 type Handle<R> = JwtSupervisorHandle<JwtAgentJob<R>, JwtOnThread<R>>;
 
-type InlineHandle<R> = JwtSupervisorHandle<JwtAgentJob<R>, HeldJob<JwtAgentJob<R>>>;
+pub(crate) type InlineHandle<R> = JwtSupervisorHandle<JwtAgentJob<R>, HeldJob<JwtAgentJob<R>>>;
 
 /// A source of the agent at this path, whose supervisor runs on a thread.
 fn built<R: Threads + Wait + Copy + Drop + Send + 'static>(
@@ -132,7 +132,7 @@ fn is_opening_record(record: &JwtSupervised) -> bool {
 }
 
 /// Whether the record of a supervisor, which this closes and then runs, is so.
-fn records_opening<R: Wait + Copy + Drop>(handle: InlineHandle<R>, pass: JwtPass) -> bool
+pub(crate) fn records_opening<R: Wait + Copy + Drop>(handle: InlineHandle<R>, pass: JwtPass) -> bool
     requires { pass.book ≡ handle.job.board }
 {
     let mut pass = pass;
@@ -142,14 +142,18 @@ fn records_opening<R: Wait + Copy + Drop>(handle: InlineHandle<R>, pass: JwtPass
     }
 }
 
-/// Whether it is so of a source of the agent at this path, whose supervisor runs where it is
-/// joined.
-fn is_found_inline<R: Wait + Copy + Drop>(host: HostRuntime, rt: R, path: &str) -> bool {
+/// A source of the agent at this path, whose supervisor runs where it is joined.
+pub(crate) fn built_inline<R: Wait + Copy + Drop>(
+    host: HostRuntime,
+    rt: R,
+    path: &str,
+) -> Result<(JwtSource, JwtPass, InlineHandle<R>), JwtSourceError>
+    ensures pass { IfOk result (λ r. r.1.book ≡ r.0.board) }
+    ensures job { IfOk result (λ r. r.2.job.board ≡ r.0.board) }
+{
     let alloc = host.alloc();
-    let Ok(path) = Text::copy_of(alloc, path) else {
-        return false;
-    };
-    match JwtSource::builder(AgentConnector::to(host, alloc, path)).build(
+    let connector = AgentConnector::to(host, alloc, Text::copy_of(alloc, path)?);
+    JwtSource::builder(connector).build(
         rt,
         alloc,
         &mut FixedClock,
@@ -157,7 +161,12 @@ fn is_found_inline<R: Wait + Copy + Drop>(host: HostRuntime, rt: R, path: &str) 
         StepWords::new(0),
         &mut InlineSpawner,
         &mut BoardPlaces::new(),
-    ) {
+    )
+}
+
+/// Whether the record of such a source is so.
+fn is_found_inline<R: Wait + Copy + Drop>(host: HostRuntime, rt: R, path: &str) -> bool {
+    match built_inline(host, rt, path) {
         Ok((_source, pass, handle)) => records_opening(handle, pass),
         Err(_) => false,
     }
