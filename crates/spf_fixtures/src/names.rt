@@ -9,7 +9,7 @@ use std::alloc::Global;
 use std::test::Fail;
 
 /// What each name stands for. A name stands before the names that its meaning holds.
-static NAMES: [(&str, &str); 46] = [
+static NAMES: [(&str, &str); 47] = [
     // What a line shows of I1.
     ("P1", "spiffe://example.org/w 1000 LEAF1 example.org=ROOT1"),
     // Events: a kind, a length, and the rest.
@@ -104,6 +104,13 @@ static NAMES: [(&str, &str); 46] = [
     (
         "HINT2",
         "05 00000122 00000001 FIRST 00000048 ROOT2 00000008 65787465726e616c 00000000 00000000",
+    ),
+    // An item of JWT bundles: a key set of `example.org` with one key.
+    (
+        "SET1",
+        "05 00000041 \
+         00000001000000147370696666653a2f2f6578616d706c652e6f7267000000217b226b657973 \
+         223a5b7b226b6964223a226b222c226b7479223a224543227d5d7d",
     ),
     // Parts of items: an ID, a chain and a key; bundles of two with no hint.
     ("FIRST", "ID 0000008d LEAF1 0000000f KEY1"),

@@ -1,8 +1,9 @@
 //! The JWT calls of a client over in-memory links.
 
-use crate::links::{TOKEN1, link};
+use crate::links::link;
 use spf_api::WorkloadApiError;
 use spf_client::WorkloadApiClient;
+use spf_fixtures::TOKEN1;
 use spf_id::SpiffeId;
 use spf_io::Text;
 use spf_jwt::{JwtBundleSet, JwtSvid};

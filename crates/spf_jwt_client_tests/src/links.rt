@@ -4,15 +4,11 @@ use spf_api::{
     BundleEntry, BundlesResponse, Claim, ClaimValue, ClientFault, GrpcStatusCode, GrpcStatusError,
     JwtSvidEntry, JwtSvidsResponse, LinkFault, Response, TransportConnectError, ValidationResponse,
 };
+use spf_fixtures::TOKEN1;
 use spf_io::{Bytes, List, Text};
 use spf_link::{Answer, MemConnector, MemLink};
 use std::alloc::Global;
 use std::test::Fail;
-
-/// The header `{"alg":"ES256","kid":"k1","typ":"JWT"}` and the claims
-/// `{"sub":"spiffe://example.org/w","aud":"a","exp":9}`.
-pub const TOKEN1: &str = "eyJhbGciOiJFUzI1NiIsImtpZCI6ImsxIiwidHlwIjoiSldUIn0.\
-     eyJzdWIiOiJzcGlmZmU6Ly9leGFtcGxlLm9yZy93IiwiYXVkIjoiYSIsImV4cCI6OX0.sig";
 
 const KEYS: &str = "{\"keys\":[{\"kid\":\"k\",\"kty\":\"EC\"}]}";
 

@@ -1,8 +1,9 @@
 //! Fetches of a source before and after it is closed.
 
-use crate::links::{TOKEN1, granting, refusing};
+use crate::links::{granting, refusing};
 use crate::source::opened;
 use spf_api::{GrpcStatusCode, WorkloadApiError};
+use spf_fixtures::TOKEN1;
 use spf_io::{OutOfMemory, Text};
 use spf_jwt::JwtSvid;
 use spf_jwt_client::JwtFetcher;

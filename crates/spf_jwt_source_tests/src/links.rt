@@ -4,14 +4,10 @@ use spf_api::{
     BundleEntry, BundlesResponse, GrpcStatusCode, GrpcStatusError, JwtSvidEntry, JwtSvidsResponse,
     LinkFault, Response,
 };
+use spf_fixtures::TOKEN1;
 use spf_io::{Bytes, List, OutOfMemory, Text};
 use spf_link::{Answer, MemConnector, MemLink};
 use std::alloc::Global;
-
-/// The header `{"alg":"ES256","kid":"k1","typ":"JWT"}` and the claims
-/// `{"sub":"spiffe://example.org/w","aud":"a","exp":9}`.
-pub(crate) const TOKEN1: &str = "eyJhbGciOiJFUzI1NiIsImtpZCI6ImsxIiwidHlwIjoiSldUIn0.\
-     eyJzdWIiOiJzcGlmZmU6Ly9leGFtcGxlLm9yZy93IiwiYXVkIjoiYSIsImV4cCI6OX0.sig";
 
 const KEYS: &str = "{\"keys\":[{\"kid\":\"k\",\"kty\":\"EC\"}]}";
 

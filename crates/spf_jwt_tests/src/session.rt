@@ -11,7 +11,7 @@ use std::test::Fail;
 
 /// What names stand for, beside those of `spf_fixtures`: what a line shows of a set, and items.
 /// SPACED has the key of SET1 in another spelling, and LARGE one of too many octets.
-static NAMES: [(&str, &str); 8] = [
+static NAMES: [(&str, &str); 7] = [
     (
         "P1",
         "example.org=6b:7b226b6964223a226b222c226b7479223a224543227d",
@@ -20,12 +20,6 @@ static NAMES: [(&str, &str); 8] = [
         "P2",
         "another.org= example.org=61:7b226b6964223a2261227d,\
          6b:7b226b6964223a226b222c226b7479223a22525341227d",
-    ),
-    (
-        "SET1",
-        "05 00000041 \
-         00000001000000147370696666653a2f2f6578616d706c652e6f7267000000217b226b657973 \
-         223a5b7b226b6964223a226b222c226b7479223a224543227d5d7d",
     ),
     (
         "SPACED",

@@ -1,12 +1,10 @@
 //! Tokens: what they say, and the first rule that each breaks.
 
 use base64::engine::general_purpose::URL_SAFE_NO_PAD;
+use spf_fixtures::TOKEN1;
 use spf_jwt::JwtSvid;
 use std::alloc::Global;
 use std::test::Fail;
-
-const TOKEN1: &str = "eyJhbGciOiJFUzI1NiIsImtpZCI6ImsxIiwidHlwIjoiSldUIn0.\
-     eyJzdWIiOiJzcGlmZmU6Ly9leGFtcGxlLm9yZy93IiwiYXVkIjoiYSIsImV4cCI6OX0.sig";
 
 /// The token of a header and claims, each the text of a JSON value.
 fn token_of(alloc: Global, header: &str, claims: &str) -> Result<String, Fail> {

@@ -5,6 +5,7 @@ ghost use Rattle.std.specs.Prelude.{◌≡◌};
 use crate::live::{InlineHandle, built_inline, records_opening};
 use spf_agent::{Agent, AgentConnector, Scene};
 use spf_api::WorkloadApiError;
+use spf_fixtures::TOKEN1;
 use spf_io::Text;
 use spf_jwt::JwtSvid;
 use spf_jwt_board::JwtPass;
@@ -15,19 +16,9 @@ use std::mem::drop;
 use std::sync::Wait;
 use std::test::Fail;
 
-/// The header `{"alg":"ES256","kid":"k1","typ":"JWT"}` and the claims
-/// `{"sub":"spiffe://example.org/w","aud":"a","exp":9}`.
-const TOKEN: &str = "eyJhbGciOiJFUzI1NiIsImtpZCI6ImsxIiwidHlwIjoiSldUIn0.\
-     eyJzdWIiOiJzcGlmZmU6Ly9leGFtcGxlLm9yZy93IiwiYXVkIjoiYSIsImV4cCI6OX0.sig";
-
 /// A key set of `example.org`; a grant of the token; and a denial.
 static GRANT_AND_DENIAL: [Scene; 3] = [
-    (
-        "CN 05 00000041 \
-         00000001000000147370696666653a2f2f6578616d706c652e6f7267000000217b226b657973 \
-         223a5b7b226b6964223a226b222c226b7479223a224543227d5d7d",
-        None,
-    ),
+    ("CN SET1", None),
     (
         "CN 05 000000a1 00000001 ID \
          0000007b65794a68624763694f694a46557a49314e694973496d74705a434936496d7378496977696448 \
@@ -53,7 +44,7 @@ fn fetched(host: HostRuntime, source: &JwtSource, path: &str) -> Result<JwtSvid,
 fn is_granted(answer: Result<JwtSvid, JwtSourceError>) -> bool {
     match answer {
         Ok(svid) => {
-            let is_token = svid.token() == TOKEN;
+            let is_token = svid.token() == TOKEN1;
             drop(svid);
             is_token
         }

@@ -93,16 +93,7 @@ fn records_denial<R: Threads + Wait + Copy + Drop + Send + 'static>(
 }
 
 /// A key set of `example.org`; a denial; and an agent that says nothing.
-static DENIAL: [Scene; 3] = [
-    (
-        "CN 05 00000041 \
-         00000001000000147370696666653a2f2f6578616d706c652e6f7267000000217b226b657973 \
-         223a5b7b226b6964223a226b222c226b7479223a224543227d5d7d",
-        None,
-    ),
-    ("CN IS7no", None),
-    ("", Some("")),
-];
+static DENIAL: [Scene; 3] = [("CN SET1", None), ("CN IS7no", None), ("", Some(""))];
 
 /// Whether a source comes to a denial, which its record and its last state have.
 fn is_denial_recorded<R: Threads + Wait + Copy + Drop + Send + 'static>(
