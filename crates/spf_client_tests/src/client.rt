@@ -2,12 +2,13 @@
 
 use crate::link_doubles::{connector, link};
 use spf_api::WorkloadApiError;
-use spf_client::WorkloadApiClient;
+use spf_client::{WorkloadApiClient, X509BundleStream, X509ContextStream, X509SvidStream};
 use spf_endpoint::Endpoint;
-use spf_io::Text;
-use spf_link::{MemLink, NoInterceptor};
+use spf_io::{OutOfMemory, Text};
+use spf_link::{MemConnector, MemLink, NoInterceptor};
 use spf_x509::{X509BundleSet, X509Context, X509Svid};
 use std::alloc::Global;
+use std::mem::drop;
 use std::test::Fail;
 
 type Client = WorkloadApiClient<MemLink, NoInterceptor>;
@@ -16,47 +17,68 @@ fn client(alloc: Global, words: &[&str]) -> Result<Client, Fail> {
     Ok(WorkloadApiClient::new_with_link(None, link(alloc, words)?, NoInterceptor))
 }
 
-fn context_text(alloc: Global, context: &X509Context) -> Result<String, Fail> {
-    let svids = context.svids().len();
-    let bundles = context.bundle_set().len();
-    Ok(format!(in alloc; "{svids} SVIDs, {bundles} bundles")?)
+/// A value by which these tests know it.
+trait Shown {
+    fn shown(&self, alloc: Global) -> Result<String, OutOfMemory>;
 }
 
-fn svid_text(alloc: Global, svid: &X509Svid) -> Result<String, Fail> {
-    Ok(format!(in alloc; "{}", svid.spiffe_id())?)
+impl Shown for X509Context {
+    fn shown(&self, alloc: Global) -> Result<String, OutOfMemory> {
+        let svids = self.svids().len();
+        let bundles = self.bundle_set().len();
+        Ok(format!(in alloc; "{svids} SVIDs, {bundles} bundles")?)
+    }
 }
 
-fn svids_text(alloc: Global, svids: &Vec<X509Svid>) -> Result<String, Fail> {
-    Ok(format!(in alloc; "{} SVIDs", svids.len())?)
+impl Shown for X509Svid {
+    fn shown(&self, alloc: Global) -> Result<String, OutOfMemory> {
+        Ok(String::from_str(alloc, self.spiffe_id().as_str())?)
+    }
 }
 
-fn bundles_text(alloc: Global, bundles: &X509BundleSet) -> Result<String, Fail> {
-    Ok(format!(in alloc; "{} bundles", bundles.len())?)
+impl Shown for Vec<X509Svid> {
+    fn shown(&self, alloc: Global) -> Result<String, OutOfMemory> {
+        Ok(format!(in alloc; "{} SVIDs", self.len())?)
+    }
 }
 
-fn error_text(alloc: Global, e: &WorkloadApiError) -> Result<String, Fail> {
+impl Shown for X509BundleSet {
+    fn shown(&self, alloc: Global) -> Result<String, OutOfMemory> {
+        Ok(format!(in alloc; "{} bundles", self.len())?)
+    }
+}
+
+fn error_text(alloc: Global, e: &WorkloadApiError) -> Result<String, OutOfMemory> {
     Ok(format!(in alloc; "{e}")?)
 }
 
+fn text_of<T: Shown>(
+    alloc: Global,
+    answer: &Result<T, WorkloadApiError>,
+) -> Result<String, OutOfMemory> {
+    match answer {
+        Ok(value) => value.shown(alloc),
+        Err(e) => error_text(alloc, e),
+    }
+}
+
+/// What a call returned, as a text.
+fn summary<T: Shown + Drop>(
+    alloc: Global,
+    answer: Result<T, WorkloadApiError>,
+) -> Result<String, OutOfMemory> {
+    let text = text_of(alloc, &answer);
+    drop(answer);
+    text
+}
+
 /// What the call of that name returns, as a text.
-fn fetched(alloc: Global, client: &mut Client, call: &str) -> Result<String, Fail> {
+fn fetched(alloc: Global, client: &mut Client, call: &str) -> Result<String, OutOfMemory> {
     match call {
-        "svid" => match client.fetch_x509_svid(alloc) {
-            Ok(svid) => svid_text(alloc, &svid),
-            Err(e) => error_text(alloc, &e),
-        },
-        "svids" => match client.fetch_all_x509_svids(alloc) {
-            Ok(svids) => svids_text(alloc, &svids),
-            Err(e) => error_text(alloc, &e),
-        },
-        "context" => match client.fetch_x509_context(alloc) {
-            Ok(context) => context_text(alloc, &context),
-            Err(e) => error_text(alloc, &e),
-        },
-        _ => match client.fetch_x509_bundles(alloc) {
-            Ok(bundles) => bundles_text(alloc, &bundles),
-            Err(e) => error_text(alloc, &e),
-        },
+        "svid" => summary(alloc, client.fetch_x509_svid(alloc)),
+        "svids" => summary(alloc, client.fetch_all_x509_svids(alloc)),
+        "context" => summary(alloc, client.fetch_x509_context(alloc)),
+        _ => summary(alloc, client.fetch_x509_bundles(alloc)),
     }
 }
 
@@ -104,72 +126,92 @@ fn client_fetches(rt: HostRuntime) -> Result<(), Fail> {
     let alloc = rt.alloc();
     for (words, call, wanted) in FETCHES {
         let mut client = client(alloc, words)?;
-        let found = fetched(alloc, &mut client, call)?;
+        let found = fetched(alloc, &mut client, call).expect(&rt, "memory");
+        drop(client);
         assert!(rt; found.as_str() == *wanted, "{call}: {found}");
     }
     Ok(())
 }
 
-/// What the next calls of a stream of contexts return.
-fn contexts(alloc: Global, client: &mut Client, calls: usize) -> Result<String, Fail> {
-    let mut text = String::new(alloc);
-    let mut stream = match client.stream_x509_contexts(alloc) {
-        Ok(stream) => stream,
-        Err(e) => return error_text(alloc, &e),
-    };
-    for _ in 0..calls {
-        let item = match stream.next_item(alloc) {
-            None => String::from_str(alloc, "none")?,
-            Some(Ok(context)) => context_text(alloc, &context)?,
-            Some(Err(e)) => error_text(alloc, &e)?,
-        };
-        text.push_str(item.as_str())?;
-        text.push_str("; ")?;
+/// Appends what a stream gave.
+fn push_item<T: Shown + Drop>(
+    alloc: Global,
+    text: &mut String,
+    item: Option<Result<T, WorkloadApiError>>,
+) -> Result<(), OutOfMemory> {
+    match item {
+        None => text.push_str("none")?,
+        Some(answer) => text.push_str(summary(alloc, answer)?.as_str())?,
     }
-    Ok(text)
+    text.push_str("; ")?;
+    Ok(())
 }
 
-fn svids(alloc: Global, client: &mut Client, calls: usize) -> Result<String, Fail> {
-    let mut text = String::new(alloc);
-    let mut stream = match client.stream_x509_svids(alloc) {
-        Ok(stream) => stream,
-        Err(e) => return error_text(alloc, &e),
-    };
-    for _ in 0..calls {
-        let item = match stream.next_item(alloc) {
-            None => String::from_str(alloc, "none")?,
-            Some(Ok(svid)) => svid_text(alloc, &svid)?,
-            Some(Err(e)) => error_text(alloc, &e)?,
-        };
-        text.push_str(item.as_str())?;
-        text.push_str("; ")?;
-    }
-    Ok(text)
+/// Appends why a stream did not start.
+fn push_refusal(alloc: Global, text: &mut String, e: WorkloadApiError) -> Result<(), OutOfMemory> {
+    let refusal = error_text(alloc, &e);
+    drop(e);
+    text.push_str(refusal?.as_str())?;
+    Ok(())
 }
 
-fn bundle_sets(alloc: Global, client: &mut Client, calls: usize) -> Result<String, Fail> {
-    let mut text = String::new(alloc);
-    let mut stream = match client.stream_x509_bundles(alloc) {
-        Ok(stream) => stream,
-        Err(e) => return error_text(alloc, &e),
-    };
+fn push_contexts(
+    alloc: Global,
+    text: &mut String,
+    stream: &mut X509ContextStream<'_, MemLink>,
+    calls: usize,
+) -> Result<(), OutOfMemory> {
     for _ in 0..calls {
-        let item = match stream.next_item(alloc) {
-            None => String::from_str(alloc, "none")?,
-            Some(Ok(bundles)) => bundles_text(alloc, &bundles)?,
-            Some(Err(e)) => error_text(alloc, &e)?,
-        };
-        text.push_str(item.as_str())?;
-        text.push_str("; ")?;
+        push_item(alloc, text, stream.next_item(alloc))?;
     }
-    Ok(text)
+    Ok(())
 }
 
-fn streamed(alloc: Global, client: &mut Client, call: &str, calls: usize) -> Result<String, Fail> {
-    match call {
-        "contexts" => contexts(alloc, client, calls),
-        "svids" => svids(alloc, client, calls),
-        _ => bundle_sets(alloc, client, calls),
+fn push_svids(
+    alloc: Global,
+    text: &mut String,
+    stream: &mut X509SvidStream<'_, MemLink>,
+    calls: usize,
+) -> Result<(), OutOfMemory> {
+    for _ in 0..calls {
+        push_item(alloc, text, stream.next_item(alloc))?;
+    }
+    Ok(())
+}
+
+fn push_bundle_sets(
+    alloc: Global,
+    text: &mut String,
+    stream: &mut X509BundleStream<'_, MemLink>,
+    calls: usize,
+) -> Result<(), OutOfMemory> {
+    for _ in 0..calls {
+        push_item(alloc, text, stream.next_item(alloc))?;
+    }
+    Ok(())
+}
+
+/// Appends what the first calls of a stream of that kind return.
+fn push_stream(
+    alloc: Global,
+    text: &mut String,
+    client: &mut Client,
+    kind: &str,
+    calls: usize,
+) -> Result<(), OutOfMemory> {
+    match kind {
+        "contexts" => match client.stream_x509_contexts(alloc) {
+            Ok(mut stream) => push_contexts(alloc, text, &mut stream, calls),
+            Err(e) => push_refusal(alloc, text, e),
+        },
+        "svids" => match client.stream_x509_svids(alloc) {
+            Ok(mut stream) => push_svids(alloc, text, &mut stream, calls),
+            Err(e) => push_refusal(alloc, text, e),
+        },
+        _ => match client.stream_x509_bundles(alloc) {
+            Ok(mut stream) => push_bundle_sets(alloc, text, &mut stream, calls),
+            Err(e) => push_refusal(alloc, text, e),
+        },
     }
 }
 
@@ -209,10 +251,12 @@ const STREAMS: &[(&[&str], &str, &str)] = &[
 #[test]
 fn client_streams(rt: HostRuntime) -> Result<(), Fail> {
     let alloc = rt.alloc();
-    for (words, call, wanted) in STREAMS {
+    for (words, kind, wanted) in STREAMS {
         let mut client = client(alloc, words)?;
-        let found = streamed(alloc, &mut client, call, 4)?;
-        assert!(rt; found.as_str() == *wanted, "{call}: {found}");
+        let mut found = String::new(alloc);
+        push_stream(alloc, &mut found, &mut client, kind, 4).expect(&rt, "memory");
+        drop(client);
+        assert!(rt; found.as_str() == *wanted, "{kind}: {found}");
     }
     Ok(())
 }
@@ -223,53 +267,74 @@ fn client_asks_again(rt: HostRuntime) -> Result<(), Fail> {
     let alloc = rt.alloc();
     let words = ["started", "first", "started", "first", "started", "bundles"];
     let mut client = client(alloc, &words)?;
-    assert_eq!(rt;
-        contexts(alloc, &mut client, 1)?.as_str(),
-        "1 SVIDs, 1 bundles; "
-    );
-    assert_eq!(rt;
-        fetched(alloc, &mut client, "svid")?.as_str(),
-        "spiffe://example.org/w"
-    );
-    assert_eq!(rt;
-        fetched(alloc, &mut client, "bundles")?.as_str(),
-        "1 bundles"
-    );
-    assert_eq!(rt;
-        fetched(alloc, &mut client, "bundles")?.as_str(),
-        UNAVAILABLE
-    );
+    let mut items = String::new(alloc);
+    push_stream(alloc, &mut items, &mut client, "contexts", 1).expect(&rt, "memory");
+    assert!(rt; items.as_str() == "1 SVIDs, 1 bundles; ");
+    for (call, wanted) in [
+        ("svid", "spiffe://example.org/w"),
+        ("bundles", "1 bundles"),
+        ("bundles", UNAVAILABLE),
+    ] {
+        let found = fetched(alloc, &mut client, call).expect(&rt, "memory");
+        assert!(rt; found.as_str() == wanted, "{call}: {found}");
+    }
+    drop(items);
+    drop(client);
     Ok(())
+}
+
+fn unix_endpoint(alloc: Global, path: &str) -> Result<Endpoint, OutOfMemory> {
+    Ok(Endpoint::Unix(Text::copy_of(alloc, path)?))
 }
 
 #[test]
 fn client_endpoint(rt: HostRuntime) -> Result<(), Fail> {
     let alloc = rt.alloc();
-    assert!(rt; client(alloc, &[])?.endpoint().is_none());
-    let path = Text::copy_of(alloc, "/foo")?;
+    let unnamed = client(alloc, &[])?;
+    assert!(rt; unnamed.endpoint().is_none());
+    drop(unnamed);
     let empty = link(alloc, &[])?;
-    let named = WorkloadApiClient::new_with_link(Some(Endpoint::Unix(path)), empty, NoInterceptor);
-    let wanted = Endpoint::Unix(Text::copy_of(alloc, "/foo")?);
+    let endpoint = unix_endpoint(alloc, "/foo").expect(&rt, "an endpoint");
+    let named = WorkloadApiClient::new_with_link(Some(endpoint), empty, NoInterceptor);
+    let wanted = unix_endpoint(alloc, "/foo").expect(&rt, "an endpoint");
     assert!(rt; named.endpoint() == Some(&wanted));
+    drop(wanted);
+    drop(named);
     Ok(())
+}
+
+/// Why the connector gives no client.
+fn refusal(alloc: Global, connector: &mut MemConnector) -> Result<String, OutOfMemory> {
+    match WorkloadApiClient::connect_over(connector) {
+        Ok(client) => {
+            drop(client);
+            Ok(String::from_str(alloc, "a client")?)
+        }
+        Err(e) => {
+            let text = error_text(alloc, &e);
+            drop(e);
+            text
+        }
+    }
 }
 
 #[test]
 fn client_over_a_connector(rt: HostRuntime) -> Result<(), Fail> {
     let alloc = rt.alloc();
     let mut connector = connector(alloc, &["started", "first"])?;
-    let mut client = WorkloadApiClient::connect_over(&mut connector)?;
+    let mut client = WorkloadApiClient::connect_over(&mut connector).expect(&rt, "a client");
     assert!(rt; client.endpoint().is_none());
-    assert_eq!(rt; fetched(alloc, &mut client, "svids")?.as_str(), "1 SVIDs");
+    let found = fetched(alloc, &mut client, "svids").expect(&rt, "memory");
+    drop(client);
+    assert!(rt; found.as_str() == "1 SVIDs");
     for wanted in [
         "permission denied: no",
         "gRPC transport connection failed: nobody listens",
         UNAVAILABLE,
     ] {
-        let Err(e) = WorkloadApiClient::connect_over(&mut connector) else {
-            return Err(Fail::from("a client"));
-        };
-        assert_eq!(rt; error_text(alloc, &e)?.as_str(), wanted);
+        let found = refusal(alloc, &mut connector).expect(&rt, "memory");
+        assert!(rt; found.as_str() == wanted, "{found}");
     }
+    drop(connector);
     Ok(())
 }

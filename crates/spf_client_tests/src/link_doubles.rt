@@ -4,10 +4,11 @@ use spf_api::{
     BundlesResponse, ClientFault, GrpcStatusCode, GrpcStatusError, LinkFault, Response,
     TransportConnectError,
 };
-use spf_io::{List, Text};
-use spf_link::{Answer, Connector, Headers, Link, MemConnector, MemLink, Request};
+use spf_io::{List, OutOfMemory, Text};
+use spf_link::{Answer, Connector, Headers, Link, MemConnector, MemLink, Request, Start};
 use spf_responses::{FIRST, SvidRow, bundle_entries, context};
 use std::alloc::Global;
+use std::mem::drop;
 use std::test::Fail;
 
 /// An SVID entry whose key is not one.
@@ -73,22 +74,71 @@ pub fn connector(alloc: Global, words: &[&str]) -> Result<MemConnector, Fail> {
     Ok(MemConnector::new(alloc, links))
 }
 
-fn started(alloc: Global, link: &mut MemLink, request: &Request) -> Result<String, Fail> {
-    let mut headers = Headers::new(alloc);
-    headers.set("a", "1")?;
-    match link.start(&headers, request) {
+fn fault_text(alloc: Global, fault: &LinkFault) -> Result<String, OutOfMemory> {
+    Ok(format!(in alloc; "{fault}")?)
+}
+
+fn start_text(alloc: Global, answer: &Result<(), LinkFault>) -> Result<String, OutOfMemory> {
+    match answer {
         Ok(()) => Ok(String::from_str(alloc, "started")?),
-        Err(e) => Ok(format!(in alloc; "{e}")?),
+        Err(fault) => fault_text(alloc, fault),
     }
 }
 
-fn next(alloc: Global, link: &mut MemLink) -> Result<String, Fail> {
-    match link.next() {
+fn next_text(
+    alloc: Global,
+    answer: &Result<Option<Response>, LinkFault>,
+) -> Result<String, OutOfMemory> {
+    match answer {
         Ok(Some(_)) => Ok(String::from_str(alloc, "item")?),
         Ok(None) => Ok(String::from_str(alloc, "end")?),
-        Err(e) => Ok(format!(in alloc; "{e}")?),
+        Err(fault) => fault_text(alloc, fault),
     }
 }
+
+/// The header `a` with the value `1`.
+fn one_header(alloc: Global) -> Result<Headers, OutOfMemory> {
+    let mut headers = Headers::new(alloc);
+    match headers.set("a", "1") {
+        Ok(()) => Ok(headers),
+        Err(OutOfMemory) => {
+            drop(headers);
+            Err(OutOfMemory)
+        }
+    }
+}
+
+fn started(alloc: Global, link: &mut MemLink, request: &Request) -> Result<String, OutOfMemory> {
+    let headers = one_header(alloc)?;
+    let answer = link.start(&headers, request);
+    drop(headers);
+    let text = start_text(alloc, &answer);
+    drop(answer);
+    text
+}
+
+fn next(alloc: Global, link: &mut MemLink) -> Result<String, OutOfMemory> {
+    let answer = link.next();
+    let text = next_text(alloc, &answer);
+    drop(answer);
+    text
+}
+
+const UNAVAILABLE: &str = "gRPC status unavailable: ";
+
+/// Calls of one link, `start` and `next`, and what each returns.
+const CALLS: &[(&str, &str)] = &[
+    ("next", UNAVAILABLE),
+    ("start", "started"),
+    ("next", "item"),
+    ("next", UNAVAILABLE),
+    ("next", UNAVAILABLE),
+    ("next", "end"),
+    ("next", "item"),
+    ("next", UNAVAILABLE),
+    ("next", UNAVAILABLE),
+    ("start", UNAVAILABLE),
+];
 
 /// A `start` takes one answer, and so does each `next`: what does not fit refuses like none.
 #[test]
@@ -98,19 +148,39 @@ fn link_answers_in_turn(rt: HostRuntime) -> Result<(), Fail> {
         "first", "started", "first", "bundles", "started", "end", "first",
     ];
     let mut link = link(alloc, &words)?;
-    let request = Request::X509Svid;
-    let unavailable = "gRPC status unavailable: ";
-    assert_eq!(rt; next(alloc, &mut link)?.as_str(), unavailable);
-    assert_eq!(rt; started(alloc, &mut link, &request)?.as_str(), "started");
-    assert_eq!(rt; next(alloc, &mut link)?.as_str(), "item");
-    for _ in 0..2 {
-        assert_eq!(rt; next(alloc, &mut link)?.as_str(), unavailable);
+    for &(call, wanted) in CALLS {
+        let found = match call {
+            "start" => started(alloc, &mut link, &Request::X509Svid),
+            _ => next(alloc, &mut link),
+        };
+        let found = found.expect(&rt, "memory");
+        assert!(rt; found.as_str() == wanted, "{call}: {found}");
     }
-    for wanted in ["end", "item", unavailable, unavailable] {
-        assert_eq!(rt; next(alloc, &mut link)?.as_str(), wanted);
-    }
-    assert_eq!(rt; started(alloc, &mut link, &request)?.as_str(), unavailable);
+    drop(link);
     Ok(())
+}
+
+/// A request that a token be validated.
+fn validation(alloc: Global) -> Result<Request, OutOfMemory> {
+    let audience = Text::copy_of(alloc, "a")?;
+    match Text::copy_of(alloc, "t") {
+        Ok(svid) => Ok(Request::ValidateJwt { audience, svid }),
+        Err(OutOfMemory) => {
+            drop(audience);
+            Err(OutOfMemory)
+        }
+    }
+}
+
+fn has_starts(starts: &[Start], last: &Request) -> bool {
+    match starts {
+        [first, second] => {
+            first.request == Request::X509Svid
+                && second.request == *last
+                && second.headers.get("a") == Some("1")
+        }
+        _ => false,
+    }
 }
 
 /// Each `start` but one that is out of memory is kept with its headers.
@@ -118,57 +188,79 @@ fn link_answers_in_turn(rt: HostRuntime) -> Result<(), Fail> {
 fn link_keeps_starts(rt: HostRuntime) -> Result<(), Fail> {
     let alloc = rt.alloc();
     let mut link = link(alloc, &["started", "memory", "denied"])?;
-    assert_eq!(rt;
-        started(alloc, &mut link, &Request::X509Svid)?.as_str(),
-        "started"
-    );
-    assert_eq!(rt;
-        started(alloc, &mut link, &Request::JwtBundles)?.as_str(),
-        "out of memory"
-    );
-    let request = Request::ValidateJwt {
-        audience: Text::copy_of(alloc, "a")?,
-        svid: Text::copy_of(alloc, "t")?,
-    };
-    let refused = started(alloc, &mut link, &request)?;
-    assert_eq!(rt; refused.as_str(), "gRPC status permission_denied: no");
-    assert_eq!(rt; link.starts().len(), 2);
-    assert!(rt; link.starts()[0].request == Request::X509Svid);
-    assert!(rt; link.starts()[1].request == request);
-    assert_eq!(rt; link.starts()[1].headers.get("a"), Some("1"));
+    let last = validation(alloc).expect(&rt, "a request");
+    for (request, wanted) in [
+        (&Request::X509Svid, "started"),
+        (&Request::JwtBundles, "out of memory"),
+        (&last, "gRPC status permission_denied: no"),
+    ] {
+        let found = started(alloc, &mut link, request).expect(&rt, "memory");
+        assert!(rt; found.as_str() == wanted, "{found}");
+    }
+    assert!(rt; has_starts(link.starts(), &last));
+    drop(last);
+    drop(link);
     Ok(())
 }
 
-#[test]
-fn request_is_copied(rt: HostRuntime) -> Result<(), Fail> {
-    let alloc = rt.alloc();
+/// A request of a JWT-SVID for two audiences.
+fn svid_request(alloc: Global) -> Result<Request, OutOfMemory> {
     let mut audience = Vec::new(alloc);
-    audience.push(Text::copy_of(alloc, "a")?)?;
-    audience.push(Text::copy_of(alloc, "b")?)?;
-    let request = Request::JwtSvid {
+    for name in ["a", "b"] {
+        audience.push(Text::copy_of(alloc, name)?)?;
+    }
+    Ok(Request::JwtSvid {
         spiffe_id: Text::copy_of(alloc, "spiffe://example.org/w")?,
         audience: List::new(audience),
-    };
-    assert!(rt; request.try_clone(alloc)? == request);
-    assert!(rt; Request::X509Bundles.try_clone(alloc)? == Request::X509Bundles);
-    Ok(())
+    })
+}
+
+/// Whether a copy of the request is the same.
+fn is_copied(alloc: Global, request: &Request) -> Result<bool, OutOfMemory> {
+    let copy = request.try_clone(alloc)?;
+    let is_same = copy == *request;
+    drop(copy);
+    Ok(is_same)
+}
+
+#[test]
+fn request_is_copied(rt: HostRuntime) {
+    let alloc = rt.alloc();
+    let request = svid_request(alloc).expect(&rt, "a request");
+    assert!(rt; is_copied(alloc, &request).expect(&rt, "memory"));
+    assert!(rt; is_copied(alloc, &Request::X509Bundles).expect(&rt, "memory"));
+    drop(request);
+}
+
+/// Why the connector gives no link.
+fn refusal(alloc: Global, connector: &mut MemConnector) -> Result<String, OutOfMemory> {
+    match connector.connect() {
+        Ok(link) => {
+            drop(link);
+            Ok(String::from_str(alloc, "a link")?)
+        }
+        Err(fault) => {
+            let text = format!(in alloc; "{fault}");
+            drop(fault);
+            Ok(text?)
+        }
+    }
 }
 
 #[test]
 fn connector_gives_links_in_turn(rt: HostRuntime) -> Result<(), Fail> {
     let alloc = rt.alloc();
     let mut connector = connector(alloc, &["started"])?;
-    assert_eq!(rt; connector.validate(), Ok(()));
-    assert!(rt; connector.connect().is_ok());
+    assert!(rt; connector.validate() == Ok(()));
     for wanted in [
+        "a link",
         "gRPC status permission_denied: no",
         "nobody listens",
-        "gRPC status unavailable: ",
+        UNAVAILABLE,
     ] {
-        let Err(e) = connector.connect() else {
-            return Err(Fail::from("a link"));
-        };
-        assert_eq!(rt; format!(in alloc; "{e}")?.as_str(), wanted);
+        let found = refusal(alloc, &mut connector).expect(&rt, "memory");
+        assert!(rt; found.as_str() == wanted, "{found}");
     }
+    drop(connector);
     Ok(())
 }

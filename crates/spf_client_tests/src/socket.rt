@@ -4,13 +4,15 @@ use spf_api::{ClientFault, GrpcStatusCode, LinkFault, Response, TransportError, 
 use spf_client::WorkloadApiClient;
 use spf_endpoint::Endpoint;
 use spf_fixtures::octets;
-use spf_io::Text;
+use spf_io::{OutOfMemory, Text};
 use spf_link::{Connector, Headers, Link, Request};
 use spf_responses::first_item;
 use spf_system::{EnvValue, MemEnvironment, StopFlag};
 use spf_wire::{EndpointConnector, EnvConnector, SocketLink};
+use spf_x509::X509Svid;
 use std::alloc::Global;
 use std::io::{self, Read, Write};
+use std::mem::drop;
 use std::net::TcpListener;
 use std::os::unix::net::UnixListener;
 use std::test::Fail;
@@ -73,9 +75,18 @@ fn stop_instead(listener: &TcpListener, stop: &StopFlag) {
 }
 
 /// The text of a TCP endpoint on loopback.
-fn endpoint_of(alloc: Global, listener: &TcpListener) -> Result<String, Fail> {
-    let address = listener.local_addr()?;
-    Ok(format!(in alloc; "tcp://{address}")?)
+fn endpoint_of(alloc: Global, listener: &TcpListener) -> Option<String> {
+    let address = listener.local_addr().ok()?;
+    format!(in alloc; "tcp://{address}").ok()
+}
+
+/// The octets of each text.
+fn answers_of(alloc: Global, texts: &[&str]) -> Result<Vec<Vec<u8>>, Fail> {
+    let mut answers = Vec::new(alloc);
+    for text in texts {
+        answers.push(octets(alloc, text)?)?;
+    }
+    Ok(answers)
 }
 
 fn is_unavailable<T>(answer: &Result<T, LinkFault>) -> bool {
@@ -100,158 +111,297 @@ fn is_unreachable(connected: &Result<SocketLink, ClientFault>, named: &str) -> b
     }
 }
 
+/// Whether a request is granted, and its first item is I1.
+fn gives_first(alloc: Global, link: &mut SocketLink, item: &Response) -> bool {
+    let headers = Headers::new(alloc);
+    let started = link.start(&headers, &Request::X509Svid);
+    drop(headers);
+    let is_started = started.is_ok();
+    drop(started);
+    let next = link.next();
+    let is_item = matches!(&next, Ok(Some(found)) if *found == *item);
+    drop(next);
+    is_started && is_item
+}
+
 #[test]
 fn socket_link(rt: HostRuntime) -> Result<(), Fail> {
     let alloc = rt.alloc();
-    let listener = TcpListener::bind(&rt, "127.0.0.1:0")?;
-    let endpoint = endpoint_of(alloc, &listener)?;
+    let first = Response::Context(first_item(alloc)?);
     // The second request is answered after items of the first stream.
-    let answers = vec![in alloc; octets(alloc, "CN I1 I1 I1")?, octets(alloc, "CN I1")?]?;
-    let server = thread::spawn(&rt, move || serve_tcp(&listener, answers.as_slice()))?;
-    let mut connector = EndpointConnector::new(&rt, alloc, endpoint.as_str())?;
-    let Ok(mut link) = connector.connect() else {
-        return Err(Fail::from("unreachable"));
-    };
-    let headers = Headers::new(alloc);
+    let answers = answers_of(alloc, &["CN I1 I1 I1", "CN I1"])?;
+    let listener = TcpListener::bind(&rt, "127.0.0.1:0").expect(&rt, "a listener");
+    let endpoint = endpoint_of(alloc, &listener).expect(&rt, "an endpoint");
+    let server = thread::spawn(&rt, move || serve_tcp(&listener, answers.as_slice()));
+    let server = server.expect(&rt, "a thread");
+    let connector = EndpointConnector::new(&rt, alloc, endpoint.as_str());
+    let mut connector = connector.expect(&rt, "memory");
+    let mut link = connector.connect().expect(&rt, "a link");
     for _ in 0..2 {
-        assert!(rt; link.start(&headers, &Request::X509Svid).is_ok());
-        assert!(rt; link.next() == Ok(Some(Response::Context(first_item(alloc)?))));
+        assert!(rt; gives_first(alloc, &mut link, &first));
     }
     drop(link);
+    drop(connector);
+    drop(endpoint);
+    drop(first);
     server.join(&rt);
     Ok(())
 }
 
 /// A path for a socket of this process.
-fn socket_path(rt: &HostRuntime) -> Result<String, Fail> {
-    let now = Instant::now(rt)?.elapsed(rt)?.as_nanos();
+fn socket_path(rt: &HostRuntime) -> Option<String> {
+    let now = Instant::now(rt).ok()?.elapsed(rt).ok()?.as_nanos();
     let process = std::process::id(rt.process());
-    Ok(format!(in rt.alloc(); "/tmp/spf_client_tests-{process}-{now}.sock")?)
+    format!(in rt.alloc(); "/tmp/spf_client_tests-{process}-{now}.sock").ok()
+}
+
+/// Whether a request is granted, and the item after it is cut.
+fn is_cut(alloc: Global, link: &mut SocketLink) -> bool {
+    let headers = Headers::new(alloc);
+    let started = link.start(&headers, &Request::X509Svid);
+    drop(headers);
+    let is_started = started.is_ok();
+    drop(started);
+    let next = link.next();
+    let is_internal = is_internal(&next);
+    drop(next);
+    is_started && is_internal
 }
 
 #[test]
 fn unix_answer_is_cut(rt: HostRuntime) -> Result<(), Fail> {
     let alloc = rt.alloc();
-    let path = socket_path(&rt)?;
-    let listener = UnixListener::bind(&rt, path.as_str())?;
-    let answers = vec![in alloc; octets(alloc, "CN 05 0000011a 0000")?]?;
-    let server = thread::spawn(&rt, move || serve_unix(&listener, answers.as_slice()))?;
-    let endpoint = Endpoint::Unix(Text::copy_of(alloc, path.as_str())?);
-    let Ok(mut link) = EndpointConnector::to(&rt, alloc, endpoint).connect() else {
-        return Err(Fail::from("unreachable"));
-    };
-    assert!(rt; link.start(&Headers::new(alloc), &Request::X509Svid).is_ok());
-    assert!(rt; is_internal(&link.next()));
-    server.join(&rt);
-    fs::remove_file(&rt, path.as_str())?;
-    Ok(())
-}
-
-#[test]
-fn wait_ends_by_its_mark(rt: HostRuntime) -> Result<(), Fail> {
-    let alloc = rt.alloc();
-    let listener = TcpListener::bind(&rt, "127.0.0.1:0")?;
-    let endpoint = endpoint_of(alloc, &listener)?;
-    let stop = StopFlag::new(alloc)?;
-    let theirs = stop.try_clone()?;
-    let server = thread::spawn(&rt, move || stop_instead(&listener, &theirs))?;
-    let mut connector = EndpointConnector::new(&rt, alloc, endpoint.as_str())?;
-    connector.heed(stop);
-    let Ok(mut link) = connector.connect() else {
-        return Err(Fail::from("unreachable"));
-    };
-    let begun = Instant::now(&rt)?;
-    assert!(rt; is_unavailable(&link.start(&Headers::new(alloc), &Request::X509Svid)));
-    assert!(rt; begun.elapsed(&rt)? < Duration::from_secs(SOON));
+    let answers = answers_of(alloc, &["CN 05 0000011a 0000"])?;
+    let path = socket_path(&rt).expect(&rt, "a path");
+    let listener = UnixListener::bind(&rt, path.as_str()).expect(&rt, "a listener");
+    let server = thread::spawn(&rt, move || serve_unix(&listener, answers.as_slice()));
+    let server = server.expect(&rt, "a thread");
+    let endpoint = Endpoint::Unix(Text::copy_of(alloc, path.as_str()).expect(&rt, "memory"));
+    let mut connector = EndpointConnector::to(&rt, alloc, endpoint);
+    let mut link = connector.connect().expect(&rt, "a link");
+    assert!(rt; is_cut(alloc, &mut link));
     drop(link);
+    drop(connector);
     server.join(&rt);
+    fs::remove_file(&rt, path.as_str()).expect(&rt, "a file");
+    drop(path);
     Ok(())
 }
 
+/// Whether a request is refused as unavailable.
+fn is_refused(alloc: Global, link: &mut SocketLink) -> bool {
+    let headers = Headers::new(alloc);
+    let started = link.start(&headers, &Request::X509Svid);
+    drop(headers);
+    let is_unavailable = is_unavailable(&started);
+    drop(started);
+    is_unavailable
+}
+
+/// Whether a request over the link is refused soon.
+fn is_refused_soon(rt: &HostRuntime, link: &mut SocketLink) -> bool {
+    let Ok(begun) = Instant::now(rt) else {
+        return false;
+    };
+    if !is_refused(rt.alloc(), link) {
+        return false;
+    }
+    match begun.elapsed(rt) {
+        Ok(elapsed) => elapsed < Duration::from_secs(SOON),
+        Err(_) => false,
+    }
+}
+
 #[test]
-fn wait_ends_by_its_limit(rt: HostRuntime) -> Result<(), Fail> {
+fn wait_ends_by_its_mark(rt: HostRuntime) {
+    let alloc = rt.alloc();
+    let listener = TcpListener::bind(&rt, "127.0.0.1:0").expect(&rt, "a listener");
+    let endpoint = endpoint_of(alloc, &listener).expect(&rt, "an endpoint");
+    let stop = StopFlag::new(alloc).expect(&rt, "a flag");
+    let theirs = stop.try_clone().expect(&rt, "a flag");
+    let server = thread::spawn(&rt, move || stop_instead(&listener, &theirs));
+    let server = server.expect(&rt, "a thread");
+    let connector = EndpointConnector::new(&rt, alloc, endpoint.as_str());
+    let mut connector = connector.expect(&rt, "memory");
+    connector.heed(stop);
+    let mut link = connector.connect().expect(&rt, "a link");
+    assert!(rt; is_refused_soon(&rt, &mut link));
+    drop(link);
+    drop(connector);
+    drop(endpoint);
+    server.join(&rt);
+}
+
+#[test]
+fn wait_ends_by_its_limit(rt: HostRuntime) {
     let alloc = rt.alloc();
     // The system accepts the connection, and no one answers.
-    let listener = TcpListener::bind(&rt, "127.0.0.1:0")?;
-    let endpoint = endpoint_of(alloc, &listener)?;
-    let stop = StopFlag::new(alloc)?;
+    let listener = TcpListener::bind(&rt, "127.0.0.1:0").expect(&rt, "a listener");
+    let endpoint = endpoint_of(alloc, &listener).expect(&rt, "an endpoint");
+    let stop = StopFlag::new(alloc).expect(&rt, "a flag");
     stop.limit(Some(Duration::from_millis(300)));
-    let mut connector = EndpointConnector::new(&rt, alloc, endpoint.as_str())?;
+    let connector = EndpointConnector::new(&rt, alloc, endpoint.as_str());
+    let mut connector = connector.expect(&rt, "memory");
     connector.heed(stop);
-    let Ok(mut link) = connector.connect() else {
-        return Err(Fail::from("unreachable"));
-    };
-    let begun = Instant::now(&rt)?;
-    assert!(rt; is_unavailable(&link.start(&Headers::new(alloc), &Request::X509Svid)));
-    assert!(rt; begun.elapsed(&rt)? < Duration::from_secs(SOON));
-    Ok(())
+    let mut link = connector.connect().expect(&rt, "a link");
+    assert!(rt; is_refused_soon(&rt, &mut link));
+    drop(link);
+    drop(connector);
+    drop(endpoint);
+    drop(listener);
+}
+
+/// A path at which nobody listens.
+const NOBODY: &str = "/tmp/spf_client_tests-nobody.sock";
+
+/// Whether nothing is reached at the path, for a reason that names it.
+fn is_unreached(rt: HostRuntime, path: &str) -> Result<bool, OutOfMemory> {
+    let alloc = rt.alloc();
+    let endpoint = Endpoint::Unix(Text::copy_of(alloc, path)?);
+    let mut connector = EndpointConnector::to(rt, alloc, endpoint);
+    let connected = connector.connect();
+    drop(connector);
+    let is_named = is_unreachable(&connected, path);
+    drop(connected);
+    Ok(is_named)
+}
+
+fn long_path(alloc: Global) -> Option<String> {
+    String::from_utf8(vec![in alloc; b'x'; 200].ok()?).ok()
 }
 
 #[test]
-fn nobody_is_reached(rt: HostRuntime) -> Result<(), Fail> {
-    let alloc = rt.alloc();
-    let long = String::from_utf8(vec![in alloc; b'x'; 200]?)?;
-    for path in [
-        "/tmp/spf_client_tests-nobody.sock",
-        "/etc/hostname",
-        "",
-        long.as_str(),
-    ] {
-        let endpoint = Endpoint::Unix(Text::copy_of(alloc, path)?);
-        let connected = EndpointConnector::to(&rt, alloc, endpoint).connect();
-        assert!(rt; is_unreachable(&connected, path), "{path}");
+fn no_path_is_reached(rt: HostRuntime) {
+    let long = long_path(rt.alloc()).expect(&rt, "a path");
+    for path in [NOBODY, "/etc/hostname", "", long.as_str()] {
+        assert!(rt; is_unreached(rt, path).expect(&rt, "memory"), "{path}");
     }
-    let listener = TcpListener::bind(&rt, "127.0.0.1:0")?;
-    let endpoint = endpoint_of(alloc, &listener)?;
+    drop(long);
+}
+
+#[test]
+fn no_address_is_reached(rt: HostRuntime) {
+    let alloc = rt.alloc();
+    let listener = TcpListener::bind(&rt, "127.0.0.1:0").expect(&rt, "a listener");
+    let endpoint = endpoint_of(alloc, &listener).expect(&rt, "an endpoint");
     drop(listener);
-    let connected = EndpointConnector::new(&rt, alloc, endpoint.as_str())?.connect();
+    let connector = EndpointConnector::new(&rt, alloc, endpoint.as_str());
+    let mut connector = connector.expect(&rt, "memory");
+    let connected = connector.connect();
     assert!(rt; is_unreachable(&connected, "127.0.0.1:"));
-    let mut broken = EndpointConnector::new(&rt, alloc, "foo")?;
+    drop(connected);
+    drop(connector);
+    drop(endpoint);
+}
+
+#[test]
+fn no_endpoint_is_reached(rt: HostRuntime) {
+    let alloc = rt.alloc();
+    let connector = EndpointConnector::new(&rt, alloc, "foo");
+    let mut broken = connector.expect(&rt, "memory");
     assert!(rt; broken.validate().is_err());
-    assert!(rt; is_unreachable(&broken.connect(), "endpoint socket is not a valid URI"));
+    let connected = broken.connect();
+    assert!(rt; is_unreachable(&connected, "endpoint socket is not a valid URI"));
+    drop(connected);
+    drop(broken);
     let environment = MemEnvironment::new(EnvValue::Missing);
-    let connected = EnvConnector::new(&rt, alloc, environment).connect();
+    let mut unset = EnvConnector::new(&rt, alloc, environment);
+    let connected = unset.connect();
     assert!(rt; is_unreachable(&connected, "SPIFFE_ENDPOINT_SOCKET"));
-    Ok(())
+    drop(connected);
+    drop(unset);
+}
+
+fn is_first(answer: Result<X509Svid, WorkloadApiError>) -> bool {
+    match answer {
+        Ok(svid) => {
+            let is_first = svid.spiffe_id().as_str() == "spiffe://example.org/w";
+            drop(svid);
+            is_first
+        }
+        Err(e) => {
+            drop(e);
+            false
+        }
+    }
 }
 
 #[test]
 fn client_over_a_socket(rt: HostRuntime) -> Result<(), Fail> {
     let alloc = rt.alloc();
-    let listener = TcpListener::bind(&rt, "127.0.0.1:0")?;
-    let text = endpoint_of(alloc, &listener)?;
-    let answers = vec![in alloc; octets(alloc, "CN I1")?, octets(alloc, "CN I1")?]?;
-    let server = thread::spawn(&rt, move || serve_tcp(&listener, answers.as_slice()))?;
-    let environment = MemEnvironment::new(EnvValue::Found(Text::copy_of(alloc, text.as_str())?));
-    let Ok(mut client) = WorkloadApiClient::connect_env(&rt, alloc, &environment) else {
-        return Err(Fail::from("no client"));
-    };
-    let endpoint = Endpoint::parse(alloc, text.as_str()).ok();
-    assert!(rt; client.endpoint() == endpoint.as_ref());
+    let answers = answers_of(alloc, &["CN I1", "CN I1"])?;
+    let listener = TcpListener::bind(&rt, "127.0.0.1:0").expect(&rt, "a listener");
+    let text = endpoint_of(alloc, &listener).expect(&rt, "an endpoint");
+    let server = thread::spawn(&rt, move || serve_tcp(&listener, answers.as_slice()));
+    let server = server.expect(&rt, "a thread");
+    let value = Text::copy_of(alloc, text.as_str()).expect(&rt, "memory");
+    let environment = MemEnvironment::new(EnvValue::Found(value));
+    let client = WorkloadApiClient::connect_env(&rt, alloc, &environment);
+    let mut client = client.expect(&rt, "a client");
+    let endpoint = Endpoint::parse(alloc, text.as_str()).expect(&rt, "an endpoint");
+    assert!(rt; client.endpoint() == Some(&endpoint));
     for _ in 0..2 {
-        let svid = client.fetch_x509_svid(alloc);
-        assert!(rt; svid.is_ok_and(|svid| svid.spiffe_id().as_str() == "spiffe://example.org/w"));
+        assert!(rt; is_first(client.fetch_x509_svid(alloc)));
     }
+    drop(endpoint);
     drop(client);
+    drop(environment);
+    drop(text);
     server.join(&rt);
     Ok(())
 }
 
-#[test]
-fn client_of_nobody(rt: HostRuntime) -> Result<(), Fail> {
-    let alloc = rt.alloc();
-    let endpoint = Endpoint::Unix(Text::copy_of(alloc, "/tmp/spf_client_tests-nobody.sock")?);
-    let refused = WorkloadApiClient::connect(&rt, alloc, endpoint).err();
-    let is_named = match &refused {
-        Some(WorkloadApiError::Transport(TransportError::Connect(e))) => {
-            let text = format!(in alloc; "{e}")?;
-            text.as_str().contains("/tmp/spf_client_tests-nobody.sock")
+/// Whether the error is that nothing was reached, and names this.
+fn is_named(alloc: Global, e: &WorkloadApiError, named: &str) -> Result<bool, OutOfMemory> {
+    match e {
+        WorkloadApiError::Transport(TransportError::Connect(e)) => {
+            Ok(format!(in alloc; "{e}")?.as_str().contains(named))
         }
-        _ => false,
-    };
-    assert!(rt; is_named);
+        _ => Ok(false),
+    }
+}
+
+/// Whether there is no client, for a reason that names this.
+fn is_nobody<C: Drop>(
+    alloc: Global,
+    made: Result<C, WorkloadApiError>,
+    named: &str,
+) -> Result<bool, OutOfMemory> {
+    match made {
+        Ok(client) => {
+            drop(client);
+            Ok(false)
+        }
+        Err(e) => {
+            let is_named = is_named(alloc, &e, named);
+            drop(e);
+            is_named
+        }
+    }
+}
+
+/// Whether there is no client, since the environment names no endpoint.
+fn is_missing<C: Drop>(made: Result<C, WorkloadApiError>) -> bool {
+    match made {
+        Ok(client) => {
+            drop(client);
+            false
+        }
+        Err(e) => {
+            let is_missing = matches!(&e, WorkloadApiError::MissingEndpointSocket);
+            drop(e);
+            is_missing
+        }
+    }
+}
+
+#[test]
+fn client_of_nobody(rt: HostRuntime) {
+    let alloc = rt.alloc();
+    let path = Text::copy_of(alloc, NOBODY).expect(&rt, "memory");
+    let made = WorkloadApiClient::connect(&rt, alloc, Endpoint::Unix(path));
+    assert!(rt; is_nobody(alloc, made, NOBODY).expect(&rt, "memory"));
     let environment = MemEnvironment::new(EnvValue::Missing);
-    let refused = WorkloadApiClient::connect_env(&rt, alloc, &environment).err();
-    assert!(rt; refused == Some(WorkloadApiError::MissingEndpointSocket));
-    Ok(())
+    assert!(rt; is_missing(WorkloadApiClient::connect_env(&rt, alloc, &environment)));
+    drop(environment);
 }
