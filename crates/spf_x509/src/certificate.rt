@@ -1,12 +1,11 @@
 //! A certificate, kept as its DER, and the SPIFFE ID that it names.
 
-ghost use Rattle.std.specs.Prelude.{◌≡◌, IfOk, codes};
+ghost use Rattle.std.specs.Prelude.{◌≡◌, IfOk, IsTrue, Ok, Some, codes};
 ghost use Rattle.spf_der.specs.Grammar.{CertText};
 ghost use Rattle.spf_der.specs.Part.{Parts};
 ghost use Rattle.spf_der.specs.Read.{never, unique_rule};
 ghost use Rattle.spf_der.specs.Value.{seen};
 ghost use Rattle.spf_io.specs.Rule.{Gives};
-ghost use Rattle.spf_id.specs.Rule.{id_rule, is_memory};
 ghost use Rattle.spf_x509.specs.Certificate.{IsCertificate, certificate_of, extension_rule, oid_of};
 ghost use Rattle.spf_x509.specs.Certificate.{san_rule, spiffe_id_rule, uri_rule, uris_rule};
 ghost use Rattle.spf_x509.specs.Certificate.{whole_rule};
@@ -17,7 +16,7 @@ use crate::extension::X509ExtensionId;
 use spf_der::{
     CertScan, SanUris, X509ParseError, X509ParseKind, read_san_uri_views, scan_certificate,
 };
-use spf_id::{SpiffeId, SpiffeIdError, uri_has_spiffe_scheme};
+use spf_id::{SpiffeId, uri_has_spiffe_scheme};
 use spf_io::{Bytes, OutOfMemory, Text};
 use std::alloc::Global;
 use std::marker::Model;
@@ -121,7 +120,7 @@ pub fn spiffe_id_from_der(alloc: Global, der: &[u8]) -> Result<SpiffeId, Certifi
     ensures { Gives is_memory_certificate (λ id. id) result (spiffe_id_rule der.now) }
 {
     let certificate = read_whole(der)?;
-    subject_id(alloc, &certificate, None)
+    subject_id(alloc, &certificate)
 }
 
 /// The view of the certificate that the bytes are, with nothing after it.
@@ -176,23 +175,9 @@ fn unexpected_names(alloc: Global) -> Result<CertificateError, OutOfMemory>
     Ok(CertificateError::UnexpectedExtension(extension))
 }
 
-/// The ID that a text is, which is copied from a known one where that has the same text.
-fn id_from(alloc: Global, text: &str, known: Option<&SpiffeId>) -> Result<SpiffeId, SpiffeIdError>
-    ensures { Gives is_memory (λ id. id) result (id_rule text.now) }
-{
-    match known {
-        Some(known) if known.as_str() == text => Ok(known.try_clone(alloc)?),
-        _ => SpiffeId::new(alloc, text),
-    }
-}
-
 /// The ID that a URI name is, where it is meant as one.
 #[tactic(auto, unfolding(crate::specs::Certificate::uri_rule))]
-fn id_of_uri(
-    alloc: Global,
-    uri: &str,
-    known: Option<&SpiffeId>,
-) -> Result<Option<SpiffeId>, CertificateError>
+fn id_of_uri(alloc: Global, uri: &str) -> Result<Option<SpiffeId>, CertificateError>
     ensures { Gives is_memory_certificate (λ id. id) result (uri_rule uri.now) }
 {
     if uri.len() > MAX_URI_BYTES {
@@ -201,21 +186,17 @@ fn id_of_uri(
     if !uri_has_spiffe_scheme(uri) {
         return Ok(None);
     }
-    Ok(Some(id_from(alloc, uri, known)?))
+    Ok(Some(SpiffeId::new(alloc, uri)?))
 }
 
 /// The one SPIFFE ID of the URIs, taken in order.
-fn id_of_uris(
-    alloc: Global,
-    mut uris: SanUris<'_>,
-    known: Option<&SpiffeId>,
-) -> Result<SpiffeId, CertificateError>
+fn id_of_uris(alloc: Global, mut uris: SanUris<'_>) -> Result<SpiffeId, CertificateError>
     ensures { Gives is_memory_certificate (λ id. id) result (uris_rule uris.entry) }
 {
     let Some(first) = uris.next_uri() else {
         return Err(CertificateError::MissingSpiffeId);
     };
-    let id = id_of_uri(alloc, first, known)?;
+    let id = id_of_uri(alloc, first)?;
     if uris.next_uri().is_some() {
         return Err(CertificateError::MultipleUriSanEntries);
     }
@@ -226,18 +207,50 @@ fn id_of_uris(
 }
 
 /// The SAN rule: the names can be read, and of their URIs, taken in order,
-/// the only one is a SPIFFE ID. A known ID of the same text is copied.
+/// the only one is a SPIFFE ID.
 #[tactic(auto, unfolding(crate::specs::Certificate::san_rule))]
 pub(crate) fn subject_id(
     alloc: Global,
     certificate: &CertScan<'_>,
-    known: Option<&SpiffeId>,
 ) -> Result<SpiffeId, CertificateError>
     ensures { Gives is_memory_certificate (λ id. id) result (san_rule certificate.now) }
 {
     let contents = extension_contents(certificate, X509ExtensionId::SubjectAlternativeName)?;
     match read_san_uri_views(contents) {
         None => Err(unexpected_names(alloc)?),
-        Some(uris) => id_of_uris(alloc, uris, known),
+        Some(uris) => id_of_uris(alloc, uris),
+    }
+}
+
+/// Whether a URI name is the text of the ID.
+#[tactic(auto, unfolding(crate::specs::Certificate::uri_rule))]
+fn is_text_of(uri: &str, id: &SpiffeId) -> bool
+    ensures { IsTrue result → uri_rule uri.now ≡ Ok (Some id.now) }
+{
+    uri == id.as_str() && uri.len() <= MAX_URI_BYTES && uri_has_spiffe_scheme(uri)
+}
+
+/// Whether the only URI is the text of the ID.
+fn are_text_of(mut uris: SanUris<'_>, id: &SpiffeId) -> bool
+    ensures { IsTrue result → uris_rule uris.entry ≡ Ok id.now }
+{
+    match uris.next_uri() {
+        Some(first) => is_text_of(first, id) && uris.next_uri().is_none(),
+        None => false,
+    }
+}
+
+/// Whether the names of a certificate are found to be that ID. It allocates nothing.
+#[tactic(auto, unfolding(crate::specs::Certificate::san_rule))]
+pub(crate) fn is_named(certificate: &CertScan<'_>, id: &SpiffeId) -> bool
+    ensures { IsTrue result → san_rule certificate.now ≡ Ok id.now }
+{
+    let Ok(contents) = extension_contents(certificate, X509ExtensionId::SubjectAlternativeName)
+    else {
+        return false;
+    };
+    match read_san_uri_views(contents) {
+        None => false,
+        Some(uris) => are_text_of(uris, id),
     }
 }

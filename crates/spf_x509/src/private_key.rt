@@ -1,6 +1,6 @@
 //! A private key, kept as its DER.
 
-ghost use Rattle.std.specs.Prelude.{◌≡◌, IfOk};
+ghost use Rattle.std.specs.Prelude.{◌≡◌, IfOk, Ok};
 ghost use Rattle.spf_io.specs.Rule.{Gives};
 ghost use Rattle.spf_x509.specs.Errors.{is_memory_key};
 ghost use Rattle.spf_x509.specs.Key.{key_rule};
@@ -24,6 +24,11 @@ impl Model for PrivateKey {
     ghost Value = { List ℕ };
 
     ghost view = { λ k. k.der };
+
+    ghost use Rattle.std.specs.Prelude.{◌≡◌, true};
+    ghost use Rattle.spf_der.specs.Key.{is_key};
+
+    ghost invariant = { λ k. is_key k.der ≡ true };
 
     ghost inverse = { λ b. record { der = b } };
 }
@@ -53,8 +58,10 @@ impl PrivateKey {
         })
     }
 
+    #[tactic(auto, unfolding(crate::specs::Key::key_rule))]
     pub fn as_bytes(&self) -> &[u8]
-        ensures { result.now ≡ self.now }
+        ensures value { result.now ≡ self.now }
+        ensures rule { key_rule result.now ≡ Ok self.now }
     {
         self.der.as_slice()
     }

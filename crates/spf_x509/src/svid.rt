@@ -6,11 +6,14 @@ ghost use Rattle.std.specs.Arc.{arc_value};
 ghost use Rattle.spf_io.specs.Rule.{Gives};
 ghost use Rattle.spf_der.specs.Grammar.{CertText};
 ghost use Rattle.spf_x509.specs.Chain.{IsSvid, MayFollowLeaf, svid_of, svid_with_leaf, texts};
-ghost use Rattle.spf_x509.specs.Errors.{is_memory_svid};
+ghost use Rattle.spf_x509.specs.Errors.{is_memory_key, is_memory_svid};
+ghost use Rattle.spf_x509.specs.Key.{key_rule};
 
 use crate::certificate::{Certificate, copies, read_whole};
 use crate::chain::{ChainPart, bytes_before, chain_with_leaf, cut_chain, is_concatenation};
+use crate::error::PrivateKeyError;
 use crate::private_key::PrivateKey;
+use crate::shared::Shared;
 use crate::svid_error::X509SvidError;
 use crate::svid_rule::{intermediate_rules, leaf_rule};
 use spf_der::CertScan;
@@ -25,10 +28,10 @@ use std::sync::Arc;
 #[derive(Debug, Drop)]
 #[derive_where(PartialEq, Eq, PartialOrd, Ord)]
 pub struct X509Svid {
-    spiffe_id: SpiffeId,
+    spiffe_id: Shared<SpiffeId>,
     hint: Option<Text>,
     cert_chain: List<Certificate>,
-    private_key: PrivateKey,
+    private_key: Shared<PrivateKey>,
     #[derive_where(skip(EqHashOrd))]
     expiry: i64,
 }
@@ -78,10 +81,24 @@ fn certificates_of(alloc: Global, parts: &[ChainPart<'_>]) -> Result<Vec<Certifi
 }
 
 /// The ID of an SVID, if there is one.
-fn id_of(svid: Option<&X509Svid>) -> Option<&SpiffeId> {
+fn id_of(svid: Option<&X509Svid>) -> Option<&Shared<SpiffeId>> {
     match svid {
         Some(svid) => Some(&svid.spiffe_id),
         None => None,
+    }
+}
+
+/// The key that the bytes are, which is shared with an SVID that has the same.
+fn key_from(
+    alloc: Global,
+    der: &[u8],
+    known: Option<&X509Svid>,
+) -> Result<Shared<PrivateKey>, PrivateKeyError>
+    ensures { Gives is_memory_key (λ k. k) result (key_rule der.now) }
+{
+    match known {
+        Some(known) if known.private_key().as_bytes() == der => Ok(known.private_key.try_clone()?),
+        _ => Ok(Shared::new(alloc, PrivateKey::try_from(alloc, der)?)?),
     }
 }
 
@@ -121,7 +138,7 @@ impl X509Svid {
         X509Svid::parse_whole(alloc, chain, key, hint, None)
     }
 
-    /// The same, where an SVID may be given whose ID is most often that of the leaf.
+    /// The same, where an SVID may be given that most often has the same ID and key.
     #[tactic(auto, unfolding(crate::specs::Chain::svid_of))]
     fn parse_whole(
         alloc: Global,
@@ -138,7 +155,7 @@ impl X509Svid {
         };
         let (spiffe_id, expiry) = leaf_rule(alloc, leaf.scan(), id_of(known))?;
         intermediate_rules(alloc, intermediates)?;
-        let private_key = PrivateKey::try_from(alloc, key)?;
+        let private_key = key_from(alloc, key, known)?;
         let certificates = certificates_of(alloc, parts.as_slice())?;
         Ok(X509Svid {
             spiffe_id,
@@ -150,8 +167,8 @@ impl X509Svid {
     }
 
     /// The same, shared, where SVIDs may be given that were read before: certificates after the
-    /// leaf that are those of the chain of `near`, and the ID where it is that of `known`, are
-    /// copied and not read again.
+    /// leaf that are those of the chain of `near` are copied, and the ID and the key of `known` are
+    /// shared where they are the same. They are not read again.
     pub fn parse_shared(
         alloc: Global,
         chain: &[u8],
@@ -202,7 +219,7 @@ impl X509Svid {
         let Ok(scan) = read_whole(leaf) else {
             return X509Svid::parse_alone(alloc, chain, key, hint, known);
         };
-        X509Svid::with_leaf(alloc, leaf, &scan, others, key, hint, id_of(known))
+        X509Svid::with_leaf(alloc, leaf, &scan, others, key, hint, known)
     }
 
     /// The SVID of a leaf, and of certificates after it that keep their rule.
@@ -214,15 +231,15 @@ impl X509Svid {
         others: &[Certificate],
         key: &[u8],
         hint: Option<Text>,
-        known: Option<&SpiffeId>,
+        known: Option<&X509Svid>,
     ) -> Result<Arc<X509Svid>, X509SvidError>
         requires leaf { CertText leaf.now scan.now }
         requires others { MayFollowLeaf others.now }
         ensures { Gives is_memory_svid arc_value result
             (svid_with_leaf scan.now leaf.now others.now key.now hint) }
     {
-        let (spiffe_id, expiry) = leaf_rule(alloc, scan, known)?;
-        let kept_key = PrivateKey::try_from(alloc, key)?;
+        let (spiffe_id, expiry) = leaf_rule(alloc, scan, id_of(known))?;
+        let kept_key = key_from(alloc, key, known)?;
         let certificates = chain_with_leaf(alloc, leaf, others)?;
         let svid = X509Svid {
             spiffe_id,
@@ -253,10 +270,10 @@ impl X509Svid {
             Some(hint) => Some(hint.try_clone(alloc)?),
         };
         Ok(X509Svid {
-            spiffe_id: self.spiffe_id.try_clone(alloc)?,
+            spiffe_id: self.spiffe_id.try_clone()?,
             hint,
             cert_chain: List::new(copies(alloc, self.cert_chain.as_slice())?),
-            private_key: self.private_key.try_clone(alloc)?,
+            private_key: self.private_key.try_clone()?,
             expiry: self.expiry,
         })
     }
@@ -266,7 +283,7 @@ impl X509Svid {
         ensures { IsTrue result
             ↔ (svid_of chain.now key.now (option_map (λ t. t.now) hint.entry) ≡ Ok self.now) }
     {
-        if key != self.private_key.as_bytes() {
+        if key != self.private_key.get().as_bytes() {
             return false;
         }
         if !is_same_hint(hint, self.hint()) {
@@ -278,7 +295,7 @@ impl X509Svid {
     pub fn spiffe_id(&self) -> &SpiffeId
         ensures { result.now ≡ self.now.id }
     {
-        &self.spiffe_id
+        self.spiffe_id.get()
     }
 
     /// Returns the certificates, leaf first. There is at least one.
@@ -299,7 +316,7 @@ impl X509Svid {
     pub fn private_key(&self) -> &PrivateKey
         ensures { result.now ≡ self.now.key }
     {
-        &self.private_key
+        self.private_key.get()
     }
 
     /// Returns what the identity is meant for, as the operator says.

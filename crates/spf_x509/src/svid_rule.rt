@@ -3,13 +3,16 @@
 ghost use Rattle.std.specs.Prelude.{◌≡◌, IfOk};
 ghost use Rattle.spf_io.specs.Rule.{Gives};
 ghost use Rattle.spf_x509.specs.Chain.{intermediates_rule};
-ghost use Rattle.spf_x509.specs.Errors.{is_memory_svid};
+ghost use Rattle.spf_x509.specs.Certificate.{san_rule};
+ghost use Rattle.spf_x509.specs.Errors.{is_memory_certificate, is_memory_svid};
 ghost use Rattle.spf_x509.specs.Rule.{ca_rule, leaf_rule, leaf_usage, intermediate_rule};
 ghost use Rattle.spf_x509.specs.Rule.{usage_rule};
 
-use crate::certificate::{extension_contents, subject_id};
+use crate::certificate::{extension_contents, is_named, subject_id};
 use crate::chain::ChainPart;
+use crate::error::CertificateError;
 use crate::extension::X509ExtensionId;
+use crate::shared::Shared;
 use crate::svid_error::X509SvidError;
 use spf_der::{CertScan, KeyUsageBits, read_basic_constraints, read_key_usage};
 use spf_id::SpiffeId;
@@ -65,15 +68,29 @@ fn leaf_usage_rule(usage: KeyUsageBits) -> Result<(), X509SvidError>
     Ok(())
 }
 
-/// The rule of the leaf (SPIFFE X.509-SVID section 4): its one ID, which
-/// may be a known one, and its expiry in Unix seconds.
+/// The ID that a leaf names, which is shared with a known one where it is the same.
+fn leaf_id(
+    alloc: Global,
+    leaf: &CertScan<'_>,
+    known: Option<&Shared<SpiffeId>>,
+) -> Result<Shared<SpiffeId>, CertificateError>
+    ensures { Gives is_memory_certificate (λ id. id) result (san_rule leaf.now) }
+{
+    match known {
+        Some(known) if is_named(leaf, known.get()) => Ok(known.try_clone()?),
+        _ => Ok(Shared::new(alloc, subject_id(alloc, leaf)?)?),
+    }
+}
+
+/// The rule of the leaf (SPIFFE X.509-SVID section 4): its one ID, which is
+/// shared with a known one where it is the same, and its expiry in Unix seconds.
 #[inline(always)]
 #[tactic(auto, unfolding(crate::specs::Rule::leaf_rule))]
 pub(crate) fn leaf_rule(
     alloc: Global,
     leaf: &CertScan<'_>,
-    known: Option<&SpiffeId>,
-) -> Result<(SpiffeId, i64), X509SvidError>
+    known: Option<&Shared<SpiffeId>>,
+) -> Result<(Shared<SpiffeId>, i64), X509SvidError>
     ensures { Gives is_memory_svid (λ x. (x.0, x.1)) result (leaf_rule leaf.now) }
 {
     let usage = key_usage_of(alloc, leaf)?;
@@ -81,8 +98,8 @@ pub(crate) fn leaf_rule(
     if ca_flag_of(alloc, leaf)? {
         return Err(X509SvidError::LeafCertificateHasCaFlag);
     }
-    let id = subject_id(alloc, leaf, known)?;
-    if id.path().is_empty() {
+    let id = leaf_id(alloc, leaf, known)?;
+    if id.get().path().is_empty() {
         return Err(X509SvidError::LeafSpiffeIdMissingPath);
     }
     Ok((id, leaf.expiry()))

@@ -23,7 +23,7 @@ returns-then-ne c =
     let exact =
     svid_exact c.args.chain.now c.args.key.now hint c.args.self.now octets
     (subst IsSvid c.self.view_is c.self.invariant.1) in
-    let key = c.as_bytes.ensures ∙ ap (λ (s : Svid). s.key) c.self.view_is in (
+    let key = c.as_bytes.ensures.value ∙ c.get.ensures ∙ ap (λ (s : Svid). s.key) c.self.view_is in (
       λ yes. absurd (cc (yes)),
       λ is. absurd (cc (rw ((bytes_exact _ _).1 ((exact.1 is).0 ∙ sym key)) at c.if-ne.ensures)),
     )
@@ -51,7 +51,7 @@ returns c =
     svid_exact c.args.chain.now c.args.key.now hint c.args.self.now octets
     (subst IsSvid c.self.view_is c.self.invariant.1) in
     let key : c.args.key.now ≡ c.args.self.now.key =
-    (bytes_exact _ _).0 (holds _ c.if-ne.ensures) ∙ c.as_bytes.ensures
+    (bytes_exact _ _).0 (holds _ c.if-ne.ensures) ∙ c.as_bytes.ensures.value ∙ c.get.ensures
     ∙ ap (λ (s : Svid). s.key) c.self.view_is in
     let chain = c.as_slice.ensures ∙ ap (λ (s : Svid). s.chain) c.self.view_is in (
       λ yes. exact.0 (
