@@ -1,4 +1,5 @@
 pub mod Alike
+pub mod Counted
 pub mod Differences
 pub mod EqualLemmas
 pub mod EventLemmas

@@ -3,6 +3,7 @@ pub mod Events
 pub mod Following
 pub mod Frames
 pub mod Handing
+pub mod Indices
 pub mod Items
 pub mod Limits
 pub mod Lines

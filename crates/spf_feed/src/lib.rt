@@ -7,6 +7,7 @@ mod follow_error;
 mod following;
 mod frame;
 mod hexadecimal;
+mod indices;
 pub mod laws;
 mod limits;
 mod line;

@@ -22,6 +22,7 @@ ghost use Rattle.spf_feed.specs.Steps.{is_accept};
 ghost use Rattle.spf_feed.specs.Numbered.{ShowsKept};
 
 use crate::hexadecimal::push_hex;
+use crate::indices::Indices;
 use crate::picker::usable;
 use crate::prepared::Prepared;
 use crate::snapshot::Snapshot;
@@ -31,7 +32,7 @@ use crate::state::X509SourceState;
 use crate::step::Denial;
 use itoa::Buffer;
 use spf_id::TrustDomain;
-use spf_io::{Bytes, Failed, List, OutOfMemory, Sink, Text};
+use spf_io::{Bytes, Failed, OutOfMemory, Sink, Text};
 use spf_x509::{Certificate, X509BundleSet, X509Context, X509Svid};
 use std::alloc::Global;
 use std::marker::Model;
@@ -162,7 +163,7 @@ fn push_bundle(
 fn push_bundles(
     line: &mut Vec<u8>,
     set: &X509BundleSet,
-    orders: &[List<usize>],
+    orders: &[Indices],
 ) -> Result<(), OutOfMemory>
     requires { AreIndexed set.now orders.now }
     ensures text { OnOk result (line.new.items ≡ line.old.items ++ flat_map entry_text set.now) }
