@@ -1,115 +1,144 @@
 //! The JWT calls of a client over in-memory links.
 
-use crate::links::link;
+use crate::links::{audience, link};
 use spf_api::WorkloadApiError;
 use spf_client::WorkloadApiClient;
 use spf_fixtures::TOKEN1;
 use spf_id::SpiffeId;
-use spf_io::Text;
-use spf_jwt::{JwtBundleSet, JwtSvid};
-use spf_jwt_client::JwtClient;
+use spf_io::{OutOfMemory, Text};
+use spf_jwt::{JwtBundle, JwtBundleSet, JwtSvid};
+use spf_jwt_client::{JwtBundleStream, JwtClient};
 use spf_link::{MemLink, NoInterceptor};
 use std::alloc::Global;
-use std::test::Fail;
+use std::mem::drop;
 
 type Client = WorkloadApiClient<MemLink, NoInterceptor>;
 
-fn client(alloc: Global, words: &[&str]) -> Result<Client, Fail> {
+fn client(alloc: Global, words: &[&str]) -> Result<Client, OutOfMemory> {
     Ok(WorkloadApiClient::new_with_link(None, link(alloc, words)?, NoInterceptor))
 }
 
-fn svid_text(alloc: Global, svid: &JwtSvid) -> Result<String, Fail> {
-    let id = svid.spiffe_id();
-    let hint = svid.hint().unwrap_or("-");
-    let is_first = svid.token() == TOKEN1;
-    Ok(format!(in alloc; "{id} {} {hint} {is_first}", svid.expiry())?)
-}
-
-fn svids_text(alloc: Global, svids: &Vec<JwtSvid>) -> Result<String, Fail> {
-    let mut text = String::new(alloc);
+fn push_hints(text: &mut String, svids: &[JwtSvid]) -> Result<(), OutOfMemory> {
     for svid in svids {
         text.push_str(svid.hint().unwrap_or("-"))?;
         text.push(' ')?;
     }
-    Ok(text)
+    Ok(())
 }
 
-fn bundles_text(alloc: Global, bundles: &JwtBundleSet) -> Result<String, Fail> {
-    let mut text = String::new(alloc);
+fn push_keys(text: &mut String, bundle: &JwtBundle) -> Result<(), OutOfMemory> {
+    for authority in bundle.jwt_authorities() {
+        text.push_str(authority.key_id())?;
+    }
+    Ok(())
+}
+
+fn push_bundles(text: &mut String, bundles: &JwtBundleSet) -> Result<(), OutOfMemory> {
     for (domain, bundle) in bundles.iter() {
         text.push_str(domain.as_str())?;
         text.push('=')?;
-        for authority in bundle.jwt_authorities() {
-            text.push_str(authority.key_id())?;
-        }
+        push_keys(text, bundle)?;
         text.push(' ')?;
     }
-    Ok(text)
+    Ok(())
 }
 
-fn error_text(alloc: Global, e: &WorkloadApiError) -> Result<String, Fail> {
-    Ok(format!(in alloc; "{e}")?)
+/// A value by which these tests know it.
+trait Shown {
+    fn shown(&self, alloc: Global) -> Result<String, OutOfMemory>;
 }
 
-fn svid_or_error(alloc: Global, fetch: Result<JwtSvid, WorkloadApiError>) -> Result<String, Fail> {
-    match fetch {
-        Ok(svid) => svid_text(alloc, &svid),
-        Err(e) => error_text(alloc, &e),
+impl Shown for JwtSvid {
+    fn shown(&self, alloc: Global) -> Result<String, OutOfMemory> {
+        let id = self.spiffe_id();
+        let hint = self.hint().unwrap_or("-");
+        let is_first = self.token() == TOKEN1;
+        Ok(format!(in alloc; "{id} {} {hint} {is_first}", self.expiry())?)
     }
 }
 
-fn all_svids(alloc: Global, client: &mut Client, audience: &[Text]) -> Result<String, Fail> {
-    match client.fetch_all_jwt_svids(alloc, audience, None) {
-        Ok(svids) => svids_text(alloc, &svids),
-        Err(e) => error_text(alloc, &e),
+impl Shown for Vec<JwtSvid> {
+    fn shown(&self, alloc: Global) -> Result<String, OutOfMemory> {
+        let mut text = String::new(alloc);
+        push_hints(&mut text, self.as_slice())?;
+        Ok(text)
     }
 }
 
-fn token(alloc: Global, client: &mut Client, audience: &[Text]) -> Result<String, Fail> {
-    match client.fetch_jwt_token(alloc, audience, None) {
-        Ok(token) => Ok(format!(in alloc; "{}", token.as_str() == TOKEN1)?),
-        Err(e) => error_text(alloc, &e),
+/// A token.
+impl Shown for Text {
+    fn shown(&self, alloc: Global) -> Result<String, OutOfMemory> {
+        Ok(format!(in alloc; "{}", self.as_str() == TOKEN1)?)
     }
 }
 
-fn bundles(alloc: Global, client: &mut Client) -> Result<String, Fail> {
-    match client.fetch_jwt_bundles(alloc) {
-        Ok(bundles) => bundles_text(alloc, &bundles),
-        Err(e) => error_text(alloc, &e),
+impl Shown for JwtBundleSet {
+    fn shown(&self, alloc: Global) -> Result<String, OutOfMemory> {
+        let mut text = String::new(alloc);
+        push_bundles(&mut text, self)?;
+        Ok(text)
     }
 }
 
-fn hinted(
+fn text_of<T: Shown>(
     alloc: Global,
-    client: &mut Client,
-    audience: &[Text],
-    hint: &str,
-) -> Result<String, Fail> {
-    svid_or_error(
-        alloc,
-        client.fetch_jwt_svid_by_hint(alloc, audience, None, hint),
-    )
+    answer: &Result<T, WorkloadApiError>,
+) -> Result<String, OutOfMemory> {
+    match answer {
+        Ok(value) => value.shown(alloc),
+        Err(e) => Ok(format!(in alloc; "{e}")?),
+    }
 }
 
-fn of_id(alloc: Global, client: &mut Client, audience: &[Text]) -> Result<String, Fail> {
-    let id = SpiffeId::new(alloc, "spiffe://example.org/w")?;
-    svid_or_error(alloc, client.fetch_jwt_svid(alloc, audience, Some(&id)))
+/// What a call returned, as a text.
+fn summary<T: Shown + Drop>(
+    alloc: Global,
+    answer: Result<T, WorkloadApiError>,
+) -> Result<String, OutOfMemory> {
+    let text = text_of(alloc, &answer);
+    drop(answer);
+    text
+}
+
+fn of_id(alloc: Global, client: &mut Client, audience: &[Text]) -> Result<String, OutOfMemory> {
+    let Ok(id) = SpiffeId::new(alloc, "spiffe://example.org/w") else {
+        return Err(OutOfMemory);
+    };
+    let answer = client.fetch_jwt_svid(alloc, audience, Some(&id));
+    drop(id);
+    summary(alloc, answer)
 }
 
 /// What the call of that name returns, as a text. Any other name is a hint.
-fn fetched(alloc: Global, client: &mut Client, call: &str) -> Result<String, Fail> {
-    let audience = vec![in alloc; Text::copy_of(alloc, "a")?]?;
-    let audience = audience.as_slice();
+fn fetched(
+    alloc: Global,
+    client: &mut Client,
+    call: &str,
+    audience: &[Text],
+) -> Result<String, OutOfMemory> {
     match call {
-        "svid" => svid_or_error(alloc, client.fetch_jwt_svid(alloc, audience, None)),
+        "svid" => summary(alloc, client.fetch_jwt_svid(alloc, audience, None)),
         "svid of an ID" => of_id(alloc, client, audience),
-        "svids" => all_svids(alloc, client, audience),
-        "token" => token(alloc, client, audience),
-        "bundles" => bundles(alloc, client),
-        "validated" => { svid_or_error(alloc, client.validate_jwt_token(alloc, "a", TOKEN1)) }
-        "validated text" => svid_or_error(alloc, client.validate_jwt_token(alloc, "a", "t")),
-        hint => hinted(alloc, client, audience, hint),
+        "svids" => summary(alloc, client.fetch_all_jwt_svids(alloc, audience, None)),
+        "token" => summary(alloc, client.fetch_jwt_token(alloc, audience, None)),
+        "bundles" => summary(alloc, client.fetch_jwt_bundles(alloc)),
+        "validated" => summary(alloc, client.validate_jwt_token(alloc, "a", TOKEN1)),
+        "validated text" => summary(alloc, client.validate_jwt_token(alloc, "a", "t")),
+        hint => summary(
+            alloc,
+            client.fetch_jwt_svid_by_hint(alloc, audience, None, hint),
+        ),
     }
+}
+
+/// The same of a client over a link with these answers.
+fn answered(alloc: Global, words: &[&str], call: &str) -> Result<String, OutOfMemory> {
+    let audience = audience(alloc)?;
+    let mut client = client(alloc, words)?;
+    let text = fetched(alloc, &mut client, call, audience.as_slice());
+    drop(client);
+    drop(audience);
+    text
 }
 
 const UNAVAILABLE: &str = "gRPC status unavailable: ";
@@ -192,47 +221,71 @@ const FETCHES: &[(&str, &str, &str)] = &[
 ];
 
 #[test]
-fn jwt_client(rt: HostRuntime) -> Result<(), Fail> {
-    let alloc = rt.alloc();
-    for (word, call, wanted) in FETCHES {
-        let mut client = client(alloc, &["started", word])?;
-        let found = fetched(alloc, &mut client, call)?;
-        assert!(rt; found.as_str() == *wanted, "{word}, {call}: {found}");
+fn jwt_client(rt: HostRuntime) {
+    for &(word, call, wanted) in FETCHES {
+        let found = answered(rt.alloc(), &["started", word], call).expect(&rt, "memory");
+        assert!(rt; found.as_str() == wanted, "{word}, {call}: {found}");
     }
-    Ok(())
 }
 
+const CALLS: &[&str] = &["svid", "svids", "h", "token", "bundles", "validated"];
+
 #[test]
-fn jwt_client_refused_at_the_start(rt: HostRuntime) -> Result<(), Fail> {
-    let alloc = rt.alloc();
-    for call in ["svid", "svids", "h", "token", "bundles", "validated"] {
-        let mut client = client(alloc, &["!denied", "started"])?;
-        let found = fetched(alloc, &mut client, call)?;
+fn jwt_client_refused_at_the_start(rt: HostRuntime) {
+    for &call in CALLS {
+        let found = answered(rt.alloc(), &["!denied", "started"], call).expect(&rt, "memory");
         assert!(rt;
             found.as_str() == "permission denied: no",
             "{call}: {found}"
         );
     }
+}
+
+/// Appends what a stream gave.
+fn push_item(
+    alloc: Global,
+    text: &mut String,
+    item: Option<Result<JwtBundleSet, WorkloadApiError>>,
+) -> Result<(), OutOfMemory> {
+    match item {
+        None => text.push_str("none")?,
+        Some(answer) => text.push_str(summary(alloc, answer)?.as_str())?,
+    }
+    text.push_str("; ")?;
     Ok(())
 }
 
-/// What the next calls of a stream of bundles return.
-fn streamed(alloc: Global, client: &mut Client, calls: usize) -> Result<String, Fail> {
-    let mut text = String::new(alloc);
-    let mut stream = match client.stream_jwt_bundles(alloc) {
-        Ok(stream) => stream,
-        Err(e) => return error_text(alloc, &e),
-    };
+fn push_items(
+    alloc: Global,
+    text: &mut String,
+    stream: &mut JwtBundleStream<'_, MemLink>,
+    calls: usize,
+) -> Result<(), OutOfMemory> {
     for _ in 0..calls {
-        let item = match stream.next_item(alloc) {
-            None => String::from_str(alloc, "none")?,
-            Some(Ok(bundles)) => bundles_text(alloc, &bundles)?,
-            Some(Err(e)) => error_text(alloc, &e)?,
-        };
-        text.push_str(item.as_str())?;
-        text.push_str("; ")?;
+        push_item(alloc, text, stream.next_item(alloc))?;
     }
-    Ok(text)
+    Ok(())
+}
+
+/// Appends why a stream did not start.
+fn push_refusal(alloc: Global, text: &mut String, e: WorkloadApiError) -> Result<(), OutOfMemory> {
+    let refusal = format!(in alloc; "{e}");
+    drop(e);
+    text.push_str(refusal?.as_str())?;
+    Ok(())
+}
+
+/// Appends what the first calls of a stream of bundles return.
+fn push_stream(
+    alloc: Global,
+    text: &mut String,
+    client: &mut Client,
+    calls: usize,
+) -> Result<(), OutOfMemory> {
+    match client.stream_jwt_bundles(alloc) {
+        Ok(mut stream) => push_items(alloc, text, &mut stream, calls),
+        Err(e) => push_refusal(alloc, text, e),
+    }
 }
 
 /// Answers of the link, and what four calls of the stream return.
@@ -253,12 +306,13 @@ const STREAMS: &[(&[&str], &str)] = &[
 ];
 
 #[test]
-fn jwt_client_streams(rt: HostRuntime) -> Result<(), Fail> {
+fn jwt_client_streams(rt: HostRuntime) {
     let alloc = rt.alloc();
-    for (words, wanted) in STREAMS {
-        let mut client = client(alloc, words)?;
-        let found = streamed(alloc, &mut client, 4)?;
-        assert!(rt; found.as_str() == *wanted, "{found}");
+    for &(words, wanted) in STREAMS {
+        let mut client = client(alloc, words).expect(&rt, "a client");
+        let mut found = String::new(alloc);
+        push_stream(alloc, &mut found, &mut client, 4).expect(&rt, "memory");
+        drop(client);
+        assert!(rt; found.as_str() == wanted, "{found}");
     }
-    Ok(())
 }

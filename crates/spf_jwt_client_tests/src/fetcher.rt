@@ -1,42 +1,57 @@
 //! What a fetcher asks again, and what it keeps.
 
-use crate::links::connector;
+use crate::links::{audience, connector};
 use spf_id::SpiffeId;
-use spf_io::Text;
+use spf_io::{OutOfMemory, Text};
 use spf_jwt::JwtSvid;
 use spf_jwt_client::JwtFetcher;
 use spf_jwt_feed::JwtSourceError;
 use spf_link::MemConnector;
 use std::alloc::Global;
-use std::test::Fail;
+use std::mem::drop;
 
-/// The hint of the SVID, or the text of the error.
-fn shown(alloc: Global, fetch: Result<JwtSvid, JwtSourceError>) -> Result<String, Fail> {
+type Fetcher = JwtFetcher<MemConnector>;
+
+fn fetcher(alloc: Global, members: &[&[&str]]) -> Result<Fetcher, OutOfMemory> {
+    Ok(JwtFetcher::new(connector(alloc, members)?))
+}
+
+fn text_of(alloc: Global, fetch: &Result<JwtSvid, JwtSourceError>) -> Result<String, OutOfMemory> {
     match fetch {
         Ok(svid) => Ok(String::from_str(alloc, svid.hint().unwrap_or("-"))?),
         Err(e) => Ok(format!(in alloc; "{e}")?),
     }
 }
 
-fn fetched(
-    alloc: Global,
-    fetcher: &mut JwtFetcher<MemConnector>,
-    audience: &[Text],
-) -> Result<String, Fail> {
-    shown(alloc, fetcher.fetch(alloc, audience))
+/// The hint of the SVID, or the text of the error.
+fn shown(alloc: Global, fetch: Result<JwtSvid, JwtSourceError>) -> Result<String, OutOfMemory> {
+    let text = text_of(alloc, &fetch);
+    drop(fetch);
+    text
 }
 
-/// What this many fetches return.
-fn all_fetched(alloc: Global, members: &[&[&str]], fetches: usize) -> Result<String, Fail> {
-    let audience = vec![in alloc; Text::copy_of(alloc, "a")?]?;
-    let mut fetcher = JwtFetcher::new(connector(alloc, members)?);
-    let mut text = String::new(alloc);
+fn push_fetch(
+    alloc: Global,
+    text: &mut String,
+    fetch: Result<JwtSvid, JwtSourceError>,
+) -> Result<(), OutOfMemory> {
+    text.push_str(shown(alloc, fetch)?.as_str())?;
+    text.push_str("; ")?;
+    Ok(())
+}
+
+/// Appends what this many fetches return.
+fn push_fetches(
+    alloc: Global,
+    text: &mut String,
+    fetcher: &mut Fetcher,
+    audience: &[Text],
+    fetches: usize,
+) -> Result<(), OutOfMemory> {
     for _ in 0..fetches {
-        let fetch = fetched(alloc, &mut fetcher, audience.as_slice())?;
-        text.push_str(fetch.as_str())?;
-        text.push_str("; ")?;
+        push_fetch(alloc, text, fetcher.fetch(alloc, audience))?;
     }
-    Ok(text)
+    Ok(())
 }
 
 /// Links of a connector, a number of fetches, and what they return. Each SVID is shown by its hint.
@@ -133,30 +148,49 @@ const FETCHES: &[(&[&[&str]], usize, &str)] = &[
 ];
 
 #[test]
-fn jwt_fetch_retry(rt: HostRuntime) -> Result<(), Fail> {
+fn jwt_fetch_retry(rt: HostRuntime) {
     let alloc = rt.alloc();
-    for (members, fetches, wanted) in FETCHES {
-        let found = all_fetched(alloc, members, *fetches)?;
-        assert!(rt; found.as_str() == *wanted, "{found}");
+    let audience = audience(alloc).expect(&rt, "memory");
+    for &(members, fetches, wanted) in FETCHES {
+        let mut fetcher = fetcher(alloc, members).expect(&rt, "a fetcher");
+        let mut found = String::new(alloc);
+        push_fetches(
+            alloc,
+            &mut found,
+            &mut fetcher,
+            audience.as_slice(),
+            fetches,
+        )
+        .expect(&rt, "memory");
+        drop(fetcher);
+        assert!(rt; found.as_str() == wanted, "{found}");
     }
-    Ok(())
+    drop(audience);
 }
 
-fn fetched_of_id(alloc: Global, members: &[&[&str]]) -> Result<String, Fail> {
-    let id = SpiffeId::new(alloc, "spiffe://example.org/w")?;
-    let mut fetcher = JwtFetcher::new(connector(alloc, members)?);
-    shown(alloc, fetcher.fetch_with_id(alloc, &[], Some(&id)))
+fn fetched_of_id(alloc: Global, members: &[&[&str]], id: &SpiffeId) -> Result<String, OutOfMemory> {
+    let mut fetcher = fetcher(alloc, members)?;
+    let fetch = fetcher.fetch_with_id(alloc, &[], Some(id));
+    drop(fetcher);
+    shown(alloc, fetch)
 }
+
+/// Links of a connector, and what a fetch of an ID returns.
+const FETCHES_OF_ID: &[(&[&[&str]], &str)] = &[
+    (&[&["!unavailable"], &["started", "a"]], "a"),
+    (
+        &[&["!denied"], &["started", "a"]],
+        "failed to fetch jwt svid: permission denied: no",
+    ),
+];
 
 #[test]
-fn jwt_fetch_of_an_id(rt: HostRuntime) -> Result<(), Fail> {
+fn jwt_fetch_of_an_id(rt: HostRuntime) {
     let alloc = rt.alloc();
-    let found = fetched_of_id(alloc, &[&["!unavailable"], &["started", "a"]])?;
-    assert_eq!(rt; found.as_str(), "a");
-    let found = fetched_of_id(alloc, &[&["!denied"], &["started", "a"]])?;
-    assert_eq!(rt;
-        found.as_str(),
-        "failed to fetch jwt svid: permission denied: no"
-    );
-    Ok(())
+    let id = SpiffeId::new(alloc, "spiffe://example.org/w").expect(&rt, "an ID");
+    for &(members, wanted) in FETCHES_OF_ID {
+        let found = fetched_of_id(alloc, members, &id).expect(&rt, "memory");
+        assert!(rt; found.as_str() == wanted, "{found}");
+    }
+    drop(id);
 }

@@ -5,16 +5,15 @@ use spf_api::{
     JwtSvidEntry, JwtSvidsResponse, LinkFault, Response, TransportConnectError, ValidationResponse,
 };
 use spf_fixtures::TOKEN1;
-use spf_io::{Bytes, List, Text};
+use spf_io::{Bytes, List, OutOfMemory, Text};
 use spf_link::{Answer, MemConnector, MemLink};
 use std::alloc::Global;
-use std::test::Fail;
 
 const KEYS: &str = "{\"keys\":[{\"kid\":\"k\",\"kty\":\"EC\"}]}";
 
 const ID: &str = "spiffe://example.org/w";
 
-fn entry(alloc: Global, id: &str, token: &str, hint: &str) -> Result<JwtSvidEntry, Fail> {
+fn entry(alloc: Global, id: &str, token: &str, hint: &str) -> Result<JwtSvidEntry, OutOfMemory> {
     Ok(JwtSvidEntry {
         spiffe_id: Text::copy_of(alloc, id)?,
         svid: Text::copy_of(alloc, token)?,
@@ -23,7 +22,7 @@ fn entry(alloc: Global, id: &str, token: &str, hint: &str) -> Result<JwtSvidEntr
 }
 
 /// A response of these entries, each an ID, a token and a hint.
-fn svids(alloc: Global, rows: &[(&str, &str, &str)]) -> Result<Response, Fail> {
+fn svids(alloc: Global, rows: &[(&str, &str, &str)]) -> Result<Response, OutOfMemory> {
     let mut entries = Vec::new(alloc);
     for (id, token, hint) in rows {
         entries.push(entry(alloc, id, token, hint)?)?;
@@ -32,120 +31,175 @@ fn svids(alloc: Global, rows: &[(&str, &str, &str)]) -> Result<Response, Fail> {
     Ok(Response::JwtSvids(JwtSvidsResponse { svids }))
 }
 
+fn bundle_entry(alloc: Global, name: &str, keys: &str) -> Result<BundleEntry, OutOfMemory> {
+    Ok(BundleEntry {
+        name: Text::copy_of(alloc, name)?,
+        bundle: Bytes::copy_of(alloc, keys.as_bytes())?,
+    })
+}
+
 /// A response of these entries, each a trust domain and a key set.
-fn bundles(alloc: Global, rows: &[(&str, &str)]) -> Result<Response, Fail> {
+fn bundles(alloc: Global, rows: &[(&str, &str)]) -> Result<Response, OutOfMemory> {
     let mut entries = Vec::new(alloc);
     for (name, keys) in rows {
-        entries.push(BundleEntry {
-            name: Text::copy_of(alloc, name)?,
-            bundle: Bytes::copy_of(alloc, keys.as_bytes())?,
-        })?;
+        entries.push(bundle_entry(alloc, name, keys)?)?;
     }
     let bundles = List::new(entries);
     Ok(Response::JwtBundles(BundlesResponse { bundles }))
 }
 
-fn words(alloc: Global, text: &str) -> Result<ClaimValue, Fail> {
-    Ok(ClaimValue::Words(Text::copy_of(alloc, text)?))
+/// What a claim is made of.
+#[derive(Clone, Copy)]
+enum Claimed {
+    Words(&'static str),
+    Whole(i64),
+    OtherNumber(&'static str),
 }
 
-fn claim(alloc: Global, name: &str, value: ClaimValue) -> Result<Claim, Fail> {
+const SUBJECT: (&str, Claimed) = ("sub", Claimed::Words(ID));
+
+const AUDIENCE: (&str, Claimed) = ("aud", Claimed::Words("a"));
+
+fn value(alloc: Global, claimed: Claimed) -> Result<ClaimValue, OutOfMemory> {
+    match claimed {
+        Claimed::Words(text) => Ok(ClaimValue::Words(Text::copy_of(alloc, text)?)),
+        Claimed::Whole(number) => Ok(ClaimValue::Whole(number)),
+        Claimed::OtherNumber(text) => Ok(ClaimValue::OtherNumber(Text::copy_of(alloc, text)?)),
+    }
+}
+
+fn claim(alloc: Global, name: &str, claimed: Claimed) -> Result<Claim, OutOfMemory> {
     Ok(Claim {
         name: Text::copy_of(alloc, name)?,
-        value,
+        value: value(alloc, claimed)?,
     })
 }
 
-/// A validation with the claims `sub` and `aud`, and with `exp` where it is given.
-fn validation(alloc: Global, expiry: Option<ClaimValue>) -> Result<Response, Fail> {
+fn claims(alloc: Global, rows: &[(&str, Claimed)]) -> Result<List<Claim>, OutOfMemory> {
     let mut claims = Vec::new(alloc);
-    claims.push(claim(alloc, "sub", words(alloc, ID)?)?)?;
-    claims.push(claim(alloc, "aud", words(alloc, "a")?)?)?;
-    if let Some(value) = expiry {
-        claims.push(claim(alloc, "exp", value)?)?;
+    for &(name, claimed) in rows {
+        claims.push(claim(alloc, name, claimed)?)?;
     }
-    Ok(Response::Validation(ValidationResponse {
-        spiffe_id: Text::copy_of(alloc, ID)?,
-        claims: Some(List::new(claims)),
-    }))
+    Ok(List::new(claims))
 }
 
-fn unclaimed(alloc: Global) -> Result<Response, Fail> {
+/// A validation with these claims.
+fn validation(alloc: Global, rows: &[(&str, Claimed)]) -> Result<Response, OutOfMemory> {
+    let spiffe_id = Text::copy_of(alloc, ID)?;
+    let claims = Some(claims(alloc, rows)?);
+    Ok(Response::Validation(ValidationResponse { spiffe_id, claims }))
+}
+
+fn unclaimed(alloc: Global) -> Result<Response, OutOfMemory> {
     Ok(Response::Validation(ValidationResponse {
         spiffe_id: Text::copy_of(alloc, ID)?,
         claims: None,
     }))
 }
 
-fn other_number(alloc: Global) -> Result<ClaimValue, Fail> {
-    Ok(ClaimValue::OtherNumber(Text::copy_of(alloc, "1.5")?))
+/// Words for SVIDs, each an ID, a token and a hint.
+const SVIDS: &[(&str, &[(&str, &str, &str)])] = &[
+    ("no_svids", &[]),
+    ("two", &[(ID, TOKEN1, "g"), (ID, TOKEN1, "h")]),
+    ("bad_second", &[(ID, TOKEN1, "g"), (ID, "t", "h")]),
+    ("no_token", &[(ID, TOKEN1, "g"), (ID, "", "h")]),
+    ("no_id", &[("", TOKEN1, "h")]),
+];
+
+/// Words for bundles, each a trust domain and a key set.
+const BUNDLES: &[(&str, &[(&str, &str)])] = &[
+    ("no_bundles", &[]),
+    ("bundles", &[("spiffe://example.org", KEYS)]),
+    (
+        "two_bundles",
+        &[("a.org", KEYS), ("b.org", KEYS), ("a.org", KEYS)],
+    ),
+    ("no_keys", &[("example.org", "{}")]),
+];
+
+/// Words for the claims of a validation.
+const CLAIMS: &[(&str, &[(&str, Claimed)])] = &[
+    ("no_expiry", &[SUBJECT, AUDIENCE]),
+    (
+        "other_expiry",
+        &[SUBJECT, AUDIENCE, ("exp", Claimed::OtherNumber("1.5"))],
+    ),
+    ("valid", &[SUBJECT, AUDIENCE, ("exp", Claimed::Whole(9))]),
+];
+
+/// The rows that the word stands for in a table.
+fn rows_of<'a, T>(table: &[(&str, &'a [T])], word: &str) -> Option<&'a [T]> {
+    for &(name, rows) in table {
+        if name == word {
+            return Some(rows);
+        }
+    }
+    None
 }
 
 /// The response that the word stands for. Any other word is the hint of one SVID.
-fn response(alloc: Global, word: &str) -> Result<Response, Fail> {
+fn response(alloc: Global, word: &str) -> Result<Response, OutOfMemory> {
+    if let Some(rows) = rows_of(SVIDS, word) {
+        return svids(alloc, rows);
+    }
+    if let Some(rows) = rows_of(BUNDLES, word) {
+        return bundles(alloc, rows);
+    }
+    if let Some(rows) = rows_of(CLAIMS, word) {
+        return validation(alloc, rows);
+    }
     match word {
-        "no_svids" => svids(alloc, &[]),
-        "two" => svids(alloc, &[(ID, TOKEN1, "g"), (ID, TOKEN1, "h")]),
-        "bad_second" => svids(alloc, &[(ID, TOKEN1, "g"), (ID, "t", "h")]),
-        "no_token" => svids(alloc, &[(ID, TOKEN1, "g"), (ID, "", "h")]),
-        "no_id" => svids(alloc, &[("", TOKEN1, "h")]),
-        "no_bundles" => bundles(alloc, &[]),
-        "bundles" => bundles(alloc, &[("spiffe://example.org", KEYS)]),
-        "two_bundles" => bundles(alloc, &[("a.org", KEYS), ("b.org", KEYS), ("a.org", KEYS)]),
-        "no_keys" => bundles(alloc, &[("example.org", "{}")]),
         "no_claims" => unclaimed(alloc),
-        "no_expiry" => validation(alloc, None),
-        "other_expiry" => validation(alloc, Some(other_number(alloc)?)),
-        "valid" => validation(alloc, Some(ClaimValue::Whole(9))),
         hint => svids(alloc, &[(ID, TOKEN1, hint)]),
     }
 }
 
-fn status(alloc: Global, code: GrpcStatusCode) -> Result<GrpcStatusError, Fail> {
+fn status(alloc: Global, code: GrpcStatusCode) -> Result<GrpcStatusError, OutOfMemory> {
     let message = Text::copy_of(alloc, "no")?;
     Ok(GrpcStatusError::new(code, message))
 }
 
 /// The code of a refusal that the word stands for.
-fn code_of(word: &str) -> Option<GrpcStatusCode> {
+fn code_of(word: &str) -> GrpcStatusCode {
     match word {
-        "!cancelled" => Some(GrpcStatusCode::Cancelled),
-        "!deadline" => Some(GrpcStatusCode::DeadlineExceeded),
-        "!unavailable" => Some(GrpcStatusCode::Unavailable),
-        "!denied" => Some(GrpcStatusCode::PermissionDenied),
-        "!internal" => Some(GrpcStatusCode::Internal),
-        "!exhausted" => Some(GrpcStatusCode::ResourceExhausted),
-        _ => None,
+        "!cancelled" => GrpcStatusCode::Cancelled,
+        "!deadline" => GrpcStatusCode::DeadlineExceeded,
+        "!unavailable" => GrpcStatusCode::Unavailable,
+        "!denied" => GrpcStatusCode::PermissionDenied,
+        "!internal" => GrpcStatusCode::Internal,
+        "!exhausted" => GrpcStatusCode::ResourceExhausted,
+        _ => GrpcStatusCode::Unknown,
     }
 }
 
-fn refusal(alloc: Global, word: &str) -> Result<Option<LinkFault>, Fail> {
+fn fault(alloc: Global, word: &str) -> Result<LinkFault, OutOfMemory> {
     match word {
         "!lost" => {
             let source = Text::copy_of(alloc, "gone")?;
-            Ok(Some(LinkFault::Connect(TransportConnectError::new(source))))
+            Ok(LinkFault::Connect(TransportConnectError::new(source)))
         }
-        "!memory" => Ok(Some(LinkFault::OutOfMemory)),
-        word => match code_of(word) {
-            Some(code) => Ok(Some(LinkFault::Status(status(alloc, code)?))),
-            None => Ok(None),
-        },
+        "!memory" => Ok(LinkFault::OutOfMemory),
+        word => Ok(LinkFault::Status(status(alloc, code_of(word))?)),
     }
 }
 
-fn answer(alloc: Global, word: &str) -> Result<Answer, Fail> {
-    if let Some(fault) = refusal(alloc, word)? {
-        return Ok(Answer::Refused(fault));
-    }
+/// The answer that the word stands for. A word that begins with `!` is a refusal.
+fn answer(alloc: Global, word: &str) -> Result<Answer, OutOfMemory> {
     match word {
         "started" => Ok(Answer::Started),
         "end" => Ok(Answer::End),
-        word => Ok(Answer::Item(response(alloc, word)?)),
+        word => {
+            if word.starts_with('!') {
+                Ok(Answer::Refused(fault(alloc, word)?))
+            } else {
+                Ok(Answer::Item(response(alloc, word)?))
+            }
+        }
     }
 }
 
 /// Returns a link with the answers that the words stand for, one for each word.
-pub fn link(alloc: Global, words: &[&str]) -> Result<MemLink, Fail> {
+pub fn link(alloc: Global, words: &[&str]) -> Result<MemLink, OutOfMemory> {
     let mut answers = Vec::new(alloc);
     for word in words {
         answers.push(answer(alloc, word)?)?;
@@ -154,7 +208,7 @@ pub fn link(alloc: Global, words: &[&str]) -> Result<MemLink, Fail> {
 }
 
 /// What a `connect` gives: the fault that a single word stands for, or else a link.
-fn member(alloc: Global, words: &[&str]) -> Result<Result<MemLink, ClientFault>, Fail> {
+fn member(alloc: Global, words: &[&str]) -> Result<Result<MemLink, ClientFault>, OutOfMemory> {
     match words {
         ["?unreachable"] => {
             let text = Text::copy_of(alloc, "nobody listens")?;
@@ -170,10 +224,15 @@ fn member(alloc: Global, words: &[&str]) -> Result<Result<MemLink, ClientFault>,
 }
 
 /// Returns a connector that gives these links and faults in turn.
-pub fn connector(alloc: Global, members: &[&[&str]]) -> Result<MemConnector, Fail> {
+pub fn connector(alloc: Global, members: &[&[&str]]) -> Result<MemConnector, OutOfMemory> {
     let mut links = Vec::new(alloc);
     for words in members {
         links.push(member(alloc, words)?)?;
     }
     Ok(MemConnector::new(alloc, links))
+}
+
+/// Returns the audience `a`.
+pub fn audience(alloc: Global) -> Result<Vec<Text>, OutOfMemory> {
+    Ok(vec![in alloc; Text::copy_of(alloc, "a")?]?)
 }

@@ -1,40 +1,64 @@
 //! Keys and key sets.
 
 use spf_api::JwtBundleError;
-use spf_id::TrustDomain;
-use spf_io::Bytes;
+use spf_id::{SpiffeIdError, TrustDomain};
+use spf_io::{Bytes, OutOfMemory};
 use spf_jwt::{JwtAuthority, JwtBundle};
 use std::alloc::Global;
+use std::mem::drop;
 use std::str;
-use std::test::Fail;
 
-fn bundle_of(alloc: Global, keys: &str) -> Result<JwtBundle, JwtBundleError> {
-    let Ok(domain) = TrustDomain::new(alloc, "example.org") else {
-        return Err(JwtBundleError::OutOfMemory);
-    };
-    JwtBundle::from_jwt_authorities(alloc, domain, keys.as_bytes())
+fn domain(alloc: Global) -> Result<TrustDomain, JwtBundleError> {
+    match TrustDomain::new(alloc, "example.org") {
+        Ok(domain) => Ok(domain),
+        Err(_) => Err(JwtBundleError::OutOfMemory),
+    }
 }
 
-/// The keys of a bundle in its order, each as its ID and its JSON text, before a space.
-fn keys_in(alloc: Global, bundle: &JwtBundle) -> Result<String, Fail> {
-    let mut text = String::new(alloc);
+/// The bundle of `example.org` with that key set.
+pub(crate) fn bundle_of(alloc: Global, keys: &str) -> Result<JwtBundle, JwtBundleError> {
+    JwtBundle::from_jwt_authorities(alloc, domain(alloc)?, keys.as_bytes())
+}
+
+/// Appends the keys of a bundle in its order, each as its ID and its JSON text, before a space.
+fn push_keys(text: &mut String, bundle: &JwtBundle) -> Result<(), OutOfMemory> {
     for authority in bundle.jwt_authorities() {
         text.push_str(authority.key_id())?;
         text.push('=')?;
         text.push_str(str::from_utf8(authority.jwk_json()).unwrap_or("?"))?;
         text.push(' ')?;
     }
+    Ok(())
+}
+
+fn keys_in(alloc: Global, bundle: &JwtBundle) -> Result<String, OutOfMemory> {
+    let mut text = String::new(alloc);
+    push_keys(&mut text, bundle)?;
     Ok(text)
 }
 
-fn keys_of(alloc: Global, keys: &str) -> Result<String, Fail> {
-    let bundle = bundle_of(alloc, keys)?;
-    keys_in(alloc, &bundle)
+/// The name of the rule that a key set breaks.
+fn refusal(alloc: Global, error: JwtBundleError) -> Result<String, OutOfMemory> {
+    let text = format!(in alloc; "{error}");
+    drop(error);
+    Ok(text?)
+}
+
+/// The keys of a key set, or the name of the rule that it breaks first.
+fn keys_of(alloc: Global, keys: &str) -> Result<String, OutOfMemory> {
+    match bundle_of(alloc, keys) {
+        Ok(bundle) => {
+            let text = keys_in(alloc, &bundle);
+            drop(bundle);
+            text
+        }
+        Err(error) => refusal(alloc, error),
+    }
 }
 
 /// Key sets and their keys: of keys with the same ID the last one counts, and in a key the names
 /// are in order at every depth, of equal names the last.
-const KEYS: [(&str, &str); 4] = [
+const KEYS: &[(&str, &str)] = &[
     ("{\"keys\":[]}", ""),
     (
         "{\"keys\":[{\"kid\":\"k\",\"kty\":\"EC\"}]}",
@@ -52,23 +76,25 @@ const KEYS: [(&str, &str); 4] = [
 ];
 
 #[test]
-fn key_set(rt: HostRuntime) -> Result<(), Fail> {
-    for (keys, wanted) in KEYS {
-        let found = keys_of(rt.alloc(), keys)?;
+fn key_set(rt: HostRuntime) {
+    for &(keys, wanted) in KEYS {
+        let found = keys_of(rt.alloc(), keys).expect(&rt, "memory");
         assert!(rt; found.as_str() == wanted, "{keys}: {found}");
     }
-    Ok(())
 }
 
 /// The name of the rule that a key set breaks first; `Ok` where it breaks none.
-pub(crate) fn outcome(alloc: Global, keys: &str) -> Result<String, Fail> {
+pub(crate) fn outcome(alloc: Global, keys: &str) -> Result<String, OutOfMemory> {
     match bundle_of(alloc, keys) {
-        Ok(_) => Ok(String::from_str(alloc, "Ok")?),
-        Err(error) => Ok(format!(in alloc; "{error}")?),
+        Ok(bundle) => {
+            drop(bundle);
+            Ok(String::from_str(alloc, "Ok")?)
+        }
+        Err(error) => refusal(alloc, error),
     }
 }
 
-const KEY_SETS: [(&str, &str); 16] = [
+const KEY_SETS: &[(&str, &str)] = &[
     ("{\"keys\":[]}", "Ok"),
     (
         "{\"keys\":[],\"keys\":[{\"kid\":\"k\"}],\"x\":-9223372036854775808}",
@@ -91,51 +117,87 @@ const KEY_SETS: [(&str, &str); 16] = [
 ];
 
 #[test]
-fn key_sets(rt: HostRuntime) -> Result<(), Fail> {
-    for (keys, wanted) in KEY_SETS {
-        let found = outcome(rt.alloc(), keys)?;
+fn key_sets(rt: HostRuntime) {
+    for &(keys, wanted) in KEY_SETS {
+        let found = outcome(rt.alloc(), keys).expect(&rt, "memory");
         assert!(rt; found.as_str() == wanted, "{keys}: {found}");
     }
-    Ok(())
 }
 
 /// A bundle that keeps its key set.
-fn keeping(alloc: Global, keys: &str) -> Result<JwtBundle, Fail> {
-    let domain = TrustDomain::new(alloc, "example.org")?;
+fn keeping(alloc: Global, keys: &str) -> Result<JwtBundle, JwtBundleError> {
+    let domain = domain(alloc)?;
     let jwks = Bytes::copy_of(alloc, keys.as_bytes())?;
-    Ok(JwtBundle::from_jwt_authorities_owned(alloc, domain, jwks)?)
+    JwtBundle::from_jwt_authorities_owned(alloc, domain, jwks)
 }
 
-fn is_from(alloc: Global, bundle: &JwtBundle, domain: &str, keys: &str) -> Result<bool, Fail> {
+fn is_from(
+    alloc: Global,
+    bundle: &JwtBundle,
+    domain: &str,
+    keys: &str,
+) -> Result<bool, SpiffeIdError> {
     let domain = TrustDomain::new(alloc, domain)?;
     Ok(bundle.is_parsed_from(&domain, keys.as_bytes()))
 }
 
+/// Whether the bundle is the same as one that does not keep its key set.
+fn is_as_read(alloc: Global, bundle: &JwtBundle, keys: &str) -> bool {
+    match bundle_of(alloc, keys) {
+        Ok(other) => {
+            let is_same = *bundle == other;
+            drop(other);
+            is_same
+        }
+        Err(error) => {
+            drop(error);
+            false
+        }
+    }
+}
+
 const KEPT: &str = "{\"keys\":[{\"kid\":\"k\"}]}";
 
+/// Trust domains and key sets, and whether the bundle is of them.
+const SOURCES: &[(&str, &str, bool)] = &[
+    ("example.org", KEPT, true),
+    ("another.org", KEPT, false),
+    ("example.org", "{\"keys\":[]}", false),
+];
+
 #[test]
-fn kept_key_set(rt: HostRuntime) -> Result<(), Fail> {
-    let bundle = keeping(rt.alloc(), KEPT)?;
-    assert!(rt; is_from(rt.alloc(), &bundle, "example.org", KEPT)?);
-    assert!(rt; !is_from(rt.alloc(), &bundle, "another.org", KEPT)?);
-    assert!(rt; !is_from(rt.alloc(), &bundle, "example.org", "{\"keys\":[]}")?);
-    assert!(rt; bundle == bundle_of(rt.alloc(), KEPT)?);
-    Ok(())
+fn kept_key_set(rt: HostRuntime) {
+    let alloc = rt.alloc();
+    let bundle = keeping(alloc, KEPT).expect(&rt, "a bundle");
+    for &(domain, keys, wanted) in SOURCES {
+        let is_from = is_from(alloc, &bundle, domain, keys).expect(&rt, "a domain");
+        assert!(rt; is_from == wanted, "{domain} {keys}");
+    }
+    assert!(rt; is_as_read(alloc, &bundle, KEPT));
+    drop(bundle);
 }
 
-/// A bundle whose key set was read again, with a copy of a key added.
-fn with_another(alloc: Global) -> Result<JwtBundle, Fail> {
-    let mut bundle = keeping(alloc, KEPT)?;
+/// A copy of a key.
+fn copied_key(alloc: Global) -> Result<JwtAuthority, JwtBundleError> {
     let key = JwtAuthority::from_jwk_json(alloc, b"{\"kid\":\"a\"}")?;
-    bundle.add_jwt_authority(key.try_clone(alloc)?)?;
-    Ok(bundle)
+    let copy = key.try_clone(alloc);
+    drop(key);
+    Ok(copy?)
 }
 
+/// A key set that was read again, with the copy of a key added.
 #[test]
-fn added_key(rt: HostRuntime) -> Result<(), Fail> {
-    let bundle = with_another(rt.alloc())?;
-    let keys = keys_in(rt.alloc(), &bundle)?;
-    assert_eq!(rt; keys.as_str(), "a={\"kid\":\"a\"} k={\"kid\":\"k\"} ");
-    assert!(rt; !is_from(rt.alloc(), &bundle, "example.org", KEPT)?);
-    Ok(())
+fn added_key(rt: HostRuntime) {
+    let alloc = rt.alloc();
+    let key = copied_key(alloc).expect(&rt, "a key");
+    let mut bundle = keeping(alloc, KEPT).expect(&rt, "a bundle");
+    bundle.add_jwt_authority(key).expect(&rt, "memory");
+    let keys = keys_in(alloc, &bundle).expect(&rt, "memory");
+    assert!(rt;
+        keys.as_str() == "a={\"kid\":\"a\"} k={\"kid\":\"k\"} ",
+        "{keys}"
+    );
+    drop(keys);
+    assert!(rt; !is_from(alloc, &bundle, "example.org", KEPT).expect(&rt, "a domain"));
+    drop(bundle);
 }

@@ -2,16 +2,17 @@
 
 use spf_feed::FollowError;
 use spf_fixtures::octets;
-use spf_io::{MemSink, MemSource};
+use spf_io::{MemSink, MemSource, OutOfMemory};
 use spf_jwt::JwtResourceLimits;
 use spf_jwt_feed::{JwtMetricsRecord, JwtStep, MemJwtPublisher, MemJwtRecorder, follow_jwt};
 use std::alloc::Global;
+use std::mem::drop;
 use std::str;
 use std::test::Fail;
 
 /// What names stand for, beside those of `spf_fixtures`: what a line shows of a set, and items.
 /// SPACED has the key of SET1 in another spelling, and LARGE one of too many octets.
-static NAMES: [(&str, &str); 7] = [
+const NAMES: &[(&str, &str)] = &[
     (
         "P1",
         "example.org=6b:7b226b6964223a226b222c226b7479223a224543227d",
@@ -49,12 +50,18 @@ static NAMES: [(&str, &str); 7] = [
 ];
 
 /// The text with each name replaced by what it stands for.
-fn written_out(alloc: Global, text: &str) -> Result<String, Fail> {
+fn written_out(alloc: Global, text: &str) -> Result<String, OutOfMemory> {
     let mut text = String::from_str(alloc, text)?;
-    for (name, meaning) in NAMES.iter() {
-        text = text.replace(alloc, *name, meaning)?;
+    for &(name, meaning) in NAMES {
+        text = text.replace(alloc, name, meaning)?;
     }
     Ok(text)
+}
+
+/// The octets of frames that are given by name.
+fn frames_of(alloc: Global, text: &str) -> Result<Vec<u8>, Fail> {
+    let text = written_out(alloc, text)?;
+    octets(alloc, text.as_str())
 }
 
 /// The name of a result.
@@ -94,15 +101,21 @@ fn follow(
     name
 }
 
-/// The steps, with a word for each.
-fn words_of(alloc: Global, steps: &[JwtStep]) -> Result<String, Fail> {
-    let mut words = String::new(alloc);
+/// Appends a word for each step.
+fn push_words(text: &mut String, steps: &[JwtStep]) -> Result<(), OutOfMemory> {
     for step in steps {
-        words.push_str(match step {
+        text.push_str(match step {
             JwtStep::Accept { .. } => " accept",
             JwtStep::Deny { .. } => " deny",
         })?;
     }
+    Ok(())
+}
+
+/// The steps, with a word for each.
+fn words_of(alloc: Global, steps: &[JwtStep]) -> Result<String, OutOfMemory> {
+    let mut words = String::new(alloc);
+    push_words(&mut words, steps)?;
     Ok(words)
 }
 
@@ -113,29 +126,36 @@ fn text_of(
     answer: &str,
     steps: &[JwtStep],
     records: &[JwtMetricsRecord],
-) -> Result<String, Fail> {
-    let lines = str::from_utf8(lines)?;
+) -> Result<String, OutOfMemory> {
+    let lines = str::from_utf8(lines).unwrap_or("?");
     let steps = words_of(alloc, steps)?;
     Ok(format!(in alloc; "{lines}{answer}{steps} {records:?}")?)
 }
 
 /// What a run leaves.
-fn left_by(alloc: Global, frames: &str, mut publisher: MemJwtPublisher) -> Result<String, Fail> {
-    let frames = octets(alloc, written_out(alloc, frames)?.as_str())?;
-    let mut sink = MemSink::new(alloc, 65536, Vec::new(alloc))?;
+fn left_by(
+    alloc: Global,
+    frames: Vec<u8>,
+    mut publisher: MemJwtPublisher,
+) -> Result<String, OutOfMemory> {
     let mut recorder = MemJwtRecorder::new(alloc);
+    let mut sink = MemSink::new(alloc, 65536, Vec::new(alloc))?;
     let answer = follow(alloc, frames, &mut sink, &mut publisher, &mut recorder);
-    text_of(
+    let text = text_of(
         alloc,
         sink.bytes(),
         answer,
         publisher.steps(),
         recorder.records(),
-    )
+    );
+    drop(sink);
+    drop(recorder);
+    drop(publisher);
+    text
 }
 
 /// A name, the frames, and what a run leaves.
-static SESSIONS: [(&str, &str, &str); 9] = [
+const SESSIONS: &[(&str, &str, &str)] = &[
     (
         "jwt-session",
         "CM CN SET1",
@@ -188,29 +208,36 @@ static SESSIONS: [(&str, &str, &str); 9] = [
     ),
 ];
 
+/// Whether the text is that one, with each name replaced by what it stands for.
+fn is_written(alloc: Global, text: &str, wanted: &str) -> Result<bool, OutOfMemory> {
+    Ok(text == written_out(alloc, wanted)?.as_str())
+}
+
 #[test]
 fn sessions(rt: HostRuntime) -> Result<(), Fail> {
     let alloc = rt.alloc();
-    for (name, frames, wanted) in SESSIONS.iter() {
-        let left = left_by(alloc, frames, MemJwtPublisher::new(alloc))?;
-        let wanted = written_out(alloc, wanted)?;
-        assert!(rt; left.as_str() == wanted.as_str(), "{name}: {left}");
+    for &(name, frames, wanted) in SESSIONS {
+        let frames = frames_of(alloc, frames)?;
+        let left = left_by(alloc, frames, MemJwtPublisher::new(alloc)).expect(&rt, "memory");
+        let is_wanted = is_written(alloc, left.as_str(), wanted).expect(&rt, "memory");
+        assert!(rt; is_wanted, "{name}: {left}");
     }
     Ok(())
 }
+
+const REFUSED: &str =
+    "1 waiting\n2 waiting\n3 0 permitted P1\n4 0 permitted P1\n5 0 permitted P1\nout of memory \
+     accept []";
 
 /// Out of memory at the second step: the lines of the events before it stand, and the first step.
 #[test]
 fn refusing_publisher(rt: HostRuntime) -> Result<(), Fail> {
     let alloc = rt.alloc();
-    let left = left_by(
-        alloc,
-        "CM CN SET1 CM CN SET2",
-        MemJwtPublisher::refusing(alloc, 2),
-    )?;
-    let wanted = "1 waiting\n2 waiting\n3 0 permitted P1\n4 0 permitted P1\n5 0 permitted P1\n\
-         out of memory accept []";
-    let wanted = written_out(alloc, wanted)?;
-    assert!(rt; left.as_str() == wanted.as_str(), "{left}");
+    let frames = frames_of(alloc, "CM CN SET1 CM CN SET2")?;
+    let publisher = MemJwtPublisher::refusing(alloc, 2);
+    let left = left_by(alloc, frames, publisher).expect(&rt, "memory");
+    let is_wanted = is_written(alloc, left.as_str(), REFUSED).expect(&rt, "memory");
+    assert!(rt; is_wanted, "{left}");
+    drop(left);
     Ok(())
 }

@@ -1,64 +1,104 @@
 //! Tokens: what they say, and the first rule that each breaks.
 
 use base64::engine::general_purpose::URL_SAFE_NO_PAD;
+use spf_api::JwtSvidError;
 use spf_fixtures::TOKEN1;
+use spf_io::OutOfMemory;
 use spf_jwt::JwtSvid;
 use std::alloc::Global;
-use std::test::Fail;
+use std::mem::drop;
 
 /// The token of a header and claims, each the text of a JSON value.
-fn token_of(alloc: Global, header: &str, claims: &str) -> Result<String, Fail> {
+fn token_of(alloc: Global, header: &str, claims: &str) -> Result<String, OutOfMemory> {
     let header = URL_SAFE_NO_PAD.encode(alloc, header.as_bytes())?;
     let claims = URL_SAFE_NO_PAD.encode(alloc, claims.as_bytes())?;
     Ok(format!(in alloc; "{header}.{claims}.sig")?)
 }
 
-/// What a token says: the ID, how many audiences, the expiry and the key.
-fn says(alloc: Global, token: &str) -> Result<String, Fail> {
-    match JwtSvid::parse_insecure(alloc, token) {
-        Ok(svid) => shown(alloc, &svid),
-        Err(error) => Ok(format!(in alloc; "{error}")?),
-    }
+/// The name of the rule that a token breaks.
+fn refusal(alloc: Global, error: JwtSvidError) -> Result<String, OutOfMemory> {
+    let text = format!(in alloc; "{error}");
+    drop(error);
+    Ok(text?)
 }
 
-fn shown(alloc: Global, svid: &JwtSvid) -> Result<String, Fail> {
+fn shown(alloc: Global, svid: &JwtSvid) -> Result<String, OutOfMemory> {
     let id = svid.spiffe_id().as_str();
     let audiences = svid.audience().len();
     let key = svid.key_id().unwrap_or("-");
     Ok(format!(in alloc; "{id} {audiences} {} {key}", svid.expiry())?)
 }
 
-/// Whether a copy and the other readings of a token are equal to the first.
-fn is_same(alloc: Global, token: &str) -> Result<bool, Fail> {
+/// What a token says: the ID, how many audiences, the expiry and the key.
+fn says(alloc: Global, token: &str) -> Result<String, OutOfMemory> {
+    match JwtSvid::parse_insecure(alloc, token) {
+        Ok(svid) => {
+            let text = shown(alloc, &svid);
+            drop(svid);
+            text
+        }
+        Err(error) => refusal(alloc, error),
+    }
+}
+
+fn are_same(one: &Result<JwtSvid, JwtSvidError>, other: &Result<JwtSvid, JwtSvidError>) -> bool {
+    match (one, other) {
+        (Ok(one), Ok(other)) => *one == *other,
+        _ => false,
+    }
+}
+
+/// Whether the other reading of a token is equal to the first.
+fn is_read_alike(alloc: Global, token: &str) -> bool {
+    let svid = JwtSvid::parse_insecure(alloc, token);
+    let other = JwtSvid::from_workload_api_token(alloc, token);
+    let are_same = are_same(&svid, &other);
+    drop(other);
+    drop(svid);
+    are_same
+}
+
+/// Whether a copy of a token is equal to it.
+fn is_copied(alloc: Global, token: &str) -> Result<bool, JwtSvidError> {
     let svid = JwtSvid::parse_insecure(alloc, token)?;
-    let other = JwtSvid::from_workload_api_token(alloc, token)?;
-    Ok(svid == other && other.try_clone(alloc)? == svid)
+    let copy = svid.try_clone(alloc);
+    let is_same = match &copy {
+        Ok(copy) => *copy == svid,
+        Err(OutOfMemory) => false,
+    };
+    drop(copy);
+    drop(svid);
+    Ok(is_same)
 }
 
 #[test]
-fn token(rt: HostRuntime) -> Result<(), Fail> {
-    let text = says(rt.alloc(), TOKEN1)?;
-    assert_eq!(rt; text.as_str(), "spiffe://example.org/w 1 9 k1");
-    assert!(rt; is_same(rt.alloc(), TOKEN1)?);
-    Ok(())
+fn token(rt: HostRuntime) {
+    let alloc = rt.alloc();
+    let text = says(alloc, TOKEN1).expect(&rt, "memory");
+    assert!(rt; text.as_str() == "spiffe://example.org/w 1 9 k1", "{text}");
+    assert!(rt; is_read_alike(alloc, TOKEN1));
+    assert!(rt; is_copied(alloc, TOKEN1).expect(&rt, "a token"));
 }
 
 /// The name of the rule that a token breaks first; `Ok` where it breaks none.
-pub(crate) fn outcome(alloc: Global, token: &str) -> Result<String, Fail> {
+pub(crate) fn outcome(alloc: Global, token: &str) -> Result<String, OutOfMemory> {
     match JwtSvid::parse_insecure(alloc, token) {
-        Ok(_) => Ok(String::from_str(alloc, "Ok")?),
-        Err(error) => Ok(format!(in alloc; "{error}")?),
+        Ok(svid) => {
+            drop(svid);
+            Ok(String::from_str(alloc, "Ok")?)
+        }
+        Err(error) => refusal(alloc, error),
     }
 }
 
 /// The same of the token of a header and claims.
-fn outcome_of(alloc: Global, header: &str, claims: &str) -> Result<String, Fail> {
+fn outcome_of(alloc: Global, header: &str, claims: &str) -> Result<String, OutOfMemory> {
     let token = token_of(alloc, header, claims)?;
     outcome(alloc, token.as_str())
 }
 
 /// Texts that are not tokens, by their parts alone.
-const BROKEN_PARTS: [(&str, &str); 8] = [
+const BROKEN_PARTS: &[(&str, &str)] = &[
     ("not-a-jwt", "Parts"),
     ("", "Parts"),
     ("..", "Parts"),
@@ -70,18 +110,17 @@ const BROKEN_PARTS: [(&str, &str); 8] = [
 ];
 
 #[test]
-fn broken_parts(rt: HostRuntime) -> Result<(), Fail> {
-    for (token, wanted) in BROKEN_PARTS {
-        let found = outcome(rt.alloc(), token)?;
+fn broken_parts(rt: HostRuntime) {
+    for &(token, wanted) in BROKEN_PARTS {
+        let found = outcome(rt.alloc(), token).expect(&rt, "memory");
         assert!(rt; found.as_str() == wanted, "{token}: {found}");
     }
-    Ok(())
 }
 
 const CLAIMS: &str = "{\"sub\":\"spiffe://example.org/w\",\"aud\":\"a\",\"exp\":9}";
 
 /// Headers before good claims.
-const HEADERS: [(&str, &str); 17] = [
+const HEADERS: &[(&str, &str)] = &[
     ("{\"alg\":\"ES256\"}", "Ok"),
     (
         "{\"alg\":\"PS512\",\"typ\":\"JOSE\",\"kid\":\"\",\"n\":-1}",
@@ -105,16 +144,15 @@ const HEADERS: [(&str, &str); 17] = [
 ];
 
 #[test]
-fn headers(rt: HostRuntime) -> Result<(), Fail> {
-    for (header, wanted) in HEADERS {
-        let found = outcome_of(rt.alloc(), header, CLAIMS)?;
+fn headers(rt: HostRuntime) {
+    for &(header, wanted) in HEADERS {
+        let found = outcome_of(rt.alloc(), header, CLAIMS).expect(&rt, "memory");
         assert!(rt; found.as_str() == wanted, "{header}: {found}");
     }
-    Ok(())
 }
 
 /// Claims after a good header.
-const ALL_CLAIMS: [(&str, &str); 18] = [
+const ALL_CLAIMS: &[(&str, &str)] = &[
     (
         "{\"sub\":\"spiffe://a/b\",\"aud\":[\"a\",\"\"],\"exp\":-1,\"iat\":0}",
         "Ok",
@@ -154,10 +192,9 @@ const ALL_CLAIMS: [(&str, &str); 18] = [
 ];
 
 #[test]
-fn claims(rt: HostRuntime) -> Result<(), Fail> {
-    for (claims, wanted) in ALL_CLAIMS {
-        let found = outcome_of(rt.alloc(), "{\"alg\":\"ES256\"}", claims)?;
+fn claims(rt: HostRuntime) {
+    for &(claims, wanted) in ALL_CLAIMS {
+        let found = outcome_of(rt.alloc(), "{\"alg\":\"ES256\"}", claims).expect(&rt, "memory");
         assert!(rt; found.as_str() == wanted, "{claims}: {found}");
     }
-    Ok(())
 }

@@ -1,14 +1,16 @@
 //! Payloads: what they lay out, and what is written of it.
 
-use super::rules::both;
 use spf_api::{
-    Claim, ClaimValue, ContextView, Response, ResponseKind, ValidationResponse, context_from,
-    context_from_view, context_from_view_sharing, read_context_view, read_payload, write_payload,
+    Claim, ClaimValue, ContextView, Response, ResponseKind, ValidationResponse, WorkloadApiError,
+    context_from, context_from_view, context_from_view_sharing, read_context_view, read_payload,
+    write_payload,
 };
 use spf_fixtures::octets;
 use spf_io::{List, OutOfMemory, Text};
 use spf_responses::first_item;
+use spf_x509::X509Context;
 use std::alloc::Global;
+use std::mem::drop;
 use std::test::Fail;
 
 /// More octets than the payload of the first item has.
@@ -50,38 +52,54 @@ fn first_laid_out(alloc: Global, length: usize) -> Result<(usize, &'static str),
     Ok((payload.len(), found))
 }
 
+/// Whether the payload is read as that response.
+fn is_read_as(alloc: Global, payload: &[u8], wanted: &Response) -> bool {
+    let found = read_payload(alloc, ResponseKind::Context, payload);
+    let is_wanted = match &found {
+        Ok(Some(found)) => *found == *wanted,
+        _ => false,
+    };
+    drop(found);
+    is_wanted
+}
+
 /// Whether the payload of the first item is read as the first item.
 fn first_is_read_back(alloc: Global) -> Result<bool, Fail> {
     let payload = first_payload(alloc, WHOLE)?;
-    let wanted = Response::Context(first_item(alloc)?);
-    let found = read_payload(alloc, ResponseKind::Context, payload.as_slice());
-    Ok(both(found, Ok(Some(wanted))))
+    let item = Response::Context(first_item(alloc)?);
+    let is_read = is_read_as(alloc, payload.as_slice(), &item);
+    drop(item);
+    drop(payload);
+    Ok(is_read)
 }
 
-/// The octets of an item's frame after its kind and its length.
-fn item_payload(alloc: Global, item: &str) -> Result<Vec<u8>, Fail> {
+/// Whether those are the octets of an item's frame after its kind and its length.
+fn is_item_payload(alloc: Global, item: &str, payload: &[u8]) -> Result<bool, Fail> {
     let frame = octets(alloc, item)?;
     match frame.as_slice() {
-        [_, _, _, _, _, payload @ ..] => Ok(payload.to_vec(alloc)?),
-        _ => Ok(Vec::new(alloc)),
+        [_, _, _, _, _, rest @ ..] => Ok(rest == payload),
+        _ => Ok(false),
     }
 }
 
 #[test]
 fn written_payload(rt: HostRuntime) -> Result<(), Fail> {
     let alloc = rt.alloc();
-    let response = Response::Context(first_item(alloc)?);
-    assert_eq!(rt;
-        write_payload(alloc, &response)?,
-        item_payload(alloc, "I1")?
-    );
+    let payload = first_payload(alloc, WHOLE)?;
+    let is_written = is_item_payload(alloc, "I1", payload.as_slice());
+    drop(payload);
+    assert!(rt; is_written?);
     Ok(())
 }
+
+/// How many octets are kept of the payload of the first item, how many there are, and what they lay
+/// out.
+const KEPT: &[(usize, (usize, &str))] = &[(WHOLE, (282, "the same")), (281, (281, "nothing"))];
 
 #[test]
 fn payload(rt: HostRuntime) -> Result<(), Fail> {
     let alloc = rt.alloc();
-    for (length, wanted) in [(WHOLE, (282, "the same")), (281, (281, "nothing"))] {
+    for &(length, wanted) in KEPT {
         assert!(rt; first_laid_out(alloc, length)? == wanted, "{length}");
     }
     assert!(rt; first_is_read_back(alloc)?);
@@ -173,21 +191,32 @@ fn nested_laid_out(alloc: Global, lists: usize) -> Result<&'static str, Fail> {
     laid_out(alloc, ResponseKind::Validation, payload.as_slice())
 }
 
-/// A validation with one claim, whose value is null within this many lists.
-fn nested(alloc: Global, lists: usize) -> Result<Response, Fail> {
+/// A list of that value alone.
+fn listed(alloc: Global, value: ClaimValue) -> Result<ClaimValue, OutOfMemory> {
+    Ok(ClaimValue::Items(List::new(vec![in alloc; value]?)))
+}
+
+/// The value null within this many lists.
+fn nested_value(alloc: Global, lists: usize) -> Result<ClaimValue, OutOfMemory> {
     let mut value = ClaimValue::Null;
     for _ in 0..lists {
-        let mut members = Vec::new(alloc);
-        members.push(value)?;
-        value = ClaimValue::Items(List::new(members));
+        value = listed(alloc, value)?;
     }
-    let name = Text::copy_of(alloc, "a")?;
-    let mut claims = Vec::new(alloc);
-    claims.push(Claim { name, value })?;
-    Ok(Response::Validation(ValidationResponse {
-        spiffe_id: Text::copy_of(alloc, "a")?,
-        claims: Some(List::new(claims)),
-    }))
+    Ok(value)
+}
+
+fn nested_claim(alloc: Global, lists: usize) -> Result<Claim, OutOfMemory> {
+    Ok(Claim {
+        name: Text::copy_of(alloc, "a")?,
+        value: nested_value(alloc, lists)?,
+    })
+}
+
+/// A validation with one claim, whose value is null within this many lists.
+fn nested(alloc: Global, lists: usize) -> Result<Response, OutOfMemory> {
+    let spiffe_id = Text::copy_of(alloc, "a")?;
+    let claims = Some(List::new(vec![in alloc; nested_claim(alloc, lists)?]?));
+    Ok(Response::Validation(ValidationResponse { spiffe_id, claims }))
 }
 
 /// Whether such a validation is written as that payload.
@@ -199,24 +228,53 @@ fn nested_is_written(alloc: Global, lists: usize) -> Result<bool, Fail> {
     }
 }
 
+/// What a payload with a claim of that depth lays out, and whether it is written.
+fn nested_outcome(alloc: Global, lists: usize) -> Result<(&'static str, bool), Fail> {
+    let found = nested_laid_out(alloc, lists)?;
+    Ok((found, nested_is_written(alloc, lists)?))
+}
+
 /// Values of claims are at most 64 deep.
+const NESTED: &[(usize, (&str, bool))] = &[(63, ("the same", true)), (64, ("nothing", false))];
+
 #[test]
 fn deep_claims(rt: HostRuntime) -> Result<(), Fail> {
-    let alloc = rt.alloc();
-    for (lists, found, is_written) in [(63, "the same", true), (64, "nothing", false)] {
-        assert!(rt; nested_laid_out(alloc, lists)? == found, "{lists}");
-        assert!(rt; nested_is_written(alloc, lists)? == is_written, "{lists}");
+    for &(lists, wanted) in NESTED {
+        assert!(rt; nested_outcome(rt.alloc(), lists)? == wanted, "{lists}");
     }
     Ok(())
 }
 
-/// Whether the view gives the context of the first item.
-fn gives_first_context(alloc: Global, view: ContextView<'_>) -> Result<bool, Fail> {
+/// The context of the first item.
+fn first_context(alloc: Global) -> Result<X509Context, Fail> {
     let item = first_item(alloc)?;
-    let context = context_from(alloc, &item)?;
-    let shared = context_from_view_sharing(alloc, &view, Some(&context));
-    let same = both(context_from_view(alloc, &view), shared);
-    Ok(same && both(context_from_view(alloc, &view), context_from(alloc, &item)))
+    let context = context_from(alloc, &item);
+    drop(item);
+    Ok(context?)
+}
+
+fn is_context(found: Result<X509Context, WorkloadApiError>, wanted: &X509Context) -> bool {
+    match found {
+        Ok(context) => {
+            let is_wanted = context == *wanted;
+            drop(context);
+            is_wanted
+        }
+        Err(e) => {
+            drop(e);
+            false
+        }
+    }
+}
+
+/// Whether the view gives the context of the first item, also where it shares what that holds.
+fn gives_first_context(alloc: Global, view: &ContextView<'_>) -> Result<bool, Fail> {
+    let context = first_context(alloc)?;
+    let gives = is_context(context_from_view(alloc, view), &context);
+    let shared = context_from_view_sharing(alloc, view, Some(&context));
+    let shares = is_context(shared, &context);
+    drop(context);
+    Ok(gives && shares)
 }
 
 /// Whether the view of the payload gives the context
@@ -224,7 +282,7 @@ fn gives_first_context(alloc: Global, view: ContextView<'_>) -> Result<bool, Fai
 fn viewed(alloc: Global, payload: &[u8]) -> Result<Option<bool>, Fail> {
     match read_context_view(alloc, payload)? {
         None => Ok(None),
-        Some(view) => Ok(Some(gives_first_context(alloc, view)?)),
+        Some(view) => Ok(Some(gives_first_context(alloc, &view)?)),
     }
 }
 

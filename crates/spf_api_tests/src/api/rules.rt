@@ -7,8 +7,9 @@ use spf_api::{
 use spf_fixtures::octets;
 use spf_id::TrustDomain;
 use spf_responses::{FIRST, SECOND, SvidRow, bundle_entries, context};
-use spf_x509::{X509BundleSet, X509Context, X509Svid, X509SvidError};
+use spf_x509::{Certificate, X509BundleSet, X509Context, X509Svid, X509SvidError};
 use std::alloc::Global;
+use std::mem::drop;
 use std::test::Fail;
 
 /// The field that is missing, or the kind of any other result.
@@ -28,14 +29,6 @@ fn is_refused<T: Drop>(answer: Result<T, WorkloadApiError>, wanted: &str) -> boo
     found
 }
 
-/// Returns whether both calls succeed, with the same result.
-pub fn both<T: PartialEq + Drop, E: Drop>(left: Result<T, E>, right: Result<T, E>) -> bool {
-    match (left, right) {
-        (Ok(left), Ok(right)) => left == right,
-        _ => false,
-    }
-}
-
 /// What is asked of a response.
 #[derive(Clone, Copy)]
 enum Asked {
@@ -46,10 +39,12 @@ enum Asked {
 /// Whether the response of those SVID entries is refused with that error.
 fn refuses(alloc: Global, asked: Asked, svids: &[SvidRow<'_>], wanted: &str) -> Result<bool, Fail> {
     let response = context(alloc, svids, &[])?;
-    match asked {
-        Asked::Context => Ok(is_refused(context_from(alloc, &response), wanted)),
-        Asked::Svids => Ok(is_refused(svids_from(alloc, &response), wanted)),
-    }
+    let is_refused = match asked {
+        Asked::Context => is_refused(context_from(alloc, &response), wanted),
+        Asked::Svids => is_refused(svids_from(alloc, &response), wanted),
+    };
+    drop(response);
+    Ok(is_refused)
 }
 
 const BARE: SvidRow<'static> = SvidRow {
@@ -110,24 +105,32 @@ fn refusals(rt: HostRuntime) -> Result<(), Fail> {
     Ok(())
 }
 
-/// Whether the set has a bundle of the trust domain with that
-/// authority alone, or with none where there are no octets.
-fn holds(
-    alloc: Global,
-    set: &X509BundleSet,
-    domain: &str,
-    authorities: &str,
-) -> Result<bool, Fail> {
-    let domain = TrustDomain::new(alloc, domain)?;
-    let wanted = octets(alloc, authorities)?;
-    match set.get_ref(&domain) {
-        Some(bundle) => match bundle.authorities() {
-            [] => Ok(wanted.is_empty()),
-            [only] => Ok(only.as_bytes() == wanted.as_slice()),
-            _ => Ok(false),
-        },
-        None => Ok(false),
+/// Whether the authority of these octets stands alone, or none where there are no octets.
+fn is_alone(authorities: &[Certificate], octets: &[u8]) -> bool {
+    match authorities {
+        [] => octets.is_empty(),
+        [only] => only.as_bytes() == octets,
+        _ => false,
     }
+}
+
+/// Whether the set has a bundle of the trust domain with that authority alone.
+fn has_alone(set: &X509BundleSet, domain: &TrustDomain, octets: &[u8]) -> bool {
+    match set.get_ref(domain) {
+        Some(bundle) => is_alone(bundle.authorities(), octets),
+        None => false,
+    }
+}
+
+/// The same of a trust domain and an authority that are given by name.
+fn holds(alloc: Global, set: &X509BundleSet, domain: &str, authority: &str) -> Result<bool, Fail> {
+    let domain = TrustDomain::new(alloc, domain)?;
+    let holds = match octets(alloc, authority) {
+        Ok(octets) => Ok(has_alone(set, &domain, octets.as_slice())),
+        Err(fail) => Err(fail),
+    };
+    drop(domain);
+    holds
 }
 
 /// What a context holds: this many SVIDs and bundles, and for a trust domain that authority or
@@ -155,8 +158,12 @@ fn gives(
     held: &HeldContext<'_>,
 ) -> Result<bool, Fail> {
     let response = context(alloc, svids, federated)?;
-    let found = context_from(alloc, &response)?;
-    let answer = is_held(alloc, &found, held);
+    let found = context_from(alloc, &response);
+    drop(response);
+    let answer = match &found {
+        Ok(context) => is_held(alloc, context, held),
+        Err(_) => Ok(false),
+    };
     drop(found);
     answer
 }
@@ -216,17 +223,19 @@ fn contexts(rt: HostRuntime) -> Result<(), Fail> {
 }
 
 /// Whether the SVID is of the rows' workload, with that hint.
-fn is_first(svid: X509Svid, hint: Option<&str>) -> bool {
-    let same = svid.spiffe_id().as_str() == "spiffe://example.org/w" && svid.hint() == hint;
-    drop(svid);
-    same
+fn is_first(svid: &X509Svid, hint: Option<&str>) -> bool {
+    svid.spiffe_id().as_str() == "spiffe://example.org/w" && svid.hint() == hint
 }
 
-/// Whether both calls succeed, and the one value is all that there is.
-fn is_all<T: PartialEq + Drop, E: Drop>(all: Result<Vec<T>, E>, one: Result<T, E>) -> bool {
+/// Whether both calls succeed, and the one SVID, with that hint, is all that there is.
+fn are_first(
+    all: &Result<Vec<X509Svid>, WorkloadApiError>,
+    one: &Result<X509Svid, WorkloadApiError>,
+    hint: Option<&str>,
+) -> bool {
     match (all, one) {
         (Ok(all), Ok(one)) => match all.as_slice() {
-            [only] => *only == one,
+            [only] => *only == *one && is_first(one, hint),
             _ => false,
         },
         _ => false,
@@ -240,8 +249,13 @@ fn gives_first(alloc: Global, given: &str, hint: Option<&str>) -> Result<bool, F
         ..FIRST
     }];
     let item = context(alloc, &rows, &[])?;
-    let all = is_all(svids_from(alloc, &item), svid_from(alloc, &item));
-    Ok(all && is_first(svid_from(alloc, &item)?, hint))
+    let all = svids_from(alloc, &item);
+    let one = svid_from(alloc, &item);
+    drop(item);
+    let are_first = are_first(&all, &one, hint);
+    drop(one);
+    drop(all);
+    Ok(are_first)
 }
 
 const HINTS: &[(&str, &str, Option<&str>)] = &[
@@ -268,15 +282,21 @@ fn bundles(alloc: Global, rows: &[(&str, &str)]) -> Result<BundlesResponse, Fail
 /// Whether a response of no bundles lacks them.
 fn lacks_bundles(alloc: Global) -> Result<bool, Fail> {
     let none = bundles(alloc, &[])?;
-    Ok(is_refused(bundle_set_from(alloc, &none), "X509BundlesResponse.bundles"))
+    let found = bundle_set_from(alloc, &none);
+    drop(none);
+    Ok(is_refused(found, "X509BundlesResponse.bundles"))
 }
 
 /// Whether a response of the bundle of the first root gives that bundle.
 fn gives_bundle(alloc: Global) -> Result<bool, Fail> {
     let one = bundles(alloc, &[("example.org", "ROOT1")])?;
-    let set = bundle_set_from(alloc, &one)?;
-    let answer = holds(alloc, &set, "example.org", "ROOT1");
-    drop(set);
+    let found = bundle_set_from(alloc, &one);
+    drop(one);
+    let answer = match &found {
+        Ok(set) => holds(alloc, set, "example.org", "ROOT1"),
+        Err(_) => Ok(false),
+    };
+    drop(found);
     answer
 }
 

@@ -5,11 +5,10 @@ use spf_api::{
     JwtBundleError, JwtSvidError, TransportConnectError, TransportError, WorkloadApiError,
 };
 use spf_id::SpiffeIdError;
-use spf_io::Text;
+use spf_io::{OutOfMemory, Text};
 use spf_x509::{X509BundleError, X509SvidError};
 use std::alloc::Global;
 use std::fmt::Display;
-use std::test::Fail;
 
 /// The codes of gRPC from 0 on, by their names.
 const CODES: [&str; 17] = [
@@ -48,23 +47,32 @@ fn status_codes(rt: HostRuntime) {
 }
 
 /// Whether that is the text of the value.
-fn has_text<T: Display + Drop>(alloc: Global, value: T, text: &str) -> Result<bool, Fail> {
+fn has_text<T: Display + Drop>(alloc: Global, value: T, text: &str) -> Result<bool, OutOfMemory> {
     Ok(value.to_string(alloc)?.as_str() == text)
 }
 
 /// How a status reads.
-fn reading(alloc: Global, code: GrpcStatusCode, message: &str) -> Result<WorkloadApiError, Fail> {
+fn reading(
+    alloc: Global,
+    code: GrpcStatusCode,
+    message: &str,
+) -> Result<WorkloadApiError, OutOfMemory> {
     let message = Text::copy_of(alloc, message)?;
     Ok(WorkloadApiError::from_status(GrpcStatusError::new(code, message)))
 }
 
 /// Whether that is the text of how a status reads.
-fn reads_as(alloc: Global, code: GrpcStatusCode, message: &str, text: &str) -> Result<bool, Fail> {
+fn reads_as(
+    alloc: Global,
+    code: GrpcStatusCode,
+    message: &str,
+    text: &str,
+) -> Result<bool, OutOfMemory> {
     has_text(alloc, reading(alloc, code, message)?, text)
 }
 
 /// Whether such a status reads as an invalid argument, and whether as unimplemented.
-fn kinds(alloc: Global, code: GrpcStatusCode) -> Result<(bool, bool), Fail> {
+fn kinds(alloc: Global, code: GrpcStatusCode) -> Result<(bool, bool), OutOfMemory> {
     let error = reading(alloc, code, "")?;
     let kinds = (error.is_invalid_argument(), error.is_unimplemented());
     drop(error);
@@ -90,12 +98,14 @@ const STATUSES: &[(GrpcStatusCode, &str, &str)] = &[
 ];
 
 #[test]
-fn from_status(rt: HostRuntime) -> Result<(), Fail> {
+fn from_status(rt: HostRuntime) {
     let alloc = rt.alloc();
     for &(code, message, text) in STATUSES {
-        assert!(rt; reads_as(alloc, code, message, text)?, "{text}");
+        assert!(rt;
+            reads_as(alloc, code, message, text).expect(&rt, "memory"),
+            "{text}"
+        );
     }
-    Ok(())
 }
 
 const KINDS: &[(GrpcStatusCode, (bool, bool))] = &[
@@ -105,12 +115,15 @@ const KINDS: &[(GrpcStatusCode, (bool, bool))] = &[
 ];
 
 #[test]
-fn codes_of_errors(rt: HostRuntime) -> Result<(), Fail> {
+fn codes_of_errors(rt: HostRuntime) {
     let alloc = rt.alloc();
     for &(code, wanted) in KINDS {
-        assert!(rt; kinds(alloc, code)? == wanted, "{}", code.as_str());
+        assert!(rt;
+            kinds(alloc, code).expect(&rt, "memory") == wanted,
+            "{}",
+            code.as_str()
+        );
     }
-    Ok(())
 }
 
 const API_TEXTS: [&str; 16] = [
@@ -226,7 +239,7 @@ fn jwt_bundle_error(row: usize) -> JwtBundleError {
     }
 }
 
-const ENDPOINT_TEXTS: [(EndpointError, &str); 11] = [
+const ENDPOINT_TEXTS: &[(EndpointError, &str)] = &[
     (
         EndpointError::Parse(EndpointParseError),
         "endpoint socket is not a valid URI",
@@ -271,7 +284,7 @@ const ENDPOINT_TEXTS: [(EndpointError, &str); 11] = [
 ];
 
 /// Whether that is the text of the error of that row of a table, which keeps the text `T`.
-fn is_row_text(alloc: Global, table: usize, row: usize, text: &str) -> Result<bool, Fail> {
+fn is_row_text(alloc: Global, table: usize, row: usize, text: &str) -> Result<bool, OutOfMemory> {
     let kept = Text::copy_of(alloc, "T")?;
     match table {
         0 => has_text(alloc, api_error(row, kept), text),
@@ -286,7 +299,7 @@ fn first_other(
     alloc: Global,
     table: usize,
     texts: &[&'static str],
-) -> Result<Option<&'static str>, Fail> {
+) -> Result<Option<&'static str>, OutOfMemory> {
     for (row, text) in texts.iter().enumerate() {
         if !is_row_text(alloc, table, row, text)? {
             return Ok(Some(*text));
@@ -295,24 +308,38 @@ fn first_other(
     Ok(None)
 }
 
+/// The tables by their numbers, with the texts of their rows.
+const TABLES: &[(usize, &[&'static str])] = &[
+    (0, &API_TEXTS),
+    (1, &TRANSPORT_TEXTS),
+    (2, &JWT_SVID_TEXTS),
+    (3, &JWT_BUNDLE_TEXTS),
+];
+
 #[test]
-fn error_texts(rt: HostRuntime) -> Result<(), Fail> {
-    let alloc = rt.alloc();
-    assert_eq!(rt; first_other(alloc, 0, &API_TEXTS)?, None);
-    assert_eq!(rt; first_other(alloc, 1, &TRANSPORT_TEXTS)?, None);
-    assert_eq!(rt; first_other(alloc, 2, &JWT_SVID_TEXTS)?, None);
-    assert_eq!(rt; first_other(alloc, 3, &JWT_BUNDLE_TEXTS)?, None);
-    Ok(())
+fn error_texts(rt: HostRuntime) {
+    for &(table, texts) in TABLES {
+        let other = first_other(rt.alloc(), table, texts).expect(&rt, "memory");
+        assert!(rt; other.is_none(), "{table}: {other:?}");
+    }
 }
 
 #[test]
-fn endpoint_error_texts(rt: HostRuntime) -> Result<(), Fail> {
+fn endpoint_error_texts(rt: HostRuntime) {
     let alloc = rt.alloc();
-    for (error, text) in ENDPOINT_TEXTS {
-        assert!(rt; has_text(alloc, error, text)?, "{text}");
+    for &(error, text) in ENDPOINT_TEXTS {
+        assert!(rt;
+            has_text(alloc, error, text).expect(&rt, "memory"),
+            "{text}"
+        );
     }
-    assert!(rt; has_text(alloc, EndpointParseError, "invalid URI")?);
-    assert!(rt; has_text(alloc, JsonError::new(JsonErrorKind::Eof), "Eof")?);
-    assert!(rt; has_text(alloc, JsonErrorKind::Syntax, "Syntax")?);
-    Ok(())
+    assert!(rt; has_text(alloc, EndpointParseError, "invalid URI").expect(&rt, "memory"));
+}
+
+#[test]
+fn json_error_texts(rt: HostRuntime) {
+    let alloc = rt.alloc();
+    let ended = JsonError::new(JsonErrorKind::Eof);
+    assert!(rt; has_text(alloc, ended, "Eof").expect(&rt, "memory"));
+    assert!(rt; has_text(alloc, JsonErrorKind::Syntax, "Syntax").expect(&rt, "memory"));
 }
