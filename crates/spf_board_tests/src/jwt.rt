@@ -9,7 +9,7 @@ use spf_io::OutOfMemory;
 use spf_jwt::{JwtBundleSet, JwtResourceLimits, validate_jwt_limits};
 use spf_jwt_board::{
     BoardPlaces, Front, Jwt, JwtDesk, JwtEnded, JwtPass, JwtPlaces, PLACES, PlaceFault,
-    RefusingPlaces, SharedStep, open, settle,
+    RefusingPlaces, SharedStep, Usable, open, settle,
 };
 use spf_jwt_feed::{JwtPublisher, JwtStep};
 use std::alloc::Global;
@@ -180,7 +180,7 @@ fn a_board_has_sixty_four_places(rt: HostRuntime) {
     }
     assert!(rt; is_refused(&mut places, &mut pass));
     assert!(rt; is_refused(&mut RefusingPlaces::new(), &mut pass));
-    assert!(rt; !pass.is_usable());
+    assert!(rt; !pass.peek(&Usable));
     drop(others);
     drop(pass);
     drop(desk);

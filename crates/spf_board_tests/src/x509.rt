@@ -8,8 +8,8 @@ use spf_feed::{Denial, Prepared, Publisher, ResourceLimits, Step, validate_limit
 use spf_io::OutOfMemory;
 use spf_x509::{X509BundleSet, X509Context};
 use spf_x509_board::{
-    BoardPlaces, Desk, Ended, Front, PLACES, Pass, PlaceFault, Places, RefusingPlaces, X509, open,
-    settle,
+    BoardPlaces, Desk, Ended, Front, PLACES, Pass, PlaceFault, Places, RefusingPlaces, UsableAt,
+    X509, open, settle,
 };
 use std::alloc::Global;
 use std::snapshot::Snapshot;
@@ -182,7 +182,7 @@ fn a_board_has_sixty_four_places(rt: HostRuntime) {
     }
     assert!(rt; is_refused(&mut places, &mut pass));
     assert!(rt; is_refused(&mut RefusingPlaces::new(), &mut pass));
-    assert!(rt; !pass.is_usable(Some(0)));
+    assert!(rt; !pass.peek(&UsableAt { now: Some(0) }));
     drop(others);
     drop(pass);
     drop(desk);

@@ -8,8 +8,7 @@ ghost use Rattle.spf_jwt_feed.specs.Steps.{MayFollow};
 ghost use Rattle.spf_jwt_board.specs.Steps.{Legal};
 
 use crate::desk::{DeskWriter, JwtDesk, JwtEnded};
-use crate::kind::Jwt;
-use crate::pass::JwtPass;
+use crate::kind::{Jwt, JwtPass};
 use crate::shared_step::SharedStep;
 use spf_board::open_board;
 use spf_history::Front;

@@ -5,6 +5,10 @@ use crate::shown::Shown;
 use spf_board::{Look, Replay};
 use spf_history::Kind;
 use spf_io::OutOfMemory;
+use spf_jwt_feed::{JwtSourceError, JwtSourceState};
+use spf_pass::Shows;
+use std::alloc::Global;
+use std::fmt;
 
 /// Boards of JWT steps. No value of it is made.
 pub struct Jwt;
@@ -51,6 +55,50 @@ impl Replay for Jwt {
 
     ghost replays_after = { laws.replays_after };
 }
+
+impl Shows for Jwt {
+    type State = JwtSourceState;
+
+    // A state is made of the snapshot alone.
+    type Base = ();
+
+    type Error = JwtSourceError;
+
+    ghost use Rattle.spf_jwt_board.specs.States as states;
+
+    ghost showing = { states.showing };
+
+    ghost is_base = { λ _ _. Unit {0} };
+
+    fn base(_alloc: Global, _snapshot: &Shown) -> Result<(), OutOfMemory> {
+        Ok(())
+    }
+
+    fn state(_base: &(), snapshot: &Shown, closed: bool) -> Result<JwtSourceState, OutOfMemory> {
+        snapshot.state(closed)
+    }
+
+    fn revision(state: &JwtSourceState) -> u64 {
+        state.revision()
+    }
+
+    fn closed() -> JwtSourceError {
+        JwtSourceError::Closed
+    }
+
+    fn out_of_memory() -> JwtSourceError {
+        JwtSourceError::OutOfMemory
+    }
+
+    fn write_name<W: fmt::Write>(f: &mut fmt::Formatter<W>) -> fmt::Result {
+        write!(f, "JwtSourceUpdates")
+    }
+
+    ghost closed_is = { λ list closed state is. is.closed_is };
+}
+
+/// What one reader has seen.
+pub type JwtPass = spf_pass::Pass<Jwt>;
 
 /// Whether a bundle set with a key is permitted.
 #[derive(Clone, Copy, Debug)]

@@ -5,15 +5,13 @@
 mod board;
 mod desk;
 mod kind;
-mod pass;
 mod places;
 mod shared_step;
 mod shown;
 
 pub use board::{open, settle};
 pub use desk::{JwtDesk, JwtEnded};
-pub use kind::{Jwt, Usable};
-pub use pass::JwtPass;
+pub use kind::{Jwt, JwtPass, Usable};
 pub use places::JwtPlaces;
 pub use shared_step::SharedStep;
 pub use shown::Shown;

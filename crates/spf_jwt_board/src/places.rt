@@ -1,6 +1,6 @@
 //! What gives passes their places.
 
-use crate::pass::JwtPass;
+use crate::kind::JwtPass;
 use spf_board::{BoardPlaces, PlaceFault, RefusingPlaces};
 
 /// Gives passes their places on a board.

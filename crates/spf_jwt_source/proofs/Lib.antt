@@ -1,4 +1,3 @@
-mod Reading
 pub mod Failing
 pub mod Joining
 pub mod Recording

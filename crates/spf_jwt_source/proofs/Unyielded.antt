@@ -3,7 +3,7 @@ use Rattle.std.proofs.Common.{◌≡◌, refl, sym, subst, ℕ, List, Option, No
 use Rattle.std.specs.Prelude.{ℤ}
 use Rattle.spf_link.specs.Connecting.{Member}
 use Rattle.spf_jwt_board.specs.Passes.{PassView}
-use Rattle.spiffe.specs.Sources.{Source}
+use Rattle.spf_pass.specs.Sources.{Source}
 use Rattle.spf_jwt_source.specs.declared.builder.JwtSettings.{JwtSettings}
 use Rattle.spf_jwt_source.specs.Building.{IsAssigned, IsAssignedByDefault, IsBuilt, IsDefault}
 use Rattle.spf_jwt_source.specs.Records.{Assigned}

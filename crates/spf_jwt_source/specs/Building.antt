@@ -25,7 +25,7 @@ use Rattle.spf_jwt_feeder.specs.Kept.{rules_of}
 use Rattle.spf_jwt_feeder.specs.Opened.{StopsOpening}
 use Rattle.spf_jwt_feeder.specs.Orderly.{IsSynced}
 use Rattle.spf_feeder.specs.Times.{GivesMoments}
-use Rattle.spiffe.specs.Sources.{Source}
+use Rattle.spf_pass.specs.Sources.{Source}
 use Rattle.spf_jwt_source.specs.declared.builder.JwtSettings.{JwtSettings}
 use Rattle.spf_jwt_source.specs.Records.{Assigned}
 

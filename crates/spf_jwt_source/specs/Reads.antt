@@ -21,21 +21,16 @@ use Rattle.spf_jwt_feed.specs.States.{StateView}
 use Rattle.spf_jwt_feed.specs.Steps.{BundleSet, PlainStep}
 use Rattle.spf_jwt_board.specs.Passes.{PassView, read_of}
 use Rattle.spf_jwt_board.specs.Steps.{Legal, Replays, is_usable}
-use Rattle.spf_jwt_board.specs.States.{IsStateOf}
+use Rattle.spf_jwt_board.specs.States.{IsStateOf, showing}
 use Rattle.spf_jwt.specs.Token.{Svid}
 use Rattle.spf_link.specs.declared.connector.Connector as connectors
 use Rattle.spf_link.specs.declared.link.Link as links
 use Rattle.spf_link.specs.declared.request.Request.{Request}
 use Rattle.spf_jwt_client.specs.Fetching.{FetchesJwt, Fetcher}
-use Rattle.spiffe.specs.Passing.{FollowsBy, IsHealthyBy, ReadsOnBy}
-pub use Rattle.spiffe.specs.Passing.{IsClosedByCaller, LooksAt, SaysClosed, SeesNoLess}
-use Rattle.spiffe.specs.Sources.{Source, Updates}
-
--- Why a call refuses without a read: a caller closed the cell, or memory ran out.
-abbrev pub HasClosedCause : ℕ → PassView → JwtSourceError → Type 0
-HasClosedCause cell pass errors.Closed = IsClosedByCaller cell pass
-HasClosedCause cell pass errors.OutOfMemory = Unit {0}
-HasClosedCause cell pass _ = ⊥
+use Rattle.spf_pass.specs.Passing.{FollowsBy, IsHealthyBy}
+pub use Rattle.spf_pass.specs.Passing.{IsClosedByCaller, LooksAt, SaysClosed, SeesNoLess}
+use Rattle.spf_pass.specs.Showing.{IsRevisionBy}
+use Rattle.spf_pass.specs.Sources.{Source, Updates}
 
 -- something is so of a state that the pass has read, and it knows of no mark of the closed cell
 pub record Reads (old new : PassView) (holds : View BundleSet Denial → Type 0) : Type 0 where
@@ -90,20 +85,7 @@ HasPlaceCause before now (Err _) = ⊥
 
 -- the revision of the state that a pass has read
 abbrev pub IsRevision : PassView → ℕ → Type 0
-IsRevision pass revision =
-    (state : StateView) × IsStateOf pass.seen state.closed state × (revision ≡ state.revision)
-
--- a pass that has read, once it had seen no less than before
-abbrev pub ReadsOn : PassView → PassView → Type 0
-ReadsOn old new = ReadsOnBy Legal old new
-
--- Why a wait for another revision than this one ends without it: a caller closed the cell, and this
--- one was read even so; or memory ran out.
-abbrev pub Stays : ℕ → ℕ → PassView → PassView → JwtSourceError → Type 0
-Stays cell revision old new errors.Closed =
-    IsClosedByCaller cell new × IsRevision new revision × ReadsOn old new
-Stays cell revision old new errors.OutOfMemory = Unit {0}
-Stays cell revision old new _ = ⊥
+IsRevision pass revision = IsRevisionBy showing pass revision
 
 -- updates of a source
 abbrev pub Follows : Source → PassView → Updates PlainStep → Type 0

@@ -3,7 +3,6 @@
 #![tactic(auto)]
 
 mod builder;
-mod closing;
 mod handle;
 mod job;
 mod opening;
@@ -12,13 +11,11 @@ mod record;
 mod sockets;
 mod source;
 mod task;
-mod updates;
 
 pub use builder::{JwtSettings, JwtSourceBuilder};
 pub use handle::{JwtPendingHandle, JwtSupervisorHandle};
 pub use job::{JwtDone, JwtJob};
 pub use record::JwtSupervised;
-pub use source::JwtSource;
+pub use source::{JwtSource, JwtSourceUpdates};
 pub use spiffe::SupervisorEnd;
 pub use task::JwtTask;
-pub use updates::JwtSourceUpdates;

@@ -17,7 +17,6 @@ ghost use Rattle.spf_jwt_source.specs.Building.{stopped_as};
 ghost use Rattle.spf_jwt_source.specs.Reads.{HasPlaceCause};
 
 use crate::builder::JwtSettings;
-use crate::closing::closing_of;
 use crate::job::JwtJob;
 use crate::publishing::BoardPublisher;
 use crate::source::JwtSource;
@@ -31,6 +30,7 @@ use spf_jwt_feed::{JwtMetricsRecorder, JwtSourceError, JwtStep, MemJwtPublisher}
 use spf_jwt_feeder::{JwtFeeder, JwtOpening, Stop, open_jwt_feeder};
 use spf_link::Connector;
 use spf_pace::Pace;
+use spf_pass::closing_of;
 use spf_system::{Clock, Pause, StopFlag};
 use std::alloc::Global;
 use std::mem::drop;

@@ -16,16 +16,15 @@ ghost use Rattle.spf_jwt_source.specs.Reads.{SaysClosed};
 ghost use Rattle.spf_jwt_source.specs.Reads.{Follows, HasPlaceCause, SeesNoLess, TriesBundle};
 ghost use Rattle.spf_jwt_source.specs.Updating.{ReadsFrom};
 
-use crate::closing::{check_open, closing_of, look};
-use crate::updates::JwtSourceUpdates;
 use spf_close::{Bell, Closer, Closing, LastHandle, Maker, Watch};
 use spf_id::{SpiffeId, TrustDomain};
 use spf_io::{OutOfMemory, Text};
 use spf_jwt::{JwtBundle, JwtBundleSet, JwtSvid};
-use spf_jwt_board::{Front, Jwt, JwtPass, JwtPlaces, PlaceFault};
+use spf_jwt_board::{Front, Jwt, JwtPass, JwtPlaces, PlaceFault, Usable};
 use spf_jwt_client::JwtFetcher;
 use spf_jwt_feed::{JwtSourceError, JwtSourceState};
 use spf_link::Connector;
+use spf_pass::{SourceUpdates, check_open, closing_of, look};
 use spf_system::StopFlag;
 use spf_x509::BundleSource;
 use std::alloc::Global;
@@ -33,6 +32,9 @@ use std::fmt;
 use std::marker::Model;
 use std::mem::drop;
 use std::sync::Arc;
+
+/// The updates of a source of JWT bundles.
+pub type JwtSourceUpdates = SourceUpdates<Jwt>;
 
 /// A handle of a source. What it gives is read through a pass of its board, without a lock. When
 /// the last handle is dropped, the source is closed.
@@ -47,7 +49,7 @@ pub struct JwtSource {
 
 impl Model for JwtSource {
     ghost use Rattle.std.specs.Prelude.{◌≡◌};
-    ghost use Rattle.spiffe.specs.Sources.{Source};
+    ghost use Rattle.spf_pass.specs.Sources.{Source};
 
     ghost Value = { Source };
 
@@ -196,7 +198,7 @@ impl JwtSource {
         if look(&self.watch, pass) {
             return false;
         }
-        pass.is_usable()
+        pass.peek(&Usable)
     }
 
     /// Returns another pass of the source, which has seen what the giver has seen.
@@ -256,7 +258,7 @@ impl JwtSource {
             ≡ record { cell = self.now.cell; pass = pass; marked = 0 }) }
     {
         match self.watch_and_bell() {
-            Ok((watch, bell)) => Ok(JwtSourceUpdates::new(watch, pass, bell)),
+            Ok((watch, bell)) => Ok(SourceUpdates::new(watch, pass, bell)),
             Err(OutOfMemory) => {
                 drop(pass);
                 Err(OutOfMemory)

@@ -1,7 +1,7 @@
 -- What contracts see of a pass.
 use Rattle.std.specs.Prelude.{List}
 use Rattle.spf_board.specs.Passes as passes
-pub use Rattle.spf_board.specs.Passes.{pass_view, read_of}
+pub use Rattle.spf_board.specs.Passes.{read_of}
 use Rattle.spf_close.specs.Marks.{Mark}
 use Rattle.spf_feed.specs.Steps.{PlainStep}
 use Rattle.spf_history.specs.declared.entry.Entry.{Entry}

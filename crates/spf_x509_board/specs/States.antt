@@ -1,8 +1,11 @@
--- What a state says that was read through a pass.
+-- What a state says that was read through a pass, and what an error tells.
 use Rattle.std.specs.Prelude.{◌≡◌, Bool, List}
 use Rattle.spf_history.specs.declared.entry.Entry.{Entry}
 use Rattle.spf_history.specs.Lists.{steps_of}
+use Rattle.spf_feed.specs.declared.state.X509SourceError.{X509SourceError}
+use Rattle.spf_feed.specs.declared.state.X509SourceError.TheVariants as errors
 use Rattle.spf_feed.specs.Steps.{PlainStep, StateView}
+use Rattle.spf_pass.specs.Showing.{Showing, Told, ToldClosed, ToldMemory, ToldOther}
 use Rattle.spf_x509_board.specs.Steps.{Legal, Replays}
 
 -- the state is the replay of the steps of a legal board list, and says whether the source is closed
@@ -10,3 +13,17 @@ pub record IsStateOf (list : List (Entry PlainStep)) (closed : Bool) (s : StateV
   pub replay : Replays (steps_of list) (record { revision = s.revision; view = s.view })
   pub legal : Legal (steps_of list)
   pub closed_is : s.closed ≡ closed
+
+abbrev pub told : X509SourceError → Told
+told errors.Closed = ToldClosed
+told errors.OutOfMemory = ToldMemory
+told _ = ToldOther
+
+-- what the states and the errors of X.509 sources say
+abbrev pub showing : Showing PlainStep StateView X509SourceError
+showing = record {
+  is_state = IsStateOf;
+  closed_of = λ s. s.closed;
+  revision_of = λ s. s.revision;
+  told = told;
+}

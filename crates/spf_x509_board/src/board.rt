@@ -8,8 +8,7 @@ ghost use Rattle.spf_feed.specs.Steps.{MayFollow};
 ghost use Rattle.spf_x509_board.specs.Steps.{Legal};
 
 use crate::desk::{Desk, DeskWriter, Ended};
-use crate::kind::X509;
-use crate::pass::Pass;
+use crate::kind::{Pass, X509};
 use spf_board::open_board;
 use spf_feed::Prepared;
 use spf_history::Front;

@@ -1,9 +1,12 @@
 //! X.509 steps and their snapshot, as a board has them.
 
 use spf_board::{Look, Replay};
-use spf_feed::{Prepared, Snapshot};
+use spf_feed::{Prepared, Snapshot, X509SourceError, X509SourceState};
 use spf_history::Kind;
 use spf_io::OutOfMemory;
+use spf_pass::Shows;
+use std::alloc::Global;
+use std::fmt;
 
 /// Boards of X.509 steps. No value of it is made.
 pub struct X509;
@@ -50,6 +53,56 @@ impl Replay for X509 {
 
     ghost replays_after = { laws.replays_after };
 }
+
+impl Shows for X509 {
+    type State = X509SourceState;
+
+    // That of an open source. Its shares are counted where no other pass counts.
+    type Base = X509SourceState;
+
+    type Error = X509SourceError;
+
+    ghost use Rattle.spf_x509_board.specs.States as states;
+    ghost use Rattle.spf_x509_board.specs.Steps.{Replays};
+
+    ghost showing = { states.showing };
+
+    ghost is_base = { λ steps base. Replays steps
+        (record { revision = base.revision; view = base.view }) };
+
+    fn base(alloc: Global, snapshot: &Snapshot) -> Result<X509SourceState, OutOfMemory> {
+        snapshot.state(alloc, false)
+    }
+
+    fn state(
+        base: &X509SourceState,
+        _snapshot: &Snapshot,
+        closed: bool,
+    ) -> Result<X509SourceState, OutOfMemory> {
+        base.share(closed)
+    }
+
+    fn revision(state: &X509SourceState) -> u64 {
+        state.revision()
+    }
+
+    fn closed() -> X509SourceError {
+        X509SourceError::Closed
+    }
+
+    fn out_of_memory() -> X509SourceError {
+        X509SourceError::OutOfMemory
+    }
+
+    fn write_name<W: fmt::Write>(f: &mut fmt::Formatter<W>) -> fmt::Result {
+        write!(f, "X509SourceUpdates")
+    }
+
+    ghost closed_is = { λ list closed state is. is.closed_is };
+}
+
+/// What one reader has seen.
+pub type Pass = spf_pass::Pass<X509>;
 
 /// Whether the chosen SVID is there and unexpired at a moment.
 #[derive(Clone, Copy, Debug)]

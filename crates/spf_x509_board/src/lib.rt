@@ -5,13 +5,11 @@
 mod board;
 mod desk;
 mod kind;
-mod pass;
 mod places;
 
 pub use board::{open, settle};
 pub use desk::{Desk, Ended};
-pub use kind::{UsableAt, X509};
-pub use pass::Pass;
+pub use kind::{Pass, UsableAt, X509};
 pub use places::Places;
 pub use spf_board::{BoardPlaces, PLACES, PlaceFault, RefusingPlaces};
 pub use spf_history::Front;

@@ -1,6 +1,6 @@
 //! What gives passes their places.
 
-use crate::pass::Pass;
+use crate::kind::Pass;
 use spf_board::{BoardPlaces, PlaceFault, RefusingPlaces};
 
 /// Gives passes their places on a board.

@@ -7,7 +7,7 @@ use Rattle.spf_x509_board.specs.Passes.{PassView}
 use Rattle.spiffe.specs.declared.builder.Settings.{Settings}
 use Rattle.spiffe.specs.Building.{IsAssigned, IsAssignedByDefault, IsBuilt, IsDefault}
 use Rattle.spiffe.specs.Records.{Assigned}
-use Rattle.spiffe.specs.Sources.{Source}
+use Rattle.spf_pass.specs.Sources.{Source}
 
 -- the job that was started
 pub built_as : {S K : Type 0} (picks : K → List Svid → Option ℕ) (source : Source)

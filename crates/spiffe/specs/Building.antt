@@ -28,7 +28,7 @@ use Rattle.spf_feeder.specs.Orderly.{IsSynced}
 use Rattle.spf_feeder.specs.Times.{GivesMoments}
 use Rattle.spiffe.specs.declared.builder.Settings.{Settings}
 use Rattle.spiffe.specs.Records.{Assigned}
-use Rattle.spiffe.specs.Sources.{Source}
+use Rattle.spf_pass.specs.Sources.{Source}
 
 -- the settings of a builder on which nothing was set
 pub record IsDefault {K : Type 0} (set : Settings K) : Type 0 where

@@ -1,14 +1,8 @@
--- What updates have read, and what is marked.
-use Rattle.std.specs.Prelude.{ℕ}
+-- What updates have read.
+use Rattle.spf_pass.specs.Passing.{ReadsFromBy}
 use Rattle.spf_x509_board.specs.Passes.{PassView, Seen}
 use Rattle.spf_x509_board.specs.Steps.{Legal}
-use Rattle.spiffe.specs.Passing.{MarksOnBy, ReadsFromBy}
-use Rattle.spiffe.specs.Reads.{IsRevision}
 
 -- a pass that has read, once it had seen just this
 abbrev pub ReadsFrom : Seen → PassView → Type 0
 ReadsFrom seen new = ReadsFromBy Legal seen new
-
--- what is marked where a wait ended without a revision
-abbrev pub MarksOn : PassView → ℕ → PassView → ℕ → Type 0
-MarksOn old was new marked = MarksOnBy IsRevision old was new marked

@@ -3,7 +3,6 @@
 #![tactic(auto)]
 
 mod builder;
-mod closing;
 mod handle;
 mod job;
 mod opening;
@@ -12,13 +11,11 @@ mod record;
 mod sockets;
 mod source;
 mod task;
-mod updates;
 
 pub use builder::{Settings, X509SourceBuilder};
 pub use handle::{PendingHandle, SupervisorHandle};
 pub use job::{X509Done, X509Job};
 pub use publishing::BoardPublisher;
 pub use record::{Supervised, SupervisorEnd};
-pub use source::X509Source;
+pub use source::{X509Source, X509SourceUpdates};
 pub use task::Task;
-pub use updates::X509SourceUpdates;

@@ -18,7 +18,6 @@ ghost use Rattle.spiffe.specs.Building.{stopped_as};
 ghost use Rattle.spiffe.specs.Reads.{HasPlaceCause};
 
 use crate::builder::Settings;
-use crate::closing::closing_of;
 use crate::job::X509Job;
 use crate::publishing::BoardPublisher;
 use crate::source::X509Source;
@@ -32,6 +31,7 @@ use spf_feeder::{Feeder, Opening, Stop, open_feeder};
 use spf_io::OutOfMemory;
 use spf_link::Connector;
 use spf_pace::Pace;
+use spf_pass::closing_of;
 use spf_system::{Clock, Pause, StopFlag};
 use spf_x509_board::{Desk, Front, Pass, PlaceFault, Places, X509, open};
 use std::alloc::Global;

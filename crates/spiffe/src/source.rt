@@ -12,20 +12,22 @@ ghost use Rattle.spiffe.specs.Reads.{BundleAnswer, BundlesAnswer, Gets, IsHealth
 ghost use Rattle.spiffe.specs.Reads.{Follows, HasPlaceCause, SeesNoLess, Tries, TriesBundle};
 ghost use Rattle.spiffe.specs.Updating.{ReadsFrom};
 
-use crate::closing::{check_open, closing_of, look};
-use crate::updates::X509SourceUpdates;
 use spf_close::{Bell, Closer, Closing, LastHandle, Watch};
 use spf_feed::{X509SourceError, X509SourceState};
 use spf_id::TrustDomain;
 use spf_io::OutOfMemory;
+use spf_pass::{SourceUpdates, check_open, closing_of, look};
 use spf_system::StopFlag;
 use spf_x509::{BundleSource, SvidSource, X509Bundle, X509BundleSet, X509Context, X509Svid};
-use spf_x509_board::{Front, Pass, PlaceFault, Places, X509};
+use spf_x509_board::{Front, Pass, PlaceFault, Places, UsableAt, X509};
 use std::alloc::Global;
 use std::fmt;
 use std::marker::Model;
 use std::mem::drop;
 use std::sync::Arc;
+
+/// The updates of a source of X.509 identities.
+pub type X509SourceUpdates = SourceUpdates<X509>;
 
 /// A handle of a source. What it gives is read through a pass of its board, without a lock. When
 /// the last handle is dropped, the source is closed.
@@ -40,7 +42,7 @@ pub struct X509Source {
 
 impl Model for X509Source {
     ghost use Rattle.std.specs.Prelude.{◌≡◌};
-    ghost use Rattle.spiffe.specs.Sources.{Source};
+    ghost use Rattle.spf_pass.specs.Sources.{Source};
 
     ghost Value = { Source };
 
@@ -232,7 +234,7 @@ impl X509Source {
         if look(&self.watch, pass) {
             return false;
         }
-        pass.is_usable(now)
+        pass.peek(&UsableAt { now })
     }
 
     /// Returns another pass of the source, which has seen what the giver has seen.
@@ -292,7 +294,7 @@ impl X509Source {
             ≡ record { cell = self.now.cell; pass = pass; marked = 0 }) }
     {
         match self.watch_and_bell() {
-            Ok((watch, bell)) => Ok(X509SourceUpdates::new(watch, pass, bell)),
+            Ok((watch, bell)) => Ok(SourceUpdates::new(watch, pass, bell)),
             Err(OutOfMemory) => {
                 drop(pass);
                 Err(OutOfMemory)

@@ -1,12 +1,12 @@
 -- What the calls of a source do to the pass that they are lent, whatever its steps are.
-use Rattle.std.specs.Prelude.{◌≡◌, ◌⊎◌, ℕ, Bool, false, List, Option, Some, None}
+use Rattle.std.specs.Prelude.{◌≡◌, ◌⊎◌, ℕ, Bool, false, List, Some, None}
 use Rattle.std.specs.Prelude.{IfSome, IsSomeAnd, is_some}
 use mathlib.Core.List.{IsPrefix}
 use Rattle.spf_board.specs.Passes.{PassView, Peeks, Renews, read_of}
 use Rattle.spf_close.specs.Marks.{Mark, mark_by}
 use Rattle.spf_close.specs.declared.maker.Maker.TheVariants as makers
 use Rattle.spf_history.specs.declared.entry.Entry.{Entry}
-use Rattle.spiffe.specs.Sources.{Source, Updates}
+use Rattle.spf_pass.specs.Sources.{Source, Updates}
 
 -- A pass that learns whether the source of this cell is closed: it knows a mark of the cell, or
 -- none, and all else of it is as before.

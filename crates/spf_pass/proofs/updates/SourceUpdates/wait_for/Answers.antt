@@ -1,13 +1,12 @@
 use Rattle.std.proofs.Common.{rules, refl}
 use denote.Param.Always.{mut_next}
-use Rattle.spf_x509_board.specs.Steps.{Legal}
-use Rattle.spiffe.proofs.Passing.{marks_later, marks_now, on_any, reads_later, sees_on}
-use Rattle.spiffe.specs.Reads.{IsRevision}
-use Rattle.spiffe.proofs.updates.X509SourceUpdates.wait_for.Goals as goal
+use Rattle.spf_pass.proofs.Passing.{marks_later, marks_now, on_any, reads_later, sees_on}
+use Rattle.spf_pass.specs.Showing.{IsRevisionBy}
+use Rattle.spf_pass.proofs.updates.SourceUpdates.wait_for.Goals as goal
 
 pub returns-then-f-2-clause-reads : goal.returns-then-f-2-clause-reads
 returns-then-f-2-clause-reads g c =
-    reads_later Legal _ _ _ c.changes.invariant.pass c.in_ok-revision.ensures.reads
+    reads_later g.K.Kind.legal _ _ _ c.changes.invariant.pass c.in_ok-revision.ensures.reads
 
 pub returns-then-f-2-clause-pass : goal.returns-then-f-2-clause-pass
 returns-then-f-2-clause-pass g c =
@@ -15,7 +14,7 @@ returns-then-f-2-clause-pass g c =
 
 pub returns-in_err-revision-clause-unmarked : goal.returns-in_err-revision-clause-unmarked
 returns-in_err-revision-clause-unmarked g c =
-    on_any _ _ (marks_later IsRevision _ _ _ _ _ _ c.changes.invariant.marks
+    on_any _ _ (marks_later (IsRevisionBy g.K.Shows.showing) _ _ _ _ _ _ c.changes.invariant.marks
     c.in_err-revision.ensures.unmarked c.changed.ensures.pass)
 
 pub changes-preserved : goal.changes-preserved
@@ -25,7 +24,7 @@ changes-preserved g c = record {
   callable = mut_next g.F.FnMut _ _ _ _ _ c.f-in-changes.ensures refl c.changes.invariant.callable;
   cell = search rules;
   pass = sees_on _ _ _ c.changes.invariant.pass c.changed.ensures.pass;
-  marks = marks_now IsRevision _ _ _ _ c.in_ok-revision.revision
+  marks = marks_now (IsRevisionBy g.K.Shows.showing) _ _ _ _ c.in_ok-revision.revision
       (sees_on _ _ _ c.changes.invariant.pass c.changed.ensures.pass)
       c.in_ok-revision.ensures.revision.0 c.in_ok-revision.ensures.revision.2;
 }

@@ -2,17 +2,18 @@
 
 ghost use Rattle.std.specs.Prelude.{◌≡◌, ℕ, None, IfErr, IfOk, IfSome, OnOk};
 ghost use Rattle.spf_close.specs.declared.maker.Maker.TheVariants as makers;
-ghost use Rattle.spf_jwt_source.specs.Reads.{HasClosedCause, LooksAt, SaysClosed};
+ghost use Rattle.spf_pass.specs.Passing.{LooksAt, SaysClosed};
+ghost use Rattle.spf_pass.specs.Showing.{HasClosedCauseBy};
 
+use crate::kind::Shows;
+use crate::pass::Pass;
 use spf_close::{Bell, Closer, Closing, Maker, Watch};
 use spf_io::OutOfMemory;
-use spf_jwt_board::JwtPass;
-use spf_jwt_feed::JwtSourceError;
 use spf_system::StopFlag;
 use std::alloc::Global;
 
 /// Whether the source is closed. The pass knows the mark from then on, by a note.
-pub(crate) fn look(watch: &Watch, pass: &mut JwtPass) -> bool
+pub fn look<K: Shows>(watch: &Watch, pass: &mut Pass<K>) -> bool
     ensures looks { LooksAt watch.now pass.old pass.new }
     ensures closed { SaysClosed watch.now pass.new result }
 {
@@ -21,7 +22,7 @@ pub(crate) fn look(watch: &Watch, pass: &mut JwtPass) -> bool
 }
 
 /// Lets the pass learn, by a note, whether the source is closed.
-pub(crate) fn learn(watch: &Watch, pass: &mut JwtPass)
+pub fn learn<K: Shows>(watch: &Watch, pass: &mut Pass<K>)
     ensures { LooksAt watch.now pass.old pass.new }
 {
     pass.note(watch.look());
@@ -29,30 +30,31 @@ pub(crate) fn learn(watch: &Watch, pass: &mut JwtPass)
 
 /// Refuses where the pass knows that the source is closed: a source that no caller closed ended by
 /// itself, which it does only out of memory.
-pub(crate) fn known_open(pass: &JwtPass) -> Result<(), JwtSourceError>
+pub fn known_open<K: Shows>(pass: &Pass<K>) -> Result<(), K::Error>
     ensures open { OnOk result (pass.now.closed ≡ None) }
     ensures cause { IfErr result (λ e. (cell : ℕ)
-        → IfSome pass.now.closed (λ known. known.cell ≡ cell) → HasClosedCause cell pass.now e) }
+        → IfSome pass.now.closed (λ known. known.cell ≡ cell)
+        → HasClosedCauseBy K.showing cell pass.now e) }
 {
     match pass.closed_by() {
         None => Ok(()),
-        Some(Maker::Caller) => Err(JwtSourceError::Closed),
-        Some(Maker::Supervisor) => Err(JwtSourceError::OutOfMemory),
+        Some(Maker::Caller) => Err(K::closed()),
+        Some(Maker::Supervisor) => Err(K::out_of_memory()),
     }
 }
 
 /// Refuses where the source is closed, which the pass then knows.
-pub(crate) fn check_open(watch: &Watch, pass: &mut JwtPass) -> Result<(), JwtSourceError>
+pub fn check_open<K: Shows>(watch: &Watch, pass: &mut Pass<K>) -> Result<(), K::Error>
     ensures looks { LooksAt watch.now pass.old pass.new }
     ensures open { OnOk result (pass.new.closed ≡ None) }
-    ensures cause { IfErr result (HasClosedCause watch.now pass.new) }
+    ensures cause { IfErr result (HasClosedCauseBy K.showing watch.now pass.new) }
 {
     learn(watch, pass);
     known_open(pass)
 }
 
 /// What closes the source of the closer.
-pub(crate) fn closing_of(
+pub fn closing_of(
     alloc: Global,
     closer: &mut Closer,
     stop: &StopFlag,

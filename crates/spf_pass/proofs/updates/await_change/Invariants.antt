@@ -1,5 +1,5 @@
-use Rattle.spiffe.specs.Reads.{SeesNoLess}
-use Rattle.spiffe.proofs.updates.await_change.Given as goal
+use Rattle.spf_pass.specs.Passing.{SeesNoLess}
+use Rattle.spf_pass.proofs.updates.await_change.Given as goal
 
 abbrev pub invariant-looks : goal.invariant-looks
 invariant-looks g l = record {

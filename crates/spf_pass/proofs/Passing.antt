@@ -4,7 +4,7 @@ use Rattle.std.specs.Prelude.{OnErr}
 use Rattle.spf_board.specs.Passes.{PassView}
 use Rattle.spf_close.specs.Marks.{Mark}
 use Rattle.spf_history.proofs.Prefixes.{begins_self, begins_trans}
-use Rattle.spiffe.specs.Passing.{MarksOnBy, ReadsOnBy, SeesNoLess}
+use Rattle.spf_pass.specs.Passing.{MarksOnBy, ReadsOnBy, SeesNoLess}
 
 pub sees_on : {S : Type 0} (old mid new : PassView S Mark) → SeesNoLess old mid
     → SeesNoLess mid new → SeesNoLess old new

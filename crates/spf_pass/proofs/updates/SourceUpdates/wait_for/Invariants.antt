@@ -1,7 +1,7 @@
 use Rattle.std.proofs.Common.{◌≡◌}
-use Rattle.spf_jwt_source.specs.Updating.{MarksOn}
-use Rattle.spf_jwt_source.specs.Reads.{SeesNoLess}
-use Rattle.spf_jwt_source.proofs.updates.JwtSourceUpdates.wait_for.Given as goal
+use Rattle.spf_pass.specs.Passing.{MarksOnBy, SeesNoLess}
+use Rattle.spf_pass.specs.Showing.{IsRevisionBy}
+use Rattle.spf_pass.proofs.updates.SourceUpdates.wait_for.Given as goal
 
 abbrev pub invariant-changes : goal.invariant-changes
 invariant-changes g l = record {
@@ -10,5 +10,6 @@ invariant-changes g l = record {
   callable : goal.F-IsAlwaysCallable g l.f;
   cell : l.self.cell ≡ l.fn.self.cell;
   pass : SeesNoLess l.fn.self.pass l.self.pass;
-  marks : MarksOn l.fn.self.pass l.fn.self.marked l.self.pass l.self.marked;
+  marks : MarksOnBy (IsRevisionBy g.K.Shows.showing) l.fn.self.pass l.fn.self.marked l.self.pass
+      l.self.marked;
 }

@@ -1,0 +1,22 @@
+-- Why a wait ends without a revision, over reads one after another.
+use Rattle.std.proofs.Common.{ℕ, List}
+use Rattle.spf_board.specs.Passes.{PassView}
+use Rattle.spf_close.specs.Marks.{Mark}
+use Rattle.spf_pass.proofs.Passing.{reads_later}
+use Rattle.spf_pass.specs.Passing.{SeesNoLess}
+use Rattle.spf_pass.specs.Showing.{IfClosed, Showing, StaysBy}
+use Rattle.spf_pass.specs.Showing.{Told, ToldClosed, ToldMemory, ToldOther}
+
+-- more is known where the source is closed
+if_closed : (told : Told) {P Q : Type 0} → (P → Q) → IfClosed told P → IfClosed told Q
+if_closed ToldClosed more holds = more holds
+if_closed ToldMemory more holds = tt
+if_closed ToldOther more holds = absurd holds
+
+module _ {S T E : Type 0} (showing : Showing S T E) (legal : List S → Type 0) where
+  pub stays_later : (cell revision : ℕ) (old mid new : PassView S Mark) (e : E)
+      → SeesNoLess old mid → StaysBy showing legal cell revision mid new e
+      → StaysBy showing legal cell revision old new e
+  stays_later cell revision old mid new e before stays =
+      if_closed (showing.told e)
+      (λ known. (known.0, known.1, reads_later legal old mid new before known.2)) stays
