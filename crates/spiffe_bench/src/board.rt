@@ -1,18 +1,20 @@
 //! A source over a board that this program publishes on.
 
 ghost use Rattle.std.specs.Prelude.{◌≡◌, ◌≢◌, Some, [], IfOk};
+ghost use Rattle.spf_close.specs.declared.maker.Maker.TheVariants as makers;
 ghost use Rattle.spf_history.specs.Lists.{steps_of};
 ghost use Rattle.spf_feed.specs.Steps.{MayFollow, plain};
 
 use crate::item::first_context;
-use spf_close::{Bell, closed_cell};
+use spf_close::{Bell, Closer, closed_cell};
 use spf_feed::{NoPicker, Prepared, ResourceLimits, Step, select_svid, validate_limits};
 use spf_io::OutOfMemory;
 use spf_system::StopFlag;
 use spf_x509::X509Context;
-use spf_x509_board::{Desk, Pass, open};
+use spf_x509_board::{Desk, Front, Pass, X509, open};
 use spiffe::X509Source;
 use std::alloc::Global;
+use std::mem::drop;
 use std::sync::{Arc, Wait};
 
 /// A step that accepts the context, with its first SVID.
@@ -31,6 +33,49 @@ pub(crate) fn accepting(context: Arc<X509Context>) -> Result<Step, OutOfMemory>
     })
 }
 
+/// The step of the first update.
+fn first_step(alloc: Global) -> Result<Prepared, OutOfMemory>
+    ensures { IfOk result (λ step. MayFollow (Some []) step) }
+{
+    Prepared::new(alloc, accepting(first_context(alloc)?)?)
+}
+
+/// What closes a source. Its supervisor is this program, which ends it by nothing else.
+fn caller_of(alloc: Global) -> Result<Closer, OutOfMemory>
+    ensures { IfOk result (λ caller. caller.maker ≡ makers.Caller) }
+{
+    let (caller, supervisor, watch) = closed_cell(alloc)?;
+    drop(supervisor);
+    drop(watch);
+    Ok(caller)
+}
+
+fn flag_and_bell(alloc: Global) -> Result<(StopFlag, Bell), OutOfMemory> {
+    let stop = StopFlag::new(alloc)?;
+    match Bell::new(alloc) {
+        Ok(bell) => Ok((stop, bell)),
+        Err(OutOfMemory) => {
+            drop(stop);
+            Err(OutOfMemory)
+        }
+    }
+}
+
+/// A source over what was published.
+fn source_over(alloc: Global, front: Front<X509>) -> Result<X509Source, OutOfMemory>
+    ensures { IfOk result (λ source. source.board ≡ front.book) }
+{
+    let (stop, bell) = flag_and_bell(alloc)?;
+    match caller_of(alloc) {
+        Ok(caller) => X509Source::over(alloc, front, caller, stop, bell),
+        Err(OutOfMemory) => {
+            drop(stop);
+            drop(bell);
+            Err(OutOfMemory)
+        }
+    }
+}
+
 /// A source with one accepted update, its writer and its first pass.
 pub(crate) fn opened<R: Wait + Drop>(
     rt: R,
@@ -39,10 +84,14 @@ pub(crate) fn opened<R: Wait + Drop>(
     ensures pass { IfOk result (λ r. r.1.book ≡ r.0.board) }
     ensures step { IfOk result (λ r. steps_of r.2.list ≢ []) }
 {
-    let step = Prepared::new(alloc, accepting(first_context(alloc)?)?)?;
+    let step = first_step(alloc)?;
     let (desk, pass) = open(alloc, rt, step)?;
-    let (caller, _supervisor, _watch) = closed_cell(alloc)?;
-    let (stop, bell) = (StopFlag::new(alloc)?, Bell::new(alloc)?);
-    let source = X509Source::over(alloc, desk.front(), caller, stop, bell)?;
-    Ok((source, pass, desk))
+    match source_over(alloc, desk.front()) {
+        Ok(source) => Ok((source, pass, desk)),
+        Err(OutOfMemory) => {
+            drop(pass);
+            drop(desk);
+            Err(OutOfMemory)
+        }
+    }
 }

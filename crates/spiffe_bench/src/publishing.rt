@@ -11,6 +11,7 @@ use spf_system::StopFlag;
 use spf_x509::X509Context;
 use spf_x509_board::Desk;
 use std::alloc::Global;
+use std::mem::drop;
 use std::sync::{Arc, Wait};
 
 /// Publishes a denial, and then an update.
@@ -27,6 +28,39 @@ fn publish_both<R: Wait + Drop>(
     desk.publish(accepting(Arc::try_clone(context)?)?)
 }
 
+/// Publishes both in turn until the flag is set, and returns how many.
+fn publish_in_turn<R: Wait + Drop>(
+    rt: &R,
+    desk: &mut Desk<R>,
+    denial: &Arc<Denial>,
+    context: &Arc<X509Context>,
+    stop: &StopFlag,
+) -> Result<u64, OutOfMemory>
+    requires { steps_of desk.old.list ≢ [] }
+{
+    let mut published = 0u64;
+    'publishing: for _ in rt.forever() {
+        if stop.is_set() {
+            break;
+        }
+        publish_both(desk, denial, context)?;
+        published = published.wrapping_add(2);
+    }
+    Ok(published)
+}
+
+/// What is published in turn.
+fn denial_and_context(alloc: Global) -> Result<(Arc<Denial>, Arc<X509Context>), OutOfMemory> {
+    let denial = Arc::new(alloc, Denial::NoIdentityIssued)?;
+    match first_context(alloc) {
+        Ok(context) => Ok((denial, context)),
+        Err(OutOfMemory) => {
+            drop(denial);
+            Err(OutOfMemory)
+        }
+    }
+}
+
 /// Publishes denials and updates in turn until the flag is set, and returns how many.
 pub(crate) fn publish_until<R: Wait + Copy + Drop>(
     rt: &R,
@@ -36,15 +70,17 @@ pub(crate) fn publish_until<R: Wait + Copy + Drop>(
 ) -> Result<u64, OutOfMemory>
     requires { steps_of desk.list ≢ [] }
 {
-    let denial = Arc::new(alloc, Denial::NoIdentityIssued)?;
-    let context = first_context(alloc)?;
-    let mut published = 0u64;
-    'publishing: for _ in rt.forever() {
-        if stop.is_set() {
-            break;
+    match denial_and_context(alloc) {
+        Ok((denial, context)) => {
+            let published = publish_in_turn(rt, &mut desk, &denial, &context, stop);
+            drop(denial);
+            drop(context);
+            drop(desk);
+            published
         }
-        publish_both(&mut desk, &denial, &context)?;
-        published = published.wrapping_add(2);
+        Err(OutOfMemory) => {
+            drop(desk);
+            Err(OutOfMemory)
+        }
     }
-    Ok(published)
 }

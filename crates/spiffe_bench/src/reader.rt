@@ -7,6 +7,7 @@ use spf_io::OutOfMemory;
 use spf_system::StopFlag;
 use spf_x509_board::{BoardPlaces, Pass};
 use spiffe::X509Source;
+use std::mem::drop;
 use std::sync::Wait;
 use std::time::{Clock, Duration, Instant};
 
@@ -58,6 +59,21 @@ fn read_all(source: &X509Source, pass: &mut Pass, call: Call, reads: u64) -> u64
     given
 }
 
+/// How long the reads take, and how many gave something.
+fn timed_reads(
+    clock: &impl Clock,
+    source: &X509Source,
+    pass: &mut Pass,
+    call: Call,
+    reads: u64,
+) -> Option<(Duration, u64)>
+    requires { pass.old.book ≡ source.now.board }
+{
+    let begin = Instant::now(clock).ok()?;
+    let given = read_all(source, pass, call, reads);
+    Some((begin.elapsed(clock).ok()?, given))
+}
+
 impl Reader {
     /// Another handle and another pass of the source.
     pub(crate) fn new(source: &mut X509Source, pass: &mut Pass) -> Result<Reader, OutOfMemory>
@@ -85,7 +101,10 @@ impl Reader {
             mut pass,
             ..
         } = self;
-        read_until(rt, &source, &mut pass, steps, stop)
+        let reads = read_until(rt, &source, &mut pass, steps, stop);
+        drop(pass);
+        drop(source);
+        reads
     }
 
     /// How long the reads take, and how many gave something.
@@ -95,8 +114,9 @@ impl Reader {
             mut pass,
             ..
         } = self;
-        let begin = Instant::now(clock).ok()?;
-        let given = read_all(&source, &mut pass, call, reads);
-        Some((begin.elapsed(clock).ok()?, given))
+        let timed = timed_reads(clock, &source, &mut pass, call, reads);
+        drop(pass);
+        drop(source);
+        timed
     }
 }
