@@ -1,178 +1,162 @@
 //! Asks that are answered from a source of their own.
 
+use crate::doubles::{arguments, clock, connector_of, pause, sink};
 use spf_api::GrpcStatusCode;
+use spf_feed::{NoPicker, NoRecorder};
 use spf_gate_live::gate_live;
 use spf_io::{MemSink, MemSource};
-use spf_job::{InlineSpawner, RefusingSpawner, StepWords};
+use spf_job::{InlineSpawner, RefusingSpawner, Spawner, StepWords};
 use spf_link::MemConnector;
-use spf_responses::{connector, good_link, refusing_link};
-use spf_system::{MemClock, MemPause};
-use spf_x509_board::{BoardPlaces, RefusingPlaces};
-use std::alloc::Global;
+use spf_system::MemPause;
+use spf_x509_board::{BoardPlaces, Places, RefusingPlaces};
+use spiffe::X509Job;
+use std::mem::drop;
+use std::process::Abort;
 use std::sync::Wait;
 use std::test::Fail;
 
-/// A connector whose one link gives the item I1.
-fn good(alloc: Global) -> Result<MemConnector, Fail> {
-    connector(alloc, good_link(alloc)?)
+/// What a run is given, and how it ends: its status, and what it writes to the output and the error
+/// output.
+#[derive(Clone, Copy)]
+struct Case {
+    arguments: &'static [&'static str],
+    /// How its link refuses its start. It gives the item I1 where it does not.
+    refusal: Option<GrpcStatusCode>,
+    input: &'static [u8],
+    status: u8,
+    out: &'static str,
+    error: &'static str,
 }
 
-/// One whose link refuses its start with this status.
-fn refusing(alloc: Global, code: GrpcStatusCode) -> Result<MemConnector, Fail> {
-    connector(alloc, refusing_link(alloc, code)?)
+fn source(rt: &(impl Abort + AllocGlobal), input: &[u8]) -> MemSource {
+    let input = Vec::from_slice(rt.alloc(), input).expect(rt, "memory");
+    MemSource::new(input, Vec::new(rt.alloc()), Vec::new(rt.alloc()))
 }
 
-/// What the run is given from outside.
-#[derive(Drop)]
-struct Outside {
-    input: MemSource,
-    out: MemSink,
-    errors: MemSink,
-    clock: MemClock,
-    pause: MemPause,
+fn is_end(case: Case, status: u8, out: &MemSink, errors: &MemSink) -> bool {
+    status == case.status
+        && out.bytes() == case.out.as_bytes()
+        && errors.bytes() == case.error.as_bytes()
 }
 
-fn doubles(alloc: Global, input: &[u8]) -> Result<Outside, Fail> {
-    let bytes = Vec::from_slice(alloc, input)?;
-    Ok(Outside {
-        input: MemSource::new(bytes, Vec::new(alloc), Vec::new(alloc)),
-        out: MemSink::new(alloc, 4096, Vec::new(alloc))?,
-        errors: MemSink::new(alloc, 4096, Vec::new(alloc))?,
-        clock: MemClock::new(vec![in alloc; Some(999)]?),
-        pause: MemPause::new(alloc, 1)?,
-    })
-}
-
-/// The status of a run, and what it wrote to the output and the error output.
-type Run = (u8, MemSink, MemSink);
-
-/// A run whose job is done where it is joined.
-fn run<R: Wait + Copy + Drop>(
-    rt: R,
-    alloc: Global,
-    arguments: &[String],
-    connector: MemConnector,
-    input: &[u8],
-) -> Result<Run, Fail> {
-    let Outside {
-        mut input,
-        mut out,
-        mut errors,
-        mut clock,
-        pause,
-    } = doubles(alloc, input)?;
+/// Whether the run ends like this.
+fn ends<R, S, L>(rt: R, case: Case, spawner: &mut S, places: &mut L) -> Result<bool, Fail>
+where
+    R: Abort + AllocGlobal + Wait + Copy + Drop,
+    S: Spawner<X509Job<MemConnector, NoPicker, NoRecorder, MemPause, StepWords, R>>,
+    S::Handle: Drop,
+    L: Places,
+{
+    let connector = connector_of(rt.alloc(), case.refusal)?;
+    let arguments = arguments(rt.alloc(), case.arguments).expect(&rt, "memory");
+    let (mut clock, pause, words) = (clock(&rt), pause(&rt), StepWords::new(0));
+    let (mut input, mut out, mut errors) = (
+        source(&rt, case.input),
+        sink(&rt, &[]),
+        sink(&rt, &[]),
+    );
     let status = gate_live(
         rt,
-        alloc,
-        arguments,
+        rt.alloc(),
+        arguments.as_slice(),
         connector,
         &mut clock,
         pause,
-        StepWords::new(0),
-        &mut InlineSpawner,
-        &mut BoardPlaces::new(),
+        words,
+        spawner,
+        places,
         &mut input,
         &mut out,
         &mut errors,
     );
-    Ok((status, out, errors))
+    let is_end = is_end(case, status, &out, &errors);
+    drop(arguments);
+    drop(clock);
+    drop(input);
+    drop(out);
+    drop(errors);
+    Ok(is_end)
 }
 
-/// A run without a supervisor.
-fn without_supervisor<R: Wait + Copy + Drop>(rt: R, alloc: Global) -> Result<Run, Fail> {
-    let Outside {
-        mut input,
-        mut out,
-        mut errors,
-        mut clock,
-        pause,
-    } = doubles(alloc, b"---\n")?;
-    let status = gate_live(
-        rt,
-        alloc,
-        &[],
-        good(alloc)?,
-        &mut clock,
-        pause,
-        StepWords::new(0),
-        &mut RefusingSpawner::new(),
-        &mut BoardPlaces::new(),
-        &mut input,
-        &mut out,
-        &mut errors,
-    );
-    Ok((status, out, errors))
-}
+/// A run that is asked nothing.
+const UNASKED: Case = Case {
+    arguments: &[],
+    refusal: None,
+    input: b"---\n",
+    status: 0,
+    out: "",
+    error: "",
+};
 
-/// A run without a place.
-fn without_place<R: Wait + Copy + Drop>(rt: R, alloc: Global) -> Result<Run, Fail> {
-    let Outside {
-        mut input,
-        mut out,
-        mut errors,
-        mut clock,
-        pause,
-    } = doubles(alloc, b"---\n")?;
-    let status = gate_live(
-        rt,
-        alloc,
-        &[],
-        good(alloc)?,
-        &mut clock,
-        pause,
-        StepWords::new(0),
-        &mut InlineSpawner,
-        &mut RefusingPlaces::new(),
-        &mut input,
-        &mut out,
-        &mut errors,
-    );
-    Ok((status, out, errors))
-}
+const ANSWERED: Case = Case {
+    input: b"---\nspiffe://example.org/w\nx",
+    out: "no-rule 0 spiffe://example.org/w\nbad-id 3\n",
+    ..UNASKED
+};
 
-/// Whether a run ended with this status and wrote these texts.
-fn ends(run: &Run, status: u8, out: &str, errors: &str) -> bool {
-    run.0 == status && run.1.bytes() == out.as_bytes() && run.2.bytes() == errors.as_bytes()
+const BROKEN_RULE: Case = Case {
+    input: b"allow it\n---\n",
+    status: 3,
+    error: "spf_gate: error 3\n",
+    ..UNASKED
+};
+
+const ARGUMENTS: Case = Case {
+    arguments: &["x"],
+    status: 9,
+    error: "spf_gate: bad words\n",
+    ..UNASKED
+};
+
+const REJECTED: Case = Case {
+    refusal: Some(GrpcStatusCode::InvalidArgument),
+    status: 11,
+    error: "spf_gate: source error 1\n",
+    ..UNASKED
+};
+
+const UNSUPPORTED: Case = Case {
+    refusal: Some(GrpcStatusCode::Unimplemented),
+    status: 12,
+    error: "spf_gate: source error 2\n",
+    ..UNASKED
+};
+
+const NO_SUPERVISOR: Case = Case {
+    status: 20,
+    error: "spf_gate: source error 10\n",
+    ..UNASKED
+};
+
+const NO_PLACE: Case = Case {
+    status: 21,
+    error: "spf_gate: source error 11\n",
+    ..UNASKED
+};
+
+/// Whether the run, whose job is done where it is joined, ends like this.
+fn ends_inline<R: Abort + AllocGlobal + Wait + Copy + Drop>(
+    rt: R,
+    case: Case,
+) -> Result<bool, Fail> {
+    ends(rt, case, &mut InlineSpawner, &mut BoardPlaces::new())
 }
 
 #[test]
 fn live_runs(rt: HostRuntime) -> Result<(), Fail> {
-    let alloc = rt.alloc();
-    let answered = run(
-        rt,
-        alloc,
-        &[],
-        good(alloc)?,
-        b"---\nspiffe://example.org/w\nx",
-    )?;
-    assert!(rt;
-        ends(
-            &answered,
-            0,
-            "no-rule 0 spiffe://example.org/w\nbad-id 3\n",
-            ""
-        )
-    );
-    let broken = run(rt, alloc, &[], good(alloc)?, b"allow it\n---\n")?;
-    assert!(rt; ends(&broken, 3, "", "spf_gate: error 3\n"));
-    let word = vec![in alloc; String::from_str(alloc, "x")?]?;
-    let arguments = run(rt, alloc, word.as_slice(), good(alloc)?, b"---\n")?;
-    assert!(rt; ends(&arguments, 9, "", "spf_gate: bad words\n"));
+    for &case in &[ANSWERED, BROKEN_RULE, ARGUMENTS] {
+        assert!(rt; ends_inline(rt, case)?, "{}", case.status);
+    }
     Ok(())
 }
 
 #[test]
 fn live_runs_without_a_source(rt: HostRuntime) -> Result<(), Fail> {
-    let alloc = rt.alloc();
-    let rejected = refusing(alloc, GrpcStatusCode::InvalidArgument)?;
-    let rejected = run(rt, alloc, &[], rejected, b"---\n")?;
-    assert!(rt; ends(&rejected, 11, "", "spf_gate: source error 1\n"));
-    let unsupported = refusing(alloc, GrpcStatusCode::Unimplemented)?;
-    let unsupported = run(rt, alloc, &[], unsupported, b"---\n")?;
-    assert!(rt; ends(&unsupported, 12, "", "spf_gate: source error 2\n"));
-    let supervisor = without_supervisor(rt, alloc)?;
-    assert!(rt; ends(&supervisor, 20, "", "spf_gate: source error 10\n"));
-    let place = without_place(rt, alloc)?;
-    assert!(rt; ends(&place, 21, "", "spf_gate: source error 11\n"));
+    assert!(rt; ends_inline(rt, REJECTED)?);
+    assert!(rt; ends_inline(rt, UNSUPPORTED)?);
+    let places = &mut BoardPlaces::new();
+    assert!(rt; ends(rt, NO_SUPERVISOR, &mut RefusingSpawner::new(), places)?);
+    let places = &mut RefusingPlaces::new();
+    assert!(rt; ends(rt, NO_PLACE, &mut InlineSpawner, places)?);
     Ok(())
 }

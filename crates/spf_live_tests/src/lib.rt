@@ -3,6 +3,8 @@
 #![tactic(auto)]
 
 #[cfg(test)]
+mod doubles;
+#[cfg(test)]
 mod gate_live;
 #[cfg(test)]
 mod live;

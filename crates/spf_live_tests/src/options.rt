@@ -1,21 +1,14 @@
 //! Arguments of a live run, each with what they set.
 
+use crate::doubles::arguments;
 use spf_feed::Ready;
-use spf_options::live_options;
+use spf_io::OutOfMemory;
+use spf_options::{LiveOptions, live_options};
 use std::alloc::Global;
 use std::test::Fail;
 
-/// The texts as arguments.
-fn arguments(alloc: Global, texts: &[&str]) -> Result<Vec<String>, Fail> {
-    let mut arguments = Vec::new(alloc);
-    for text in texts {
-        arguments.push(String::from_str(alloc, text)?)?;
-    }
-    Ok(arguments)
-}
-
 /// How many lines the arguments ask for.
-fn lines_of(alloc: Global, texts: &[&str]) -> Result<Option<u64>, Fail> {
+fn lines_of(alloc: Global, texts: &[&str]) -> Result<Option<u64>, OutOfMemory> {
     let arguments = arguments(alloc, texts)?;
     match live_options(arguments.as_slice()) {
         Some(options) => Ok(Some(options.lines)),
@@ -23,42 +16,49 @@ fn lines_of(alloc: Global, texts: &[&str]) -> Result<Option<u64>, Fail> {
     }
 }
 
+const NUMBERS: &[(&[&str], Option<u64>)] = &[
+    (&[], Some(1)),
+    (&["--lines", "3"], Some(3)),
+    (&["--lines", "0"], None),
+    (&["--lines", "03"], None),
+    (&["--lines"], None),
+    (&["--lines", "1", "--lines", "1"], None),
+    (&["--deadline", "1"], None),
+];
+
 #[test]
 fn numbers_of_lines(rt: HostRuntime) -> Result<(), Fail> {
-    let alloc = rt.alloc();
-    assert!(rt; lines_of(alloc, &[])? == Some(1));
-    assert!(rt; lines_of(alloc, &["--lines", "3"])? == Some(3));
-    assert!(rt; lines_of(alloc, &["--lines", "0"])? == None);
-    assert!(rt; lines_of(alloc, &["--lines", "03"])? == None);
-    assert!(rt; lines_of(alloc, &["--lines"])? == None);
-    assert!(rt; lines_of(alloc, &["--lines", "1", "--lines", "1"])? == None);
-    assert!(rt; lines_of(alloc, &["--deadline", "1"])? == None);
+    for &(texts, lines) in NUMBERS {
+        assert!(rt; lines_of(rt.alloc(), texts)? == lines, "{texts:?}");
+    }
     Ok(())
+}
+
+const EVERY: &[&str] = &[
+    "--ready",
+    "any",
+    "--max-svids",
+    "none",
+    "--timeout",
+    "5",
+    "--hint",
+    "a",
+];
+
+/// Whether the options are those that are set in `EVERY`.
+fn is_every(options: &LiveOptions<'_>) -> bool {
+    options.ready == Ready::Any
+        && options.limits.max_svids == None
+        && options.limits.max_bundles == Some(200)
+        && options.timeout == Some(5)
+        && options.hint == Some("a")
 }
 
 #[test]
 fn every_option(rt: HostRuntime) -> Result<(), Fail> {
-    let arguments = arguments(
-        rt.alloc(),
-        &[
-            "--ready",
-            "any",
-            "--max-svids",
-            "none",
-            "--timeout",
-            "5",
-            "--hint",
-            "a",
-        ],
-    )?;
+    let arguments = arguments(rt.alloc(), EVERY)?;
     match live_options(arguments.as_slice()) {
-        Some(options) => {
-            assert!(rt; options.ready == Ready::Any);
-            assert!(rt; options.limits.max_svids == None);
-            assert!(rt; options.limits.max_bundles == Some(200));
-            assert!(rt; options.timeout == Some(5));
-            assert!(rt; options.hint == Some("a"));
-        }
+        Some(options) => assert!(rt; is_every(&options)),
         None => assert!(rt; false),
     }
     Ok(())

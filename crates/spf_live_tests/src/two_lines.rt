@@ -1,21 +1,23 @@
 //! A live run over an agent on a socket, whose second line comes while its supervisor waits.
 
-use crate::live::{Wanted, arguments, is_so};
-use spf_agent::{Agent, FixedClock, Scene};
+use crate::doubles::{arguments, sink};
+use crate::live::{Wanted, is_so};
+use spf_agent::{Agent, FixedClock, Marks, Scene, is_set_soon};
 use spf_io::{Failed, MemSink, OutOfMemory, Sink, Text};
 use spf_job::StepWords;
 use spf_live::{HostConnector, watch_connector_on_threads};
-use spf_system::StopFlag;
+use std::mem::drop;
 use std::sync::Wait;
 use std::test::Fail;
 use std::thread::Threads;
 use std::time::Clock;
 
-/// A sink that lets an agent go on once a line was put.
+/// A sink that lets an agent go on once a line was put and the agent waits for it.
 #[derive(Drop)]
 struct Lines<'s> {
     sink: &'s mut MemSink,
-    go: StopFlag,
+    marks: Marks,
+    host: HostRuntime,
 }
 
 impl<'s> Sink for Lines<'s> {
@@ -27,7 +29,9 @@ impl<'s> Sink for Lines<'s> {
 
     fn put(&mut self, piece: &[u8]) -> Result<(), Failed> {
         let put = self.sink.put(piece);
-        self.go.set();
+        if is_set_soon(self.host, &self.marks.reached) {
+            self.marks.go.set();
+        }
         put
     }
 }
@@ -53,7 +57,7 @@ fn status_of<R: Threads + Wait + Clock + Copy + Drop + Send + 'static>(
     let alloc = host.alloc();
     let path = agent.path();
     let endpoint = format!(in alloc; "unix:{path}")?;
-    let go = agent.marks().go.try_clone()?;
+    let marks = agent.marks().try_clone()?;
     Ok(watch_connector_on_threads(
         host,
         rt,
@@ -61,7 +65,7 @@ fn status_of<R: Threads + Wait + Clock + Copy + Drop + Send + 'static>(
         HostConnector::to(host, alloc, Text::new(endpoint)),
         &mut FixedClock,
         StepWords::new(0),
-        &mut Lines { sink, go },
+        &mut Lines { sink, marks, host },
         errors,
     ))
 }
@@ -69,13 +73,16 @@ fn status_of<R: Threads + Wait + Clock + Copy + Drop + Send + 'static>(
 /// The row watch-live, with two lines.
 #[test]
 fn two_lines(rt: HostRuntime) -> Result<(), Fail> {
-    let alloc = rt.alloc();
-    let arguments = arguments(alloc, &["--lines", "2"])?;
-    let mut out = MemSink::new(alloc, 4096, Vec::new(alloc))?;
-    let mut errors = MemSink::new(alloc, 64, Vec::new(alloc))?;
     let agent = Agent::start(rt, &rt, "two_lines", &SCENES)?;
+    let arguments = arguments(rt.alloc(), &["--lines", "2"]).expect(&rt, "memory");
+    let (mut out, mut errors) = (sink(&rt, &[]), sink(&rt, &[]));
     let status = status_of(rt, rt, arguments.as_slice(), &agent, &mut out, &mut errors);
+    drop(arguments);
     agent.end(rt, &rt)?;
-    assert!(rt; is_so(alloc, status?, &out, &errors, &TWO_LINES)?);
+    let status = status.expect(&rt, "a run");
+    let is_so = is_so(rt.alloc(), status, &out, &errors, TWO_LINES);
+    drop(out);
+    drop(errors);
+    assert!(rt; is_so?);
     Ok(())
 }

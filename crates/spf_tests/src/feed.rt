@@ -10,9 +10,11 @@ use spf_feed::{
     PickFunction, Ready, ResourceLimits, Step, SvidPicker, follow_x509,
 };
 use spf_fixtures::{is_written, octets};
-use spf_io::{MemSink, MemSource, Text};
+use spf_io::{MemSink, MemSource, OutOfMemory, Text};
 use spf_x509::X509Svid;
 use std::alloc::Global;
+use std::mem::drop;
+use std::process::Abort;
 use std::sync::Arc;
 use std::test::Fail;
 
@@ -59,7 +61,7 @@ fn follow<C: SvidPicker>(
 }
 
 /// The steps, with a word for each.
-fn words_of(alloc: Global, steps: &[Step]) -> Result<String, Fail> {
+fn words_of(alloc: Global, steps: &[Step]) -> Result<String, OutOfMemory> {
     let mut words = String::new(alloc);
     for step in steps {
         words.push_str(match step {
@@ -83,17 +85,30 @@ fn text_of(
     Ok(format!(in alloc; "{lines}{answer}{steps} {records:?}")?)
 }
 
+fn sink(rt: &impl Abort, alloc: Global) -> MemSink {
+    MemSink::new(alloc, 65536, Vec::new(alloc)).expect(rt, "a sink")
+}
+
+/// A publisher that refuses the step of that number, where one is given.
+fn publisher_of(alloc: Global, refused: Option<u64>) -> MemPublisher {
+    match refused {
+        Some(number) => MemPublisher::refusing(alloc, number),
+        None => MemPublisher::new(alloc),
+    }
+}
+
 /// What a run leaves.
 fn left_by<C: SvidPicker>(
+    rt: &impl Abort,
     alloc: Global,
-    frames: &str,
-    mut publisher: MemPublisher,
+    frames: Vec<u8>,
+    refused: Option<u64>,
     picker: Option<&C>,
 ) -> Result<String, Fail>
     requires { ForSome picker (λ p. C.can_pick p.now) }
 {
-    let frames = octets(alloc, frames)?;
-    let mut sink = MemSink::new(alloc, 65536, Vec::new(alloc))?;
+    let mut sink = sink(rt, alloc);
+    let mut publisher = publisher_of(alloc, refused);
     let mut recorder = MemRecorder::new(alloc);
     let answer = follow(
         alloc,
@@ -103,27 +118,27 @@ fn left_by<C: SvidPicker>(
         &mut recorder,
         picker,
     );
-    text_of(
-        alloc,
-        sink.bytes(),
-        answer,
-        publisher.steps(),
-        recorder.records(),
-    )
+    let (steps, records) = (publisher.steps(), recorder.records());
+    let left = text_of(alloc, sink.bytes(), answer, steps, records);
+    drop(sink);
+    drop(publisher);
+    drop(recorder);
+    left
 }
 
-/// Whether a run of these frames leaves this.
+/// Whether a run of these frames leaves this, with a publisher that refuses the step of that number.
 fn leaves<C: SvidPicker>(
-    alloc: Global,
+    rt: &(impl Abort + AllocGlobal),
     frames: &str,
-    publisher: MemPublisher,
+    refused: Option<u64>,
     picker: Option<&C>,
     expected: &str,
 ) -> Result<bool, Fail>
     requires { ForSome picker (λ p. C.can_pick p.now) }
 {
-    let left = left_by(alloc, frames, publisher, picker)?;
-    is_written(alloc, left, expected)
+    let frames = octets(rt.alloc(), frames)?;
+    let left = left_by(rt, rt.alloc(), frames, refused, picker)?;
+    is_written(rt.alloc(), left, expected)
 }
 
 /// A name, the frames, and what a run leaves.
@@ -225,11 +240,9 @@ static SESSIONS: [(&str, &str, &str); 16] = [
 
 #[test]
 fn sessions(rt: HostRuntime) -> Result<(), Fail> {
-    let alloc = rt.alloc();
     for (name, frames, expected) in SESSIONS.iter() {
-        let publisher = MemPublisher::new(alloc);
         assert!(rt;
-            leaves::<NoPicker>(alloc, frames, publisher, None, expected)?,
+            leaves::<NoPicker>(&rt, frames, None, None, expected)?,
             "{name}"
         );
     }
@@ -239,13 +252,11 @@ fn sessions(rt: HostRuntime) -> Result<(), Fail> {
 /// Out of memory at the second step: the lines of the events before it stand, and the first step.
 #[test]
 fn refusing_publisher(rt: HostRuntime) -> Result<(), Fail> {
-    let alloc = rt.alloc();
     let left =
         "1 waiting\n2 waiting\n3 waiting\n4 0 permitted P1\n5 0 permitted P1\n6 0 permitted P1\n\
          out of memory accept []";
     let frames = "M999 CM CN I1 CM CN IS7no CM CN BADKEY CM CN IS14x CM CN I1";
-    let publisher = MemPublisher::refusing(alloc, 2);
-    assert!(rt; leaves::<NoPicker>(alloc, frames, publisher, None, left)?);
+    assert!(rt; leaves::<NoPicker>(&rt, frames, Some(2), None, left)?);
     Ok(())
 }
 
@@ -259,21 +270,26 @@ impl PickFunction for OnlyOne {
 }
 
 /// Whether a run with a picker of the hint leaves this.
-fn hint_leaves(alloc: Global, frames: &str, expected: &str) -> Result<bool, Fail> {
-    let picker = HintPicker::new(Text::copy_of(alloc, "internal")?);
-    let publisher = MemPublisher::new(alloc);
-    leaves(alloc, frames, publisher, Some(&picker), expected)
+fn hint_leaves(
+    rt: &(impl Abort + AllocGlobal),
+    frames: &str,
+    expected: &str,
+) -> Result<bool, Fail> {
+    let hint = Text::copy_of(rt.alloc(), "internal").expect(rt, "memory");
+    let picker = HintPicker::new(hint);
+    let leaves = leaves(rt, frames, None, Some(&picker), expected);
+    drop(picker);
+    leaves
 }
 
 /// A picker that picks none later on, and one whose index is then out of range.
 #[test]
 fn pickers(rt: HostRuntime) -> Result<(), Fail> {
-    let alloc = rt.alloc();
     let frames = "M999 CM CN HINT1 CM CN HINT2";
     let left =
         "1 waiting\n2 waiting\n3 waiting\n4 0 permitted P1\n5 0 permitted P1\n6 0 permitted P1\n\
          7 1 permitted - - - example.org=ROOT2\nok accept accept [Update]";
-    assert!(rt; hint_leaves(alloc, frames, left)?, "hint-picker");
+    assert!(rt; hint_leaves(&rt, frames, left)?, "hint-picker");
     let picker = FnPicker::<_, OnlyOne>::new(|svids: &[Arc<X509Svid>]| Some(if svids.len() == 1 {
         0
     } else {
@@ -283,9 +299,8 @@ fn pickers(rt: HostRuntime) -> Result<(), Fail> {
     let left =
         "1 waiting\n2 waiting\n3 waiting\n4 0 permitted P1\n5 0 permitted P1\n6 0 permitted P1\n\
          7 1 permitted - - - example.org=ROOT1,ROOT2\nok accept accept [Update]";
-    let publisher = MemPublisher::new(alloc);
     assert!(rt;
-        leaves(alloc, frames, publisher, Some(&picker), left)?,
+        leaves(&rt, frames, None, Some(&picker), left)?,
         "picker-out-of-range"
     );
     Ok(())

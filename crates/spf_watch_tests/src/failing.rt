@@ -1,9 +1,10 @@
 //! Reads and puts that fail.
 
 use crate::rows::ROWS;
-use crate::running::{Outcome, run, slow_source, source_of};
+use crate::running::{run, slow_source, source_of};
 use spf_fixtures::{octets, written_out};
 use std::alloc::Global;
+use std::mem::drop;
 use std::process::Abort;
 use std::test::Fail;
 
@@ -30,72 +31,75 @@ fn whole_frames(octets: &[u8]) -> usize {
 }
 
 /// The first lines of a text.
-fn first_lines(alloc: Global, text: &str, count: usize) -> Result<String, Fail> {
-    let mut lines = String::new(alloc);
+fn first_lines(text: &str, count: usize) -> &str {
+    let mut length = 0usize;
     for line in text.lines().take(count) {
-        lines.push_str(line)?;
-        lines.push_str("\n")?;
+        length = length.saturating_add(line.len()).saturating_add(1);
     }
-    Ok(lines)
+    match text.get(..length) {
+        Some(lines) => lines,
+        None => text,
+    }
 }
 
-/// Asserts that a run wrote these lines, and then failed with this status and error.
-fn assert_failed(
-    rt: &(impl Abort + AllocGlobal),
-    ran: &Outcome,
-    lines: &str,
-    status: u8,
-    error: &str,
-    at: usize,
-) {
-    assert_eq!(rt; str::from_utf8(ran.out.bytes()), Ok(lines), "at {at}");
-    assert_eq!(rt; ran.status, status, "at {at}");
-    assert_eq!(rt; str::from_utf8(ran.errors.bytes()), Ok(error), "at {at}");
+/// The first octets, or all where there are fewer.
+fn front(octets: &[u8], count: usize) -> &[u8] {
+    match octets.get(..count) {
+        Some(front) => front,
+        None => octets,
+    }
+}
+
+/// Whether the row first-session, read octet by octet, fails at that read after the lines of the
+/// frames that were whole.
+fn fails_at_read(rt: &(impl Abort + AllocGlobal), lines: &str, taken: usize) -> Result<bool, Fail> {
+    let (_, arguments, frames, _, _, _) = ROWS[0];
+    let session = octets(rt.alloc(), frames)?;
+    let count = whole_frames(front(session.as_slice(), taken));
+    let ran = run(
+        rt,
+        arguments,
+        slow_source(rt, session, &[(taken as u64).saturating_add(1)]),
+        &[],
+    );
+    let fails = ran.is(first_lines(lines, count), 3, "spiffe_watch: read failed\n");
+    drop(ran);
+    Ok(fails)
+}
+
+/// How many octets the row first-session has.
+fn first_length(alloc: Global) -> Result<usize, Fail> {
+    let session = octets(alloc, ROWS[0].2)?;
+    Ok(session.len())
 }
 
 /// The bytes of the row first-session one by one, where each read in turn fails. The lines of the
 /// frames that were whole are there.
 #[test]
 fn failing_reads(rt: HostRuntime) -> Result<(), Fail> {
-    let alloc = rt.alloc();
-    let (_, arguments, frames, lines, _, _) = ROWS[0];
-    let session = octets(alloc, frames)?;
-    let lines = written_out(alloc, lines)?;
-    for taken in 0..session.len() {
-        let failing = vec![in alloc; taken as u64 + 1]?;
-        let source = slow_source(alloc, octets(alloc, frames)?, failing)?;
-        let ran = run(alloc, arguments, source, Vec::new(alloc))?;
-        let wanted = first_lines(alloc, lines.as_str(), whole_frames(&session[..taken]))?;
-        assert_failed(
-            &rt,
-            &ran,
-            wanted.as_str(),
-            3,
-            "spiffe_watch: read failed\n",
-            taken,
-        );
+    let lines = written_out(rt.alloc(), ROWS[0].3)?;
+    for taken in 0..first_length(rt.alloc())? {
+        assert!(rt; fails_at_read(&rt, lines.as_str(), taken)?, "at {taken}");
     }
     Ok(())
+}
+
+/// Whether the row first-session fails at the put after that many, whose lines are there.
+fn fails_at_put(rt: &(impl Abort + AllocGlobal), lines: &str, put: usize) -> Result<bool, Fail> {
+    let (_, arguments, frames, _, _, _) = ROWS[0];
+    let source = source_of(rt.alloc(), octets(rt.alloc(), frames)?);
+    let ran = run(rt, arguments, source, &[(put as u64).saturating_add(1)]);
+    let fails = ran.is(first_lines(lines, put), 4, "spiffe_watch: write failed\n");
+    drop(ran);
+    Ok(fails)
 }
 
 /// The row first-session, where each put in turn fails. The lines before it are there.
 #[test]
 fn failing_puts(rt: HostRuntime) -> Result<(), Fail> {
-    let alloc = rt.alloc();
-    let (_, arguments, frames, lines, _, _) = ROWS[0];
-    let lines = written_out(alloc, lines)?;
+    let lines = written_out(rt.alloc(), ROWS[0].3)?;
     for put in 0..5 {
-        let source = source_of(alloc, octets(alloc, frames)?);
-        let ran = run(alloc, arguments, source, vec![in alloc; put as u64 + 1]?)?;
-        let wanted = first_lines(alloc, lines.as_str(), put)?;
-        assert_failed(
-            &rt,
-            &ran,
-            wanted.as_str(),
-            4,
-            "spiffe_watch: write failed\n",
-            put,
-        );
+        assert!(rt; fails_at_put(&rt, lines.as_str(), put)?, "at {put}");
     }
     Ok(())
 }
@@ -103,9 +107,8 @@ fn failing_puts(rt: HostRuntime) -> Result<(), Fail> {
 /// After a bad kind nothing is read: the failing read after it is not reached.
 #[test]
 fn bad_kind_before_a_failing_read(rt: HostRuntime) -> Result<(), Fail> {
-    let alloc = rt.alloc();
-    let source = slow_source(alloc, octets(alloc, "0a00000000")?, vec![in alloc; 2]?)?;
-    let ran = run(alloc, "x509", source, Vec::new(alloc))?;
-    assert_failed(&rt, &ran, "", 6, "spiffe_watch: bad frame 1\n", 1);
+    let source = slow_source(&rt, octets(rt.alloc(), "0a00000000")?, &[2]);
+    let ran = run(&rt, "x509", source, &[]);
+    assert!(rt; ran.is("", 6, "spiffe_watch: bad frame 1\n"));
     Ok(())
 }
