@@ -2,11 +2,13 @@
 
 use spf_api::{LinkFault, Response};
 use spf_fixtures::octets;
-use spf_io::{MemSink, MemSource, Text};
+use spf_io::{MemSink, MemSource, OutOfMemory, Text};
 use spf_link::{Headers, Link, Request};
 use spf_responses::first_item;
 use spf_wire::WireLink;
 use std::alloc::Global;
+use std::mem::drop;
+use std::process::Abort;
 use std::test::Fail;
 
 /// What a link over memory reads, `s` for each `start` and
@@ -84,112 +86,209 @@ fn next_name(next: &Result<Option<Response>, LinkFault>) -> &'static str {
     }
 }
 
+/// A source that gives its first octets one at a time, and whose listed reads fail.
 fn source_of(
-    alloc: Global,
+    rt: &(impl Abort + AllocGlobal),
     text: &str,
-    cuts: Vec<usize>,
-    failing: Vec<u64>,
+    single: usize,
+    failing: &[u64],
 ) -> Result<MemSource, Fail> {
-    Ok(MemSource::new(octets(alloc, text)?, cuts, failing))
+    let octets = octets(rt.alloc(), text)?;
+    let cuts = vec![in rt.alloc(); 1usize; single].expect(rt, "memory");
+    let failing = Vec::from_slice(rt.alloc(), failing).expect(rt, "memory");
+    Ok(MemSource::new(octets, cuts, failing))
 }
 
-/// What one call returns.
-fn call_name(link: &mut WireLink<MemSource, MemSink>, headers: &Headers, call: u8) -> &'static str {
-    if call == b's' {
-        return start_name(&link.start(headers, &Request::X509Svid));
-    }
-    next_name(&link.next())
+/// A sink with that much room, whose listed puts fail.
+fn sink(rt: &(impl Abort + AllocGlobal), room: usize, failing: &[u64]) -> MemSink {
+    let failing = Vec::from_slice(rt.alloc(), failing).expect(rt, "memory");
+    MemSink::new(rt.alloc(), room, failing).expect(rt, "a sink")
 }
 
-/// What the calls return, one after another, over a source that gives its octets in these cuts.
-fn names(alloc: Global, source: MemSource, calls: &str) -> Result<String, Fail> {
-    let sink = MemSink::new(alloc, 100, Vec::new(alloc))?;
-    let mut link = WireLink::new(alloc, source, sink);
-    let headers = Headers::new(alloc);
-    let mut names = String::new(alloc);
+type MemWire = WireLink<MemSource, MemSink>;
+
+/// The name of what a start returns.
+fn started(link: &mut MemWire, headers: &Headers) -> &'static str {
+    let answer = link.start(headers, &Request::X509Svid);
+    let name = start_name(&answer);
+    drop(answer);
+    name
+}
+
+/// The name of what the next answer is.
+fn next(link: &mut MemWire) -> &'static str {
+    let answer = link.next();
+    let name = next_name(&answer);
+    drop(answer);
+    name
+}
+
+/// Appends what a call returns.
+fn push_call(
+    names: &mut String,
+    link: &mut MemWire,
+    headers: &Headers,
+    call: u8,
+) -> Result<(), OutOfMemory> {
+    names.push_str(if call == b's' {
+        started(link, headers)
+    } else {
+        next(link)
+    })?;
+    names.push(' ')?;
+    Ok(())
+}
+
+/// What the calls return, one after another.
+fn names(rt: &(impl Abort + AllocGlobal), source: MemSource, calls: &str) -> String {
+    let mut link = WireLink::new(rt.alloc(), source, sink(rt, 100, &[]));
+    let headers = Headers::new(rt.alloc());
+    let mut names = String::new(rt.alloc());
     for call in calls.as_bytes() {
-        names.push_str(call_name(&mut link, &headers, *call))?;
-        names.push_str(" ")?;
+        push_call(&mut names, &mut link, &headers, *call).expect(rt, "memory");
     }
-    Ok(names)
+    drop(headers);
+    drop(link);
+    names
+}
+
+/// Whether the calls return this over a source that gives its first octets one at a time, and whose
+/// listed reads fail.
+fn is_answered(
+    rt: &(impl Abort + AllocGlobal),
+    row: (&str, &str, &str),
+    single: usize,
+    failing: &[u64],
+) -> Result<bool, Fail> {
+    let (text, calls, wanted) = row;
+    let source = source_of(rt, text, single, failing)?;
+    let names = names(rt, source, calls);
+    let is_answered = names.as_str() == wanted;
+    drop(names);
+    Ok(is_answered)
 }
 
 #[test]
 fn answers(rt: HostRuntime) -> Result<(), Fail> {
-    let alloc = rt.alloc();
-    for (text, calls, wanted) in CALLS.iter() {
-        let source = source_of(alloc, text, Vec::new(alloc), Vec::new(alloc))?;
-        assert!(rt; names(alloc, source, calls)?.as_str() == *wanted, "{text}");
+    for &row in CALLS.iter() {
+        assert!(rt; is_answered(&rt, row, 0, &[])?, "{}", row.0);
         // One octet at a time.
-        let source = source_of(alloc, text, vec![in alloc; 1usize; 600]?, Vec::new(alloc))?;
-        assert!(rt; names(alloc, source, calls)?.as_str() == *wanted, "{text}");
+        assert!(rt; is_answered(&rt, row, 600, &[])?, "{}", row.0);
     }
     Ok(())
 }
 
+/// Whether the link has put these octets.
+fn has_put(alloc: Global, link: &MemWire, wanted: &str) -> Result<bool, Fail> {
+    let wanted = octets(alloc, wanted)?;
+    Ok(link.sink().bytes() == wanted.as_slice())
+}
+
+/// Whether the next answer is the first item.
+fn gives_first_item(alloc: Global, link: &mut MemWire) -> Result<bool, Fail> {
+    let item = Response::Context(first_item(alloc)?);
+    let answer = link.next();
+    let is_first = match &answer {
+        Ok(Some(response)) => *response == item,
+        _ => false,
+    };
+    drop(answer);
+    drop(item);
+    Ok(is_first)
+}
+
+/// Whether a start puts its request, and the item and the end come after it.
+fn is_played(alloc: Global, link: &mut MemWire) -> Result<bool, Fail> {
+    let headers = Headers::new(alloc);
+    let name = started(link, &headers);
+    drop(headers);
+    Ok(
+        name == "started"
+            && has_put(alloc, link, "110000000400000000")?
+            && gives_first_item(alloc, link)?
+            && next(link) == "end",
+    )
+}
+
 #[test]
 fn wire_link(rt: HostRuntime) -> Result<(), Fail> {
-    let alloc = rt.alloc();
-    let source = source_of(alloc, "CN I1 07 00000000", Vec::new(alloc), Vec::new(alloc))?;
-    let sink = MemSink::new(alloc, 9, Vec::new(alloc))?;
-    let mut link = WireLink::new(alloc, source, sink);
-    assert!(rt; link.start(&Headers::new(alloc), &Request::X509Svid).is_ok());
-    assert!(rt; link.sink().bytes() == octets(alloc, "110000000400000000")?.as_slice());
-    let item = Response::Context(first_item(alloc)?);
-    assert!(rt; link.next() == Ok(Some(item)));
-    assert!(rt; link.next() == Ok(None));
-    let failing = source_of(alloc, "CN", Vec::new(alloc), vec![in alloc; 1]?)?;
-    assert!(rt; names(alloc, failing, "s")?.as_str() == "unavailable ");
+    let source = source_of(&rt, "CN I1 07 00000000", 0, &[])?;
+    let mut link = WireLink::new(rt.alloc(), source, sink(&rt, 9, &[]));
+    let is_played = is_played(rt.alloc(), &mut link);
+    drop(link);
+    assert!(rt; is_played?);
+    assert!(rt; is_answered(&rt, ("CN", "s", "unavailable "), 0, &[1])?);
     Ok(())
 }
 
-/// The octets that a start puts.
-fn put_by(
-    alloc: Global,
+/// Whether a start puts these octets.
+fn puts(
+    rt: &(impl Abort + AllocGlobal),
     headers: &Headers,
     request: &Request,
-) -> Result<WireLink<MemSource, MemSink>, Fail> {
-    let source = source_of(alloc, "CN", Vec::new(alloc), Vec::new(alloc))?;
-    let mut link = WireLink::new(alloc, source, MemSink::new(alloc, 200, Vec::new(alloc))?);
-    match link.start(headers, request) {
-        Ok(()) => Ok(link),
-        Err(_) => Err(Fail::from("refused")),
+    wanted: &str,
+) -> Result<bool, Fail> {
+    let source = source_of(rt, "CN", 0, &[])?;
+    let mut link = WireLink::new(rt.alloc(), source, sink(rt, 200, &[]));
+    let answer = link.start(headers, request);
+    let name = start_name(&answer);
+    drop(answer);
+    let has_put = has_put(rt.alloc(), &link, wanted);
+    drop(link);
+    let has_put = has_put?;
+    Ok(name == "started" && has_put)
+}
+
+/// The headers of a request with that one.
+fn one_header(rt: &(impl Abort + AllocGlobal), name: &str, value: &str) -> Headers {
+    let mut headers = Headers::new(rt.alloc());
+    headers.set(name, value).expect(rt, "memory");
+    headers
+}
+
+/// The request that validates the token `t` for the audience `a`.
+fn validation(rt: &(impl Abort + AllocGlobal)) -> Request {
+    Request::ValidateJwt {
+        audience: Text::copy_of(rt.alloc(), "a").expect(rt, "memory"),
+        svid: Text::copy_of(rt.alloc(), "t").expect(rt, "memory"),
     }
 }
 
 #[test]
 fn requests(rt: HostRuntime) -> Result<(), Fail> {
-    let alloc = rt.alloc();
-    let mut headers = Headers::new(alloc);
-    headers.set("a", "bc")?;
-    let link = put_by(alloc, &headers, &Request::X509Bundles)?;
-    let wanted = octets(alloc, "12 0000000f 00000001 00000001 61 00000002 6263")?;
-    assert!(rt; link.sink().bytes() == wanted.as_slice());
-    let request = Request::ValidateJwt {
-        audience: Text::copy_of(alloc, "a")?,
-        svid: Text::copy_of(alloc, "t")?,
-    };
-    let link = put_by(alloc, &Headers::new(alloc), &request)?;
-    let wanted = octets(alloc, "15 0000000e 00000000 00000001 61 00000001 74")?;
-    assert!(rt; link.sink().bytes() == wanted.as_slice());
+    let headers = one_header(&rt, "a", "bc");
+    let wanted = "12 0000000f 00000001 00000001 61 00000002 6263";
+    let bundles = puts(&rt, &headers, &Request::X509Bundles, wanted);
+    drop(headers);
+    assert!(rt; bundles?);
+    let (headers, request) = (Headers::new(rt.alloc()), validation(&rt));
+    let wanted = "15 0000000e 00000000 00000001 61 00000001 74";
+    let validation = puts(&rt, &headers, &request, wanted);
+    drop(headers);
+    drop(request);
+    assert!(rt; validation?);
     Ok(())
+}
+
+/// A value that is too long for a request.
+fn set_too_long(rt: &(impl Abort + AllocGlobal), headers: &mut Headers) {
+    let value = "a".repeat(rt.alloc(), 1 << 24).expect(rt, "memory");
+    headers.set("long", value.as_str()).expect(rt, "memory");
+    drop(value);
 }
 
 #[test]
 fn refused_before_it_is_read(rt: HostRuntime) -> Result<(), Fail> {
-    let alloc = rt.alloc();
-    let mut headers = Headers::new(alloc);
-    let source = source_of(alloc, "CN", Vec::new(alloc), Vec::new(alloc))?;
-    let sink = MemSink::new(alloc, 100, vec![in alloc; 1]?)?;
-    let mut link = WireLink::new(alloc, source, sink);
-    let first = link.start(&headers, &Request::X509Svid);
-    assert!(rt; start_name(&first) == "unavailable");
-    let long = String::from_utf8(vec![in alloc; b'a'; 1 << 24]?)?;
-    headers.set("long", long.as_str())?;
-    let second = link.start(&headers, &Request::X509Svid);
-    assert!(rt; start_name(&second) == "resource_exhausted");
+    let source = source_of(&rt, "CN", 0, &[])?;
+    let mut link = WireLink::new(rt.alloc(), source, sink(&rt, 100, &[1]));
+    let mut headers = Headers::new(rt.alloc());
+    assert!(rt; started(&mut link, &headers) == "unavailable");
+    set_too_long(&rt, &mut headers);
+    assert!(rt; started(&mut link, &headers) == "resource_exhausted");
     assert!(rt; link.sink().bytes().is_empty());
-    headers.set("long", "short")?;
-    assert!(rt; link.start(&headers, &Request::X509Svid).is_ok());
+    headers.set("long", "short").expect(&rt, "memory");
+    assert!(rt; started(&mut link, &headers) == "started");
+    drop(headers);
+    drop(link);
     Ok(())
 }
