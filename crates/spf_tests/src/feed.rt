@@ -126,7 +126,7 @@ fn left_by<C: SvidPicker>(
     left
 }
 
-/// Whether a run of these frames leaves this, with a publisher that refuses the step of that number.
+/// Whether a run of these frames leaves this, where the publisher may refuse the step of a number.
 fn leaves<C: SvidPicker>(
     rt: &(impl Abort + AllocGlobal),
     frames: &str,
