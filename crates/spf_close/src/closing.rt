@@ -64,6 +64,23 @@ impl Closing {
     }
 }
 
+/// What closes the source of the closer.
+pub fn closing_of(
+    alloc: Global,
+    closer: &mut Closer,
+    stop: &StopFlag,
+    bell: &Bell,
+) -> Result<Closing, OutOfMemory>
+    requires { closer.old.maker ≡ makers.Caller }
+    ensures unchanged { closer.new ≡ closer.old }
+    ensures closing { IfOk result (λ c. c ≡ closer.old.cell) }
+{
+    let another = closer.another(alloc)?;
+    let stop = stop.try_clone()?;
+    let bell = bell.try_clone()?;
+    Ok(Closing::new(another, stop, bell))
+}
+
 /// Closes a source once no handle of it is left.
 pub struct LastHandle {
     closing: Closing,

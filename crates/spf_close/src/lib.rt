@@ -5,10 +5,12 @@
 
 mod bell;
 mod cell;
+mod cells;
 mod closing;
 mod maker;
 
 pub use bell::Bell;
 pub use cell::{Closed, Closer, Watch, closed_cell};
-pub use closing::{Closing, LastHandle};
+pub use cells::{Cells, JobCells, SourceCells, open_cells};
+pub use closing::{Closing, LastHandle, closing_of};
 pub use maker::Maker;

@@ -7,7 +7,7 @@ use Rattle.spf_jwt_feed.specs.declared.state.JwtSourceError.TheVariants as error
 use Rattle.spf_jwt_feed.specs.States.{StateView}
 use Rattle.spf_jwt_feed.specs.Steps.{PlainStep}
 use Rattle.spf_jwt_board.specs.Steps.{Legal, Replays}
-use Rattle.spf_pass.specs.Showing.{Showing, Told, ToldClosed, ToldMemory, ToldOther}
+use Rattle.spf_pass.specs.Showing.{Showing, Told, ToldClosed, ToldMemory, ToldNoPlace, ToldOther}
 
 -- the state is the replay of the steps of a legal board list, and says whether the source is closed
 pub record IsStateOf (list : List (Entry PlainStep)) (closed : Bool) (s : StateView) : Type 0 where
@@ -18,6 +18,7 @@ pub record IsStateOf (list : List (Entry PlainStep)) (closed : Bool) (s : StateV
 abbrev pub told : JwtSourceError → Told
 told errors.Closed = ToldClosed
 told errors.OutOfMemory = ToldMemory
+told errors.NoPlace = ToldNoPlace
 told _ = ToldOther
 
 -- what the states and the errors of sources of JWT bundles say
@@ -27,4 +28,5 @@ showing = record {
   closed_of = λ s. s.closed;
   revision_of = λ s. s.revision;
   told = told;
+  timed_out = errors.ShutdownTimeout;
 }

@@ -90,6 +90,14 @@ impl Shows for Jwt {
         JwtSourceError::OutOfMemory
     }
 
+    fn no_place() -> JwtSourceError {
+        JwtSourceError::NoPlace
+    }
+
+    fn timed_out(started: i64, ended: i64) -> JwtSourceError {
+        JwtSourceError::ShutdownTimeout { started, ended }
+    }
+
     fn write_name<W: fmt::Write>(f: &mut fmt::Formatter<W>) -> fmt::Result {
         write!(f, "JwtSourceUpdates")
     }

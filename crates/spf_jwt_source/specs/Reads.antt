@@ -1,11 +1,10 @@
 -- What the calls of a source return, and what they do to the pass that they are lent.
-use Rattle.std.specs.Prelude.{◌≡◌, ◌≢◌, ◌⊎◌, ◌≤◌, ℕ, Bool, List, Option, Some, None}
+use Rattle.std.specs.Prelude.{◌≡◌, ◌≢◌, ◌⊎◌, ℕ, Bool, List, Option, Some, None}
 use Rattle.std.specs.Prelude.{Result, Ok, Err}
 use Rattle.std.specs.Option.{option_map, option_and_then}
 use Rattle.std.specs.Arc.{arc_value}
 use Rattle.std.specs.declared.alloc.Global.{Global}
 use Rattle.std.specs.declared.sync.Arc.{Arc}
-use Rattle.spf_io.specs.Outside.{Rose}
 use Rattle.spf_io.specs.declared.memory.OutOfMemory.{OutOfMemory}
 use Rattle.spf_view.specs.Views.{View}
 use Rattle.spf_view.specs.Standing.{held_in, reason_of}
@@ -29,7 +28,7 @@ use Rattle.spf_link.specs.declared.request.Request.{Request}
 use Rattle.spf_jwt_client.specs.Fetching.{FetchesJwt, Fetcher}
 use Rattle.spf_pass.specs.Passing.{FollowsBy, IsHealthyBy}
 pub use Rattle.spf_pass.specs.Passing.{IsClosedByCaller, LooksAt, SaysClosed, SeesNoLess}
-use Rattle.spf_pass.specs.Showing.{IsRevisionBy}
+use Rattle.spf_pass.specs.Showing.{HasPlaceCauseBy, IsRevisionBy}
 use Rattle.spf_pass.specs.Sources.{Source, Updates}
 
 -- something is so of a state that the pass has read, and it knows of no mark of the closed cell
@@ -78,10 +77,7 @@ IsHealthy cell old new healthy = IsHealthyBy Legal Replays is_usable cell old ne
 -- No place comes only where the count of refused places rose; the only other error is out of
 -- memory.
 abbrev pub HasPlaceCause : {T : Type 0} → ℕ → ℕ → Result T JwtSourceError → Type 0
-HasPlaceCause before now (Ok p) = before ≤ now
-HasPlaceCause before now (Err errors.NoPlace) = (before ≤ now) × Rose before now
-HasPlaceCause before now (Err errors.OutOfMemory) = before ≤ now
-HasPlaceCause before now (Err _) = ⊥
+HasPlaceCause before now result = HasPlaceCauseBy showing before now result
 
 -- the revision of the state that a pass has read
 abbrev pub IsRevision : PassView → ℕ → Type 0

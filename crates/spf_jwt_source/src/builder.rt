@@ -6,9 +6,10 @@ ghost use Rattle.spf_jwt_source.specs.Building.{PrepareFails};
 
 use crate::handle::{JwtPendingHandle, JwtSupervisorHandle};
 use crate::job::JwtJob;
-use crate::opening::{joined, open_cells, synchronised};
+use crate::opening::{joined, synchronised};
 use crate::source::JwtSource;
 use rand_core::Rng;
+use spf_close::open_cells;
 use spf_io::OutOfMemory;
 use spf_job::Spawner;
 use spf_jwt::JwtResourceLimits;

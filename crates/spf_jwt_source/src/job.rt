@@ -9,7 +9,7 @@ ghost use Rattle.spf_jwt_feeder.specs.Orderly.{IsSynced};
 ghost use Rattle.spf_jwt_feeder.specs.Pacing.{KeepsPace};
 ghost use Rattle.spf_history.specs.Lists.{is_ended, steps_of};
 ghost use Rattle.spf_jwt_source.specs.Records.{IsLeftBy, IsRecord, assigned, task_of};
-ghost use Rattle.spiffe.specs.Records.{unyielded};
+ghost use Rattle.spf_supervisor.specs.Connectors.{unyielded};
 
 use crate::publishing::BoardPublisher;
 use crate::record::JwtSupervised;

@@ -17,5 +17,5 @@ pub use handle::{JwtPendingHandle, JwtSupervisorHandle};
 pub use job::{JwtDone, JwtJob};
 pub use record::JwtSupervised;
 pub use source::{JwtSource, JwtSourceUpdates};
-pub use spiffe::SupervisorEnd;
+pub use spf_supervisor::SupervisorEnd;
 pub use task::JwtTask;

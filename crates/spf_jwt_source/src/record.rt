@@ -8,7 +8,7 @@ use spf_close::Closed;
 use spf_jwt_feed::{JwtEvent, JwtStep};
 use spf_jwt_feeder::JwtSessionRules;
 use spf_pace::Pace;
-use spiffe::SupervisorEnd;
+use spf_supervisor::SupervisorEnd;
 use std::fmt;
 use std::marker::Model;
 use std::time::Duration;

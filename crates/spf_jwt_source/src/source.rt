@@ -16,15 +16,15 @@ ghost use Rattle.spf_jwt_source.specs.Reads.{SaysClosed};
 ghost use Rattle.spf_jwt_source.specs.Reads.{Follows, HasPlaceCause, SeesNoLess, TriesBundle};
 ghost use Rattle.spf_jwt_source.specs.Updating.{ReadsFrom};
 
-use spf_close::{Bell, Closer, Closing, LastHandle, Maker, Watch};
+use spf_close::{Bell, Closer, Closing, LastHandle, Maker, Watch, closing_of};
 use spf_id::{SpiffeId, TrustDomain};
 use spf_io::{OutOfMemory, Text};
 use spf_jwt::{JwtBundle, JwtBundleSet, JwtSvid};
-use spf_jwt_board::{Front, Jwt, JwtPass, JwtPlaces, PlaceFault, Usable};
+use spf_jwt_board::{Front, Jwt, JwtPass, JwtPlaces, Usable};
 use spf_jwt_client::JwtFetcher;
 use spf_jwt_feed::{JwtSourceError, JwtSourceState};
 use spf_link::Connector;
-use spf_pass::{SourceUpdates, check_open, closing_of, look};
+use spf_pass::{SourceUpdates, another_pass, check_open, look};
 use spf_system::StopFlag;
 use spf_x509::BundleSource;
 use std::alloc::Global;
@@ -212,11 +212,7 @@ impl JwtSource {
         ensures pass { IfOk result (λ p. (p.book ≡ self.now.board) × (p.seen ≡ giver.old.seen)) }
         ensures cause { HasPlaceCause (H.refusals places.old) (H.refusals places.new) result }
     {
-        match places.take(giver) {
-            Ok(pass) => Ok(pass),
-            Err(PlaceFault::Refused) => Err(JwtSourceError::NoPlace),
-            Err(PlaceFault::OutOfMemory) => Err(JwtSourceError::OutOfMemory),
-        }
+        another_pass(giver, places)
     }
 
     /// Updates of the source, with a pass that has seen what the giver has seen. What is published

@@ -38,7 +38,7 @@ impl Model for JwtTask {
 }
 
 impl<R: Wait + Drop> Promise<JwtDone<R>> for JwtTask {
-    ghost use Rattle.spiffe.specs.Records.{unyielded};
+    ghost use Rattle.spf_supervisor.specs.Connectors.{unyielded};
     ghost use Rattle.spf_jwt_source.specs.Records.{IsLeftBy};
 
     ghost kept_by = { λ task done. IsLeftBy unyielded task done };

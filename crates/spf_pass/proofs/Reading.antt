@@ -5,12 +5,13 @@ use Rattle.spf_close.specs.Marks.{Mark}
 use Rattle.spf_pass.proofs.Passing.{reads_later}
 use Rattle.spf_pass.specs.Passing.{SeesNoLess}
 use Rattle.spf_pass.specs.Showing.{IfClosed, Showing, StaysBy}
-use Rattle.spf_pass.specs.Showing.{Told, ToldClosed, ToldMemory, ToldOther}
+use Rattle.spf_pass.specs.Showing.{Told, ToldClosed, ToldMemory, ToldNoPlace, ToldOther}
 
 -- more is known where the source is closed
 if_closed : (told : Told) {P Q : Type 0} → (P → Q) → IfClosed told P → IfClosed told Q
 if_closed ToldClosed more holds = more holds
 if_closed ToldMemory more holds = tt
+if_closed ToldNoPlace more holds = absurd holds
 if_closed ToldOther more holds = absurd holds
 
 module _ {S T E : Type 0} (showing : Showing S T E) (legal : List S → Type 0) where

@@ -1,16 +1,12 @@
 //! Whether a source is closed.
 
-ghost use Rattle.std.specs.Prelude.{◌≡◌, ℕ, None, IfErr, IfOk, IfSome, OnOk};
-ghost use Rattle.spf_close.specs.declared.maker.Maker.TheVariants as makers;
+ghost use Rattle.std.specs.Prelude.{◌≡◌, ℕ, None, IfErr, IfSome, OnOk};
 ghost use Rattle.spf_pass.specs.Passing.{LooksAt, SaysClosed};
 ghost use Rattle.spf_pass.specs.Showing.{HasClosedCauseBy};
 
 use crate::kind::Shows;
 use crate::pass::Pass;
-use spf_close::{Bell, Closer, Closing, Maker, Watch};
-use spf_io::OutOfMemory;
-use spf_system::StopFlag;
-use std::alloc::Global;
+use spf_close::{Maker, Watch};
 
 /// Whether the source is closed. The pass knows the mark from then on, by a note.
 pub fn look<K: Shows>(watch: &Watch, pass: &mut Pass<K>) -> bool
@@ -51,21 +47,4 @@ pub fn check_open<K: Shows>(watch: &Watch, pass: &mut Pass<K>) -> Result<(), K::
 {
     learn(watch, pass);
     known_open(pass)
-}
-
-/// What closes the source of the closer.
-pub fn closing_of(
-    alloc: Global,
-    closer: &mut Closer,
-    stop: &StopFlag,
-    bell: &Bell,
-) -> Result<Closing, OutOfMemory>
-    requires { closer.old.maker ≡ makers.Caller }
-    ensures unchanged { closer.new ≡ closer.old }
-    ensures closing { IfOk result (λ c. c ≡ closer.old.cell) }
-{
-    let another = closer.another(alloc)?;
-    let stop = stop.try_clone()?;
-    let bell = bell.try_clone()?;
-    Ok(Closing::new(another, stop, bell))
 }

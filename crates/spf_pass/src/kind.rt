@@ -16,7 +16,7 @@ pub trait Shows: Replay {
     ghost use Rattle.std.specs.Prelude.{◌≡◌, Bool, List, IfOk};
     ghost use Rattle.spf_history.specs.declared.entry.Entry.{Entry};
     ghost use Rattle.spf_history.specs.Lists.{steps_of, IsBoardList};
-    ghost use Rattle.spf_pass.specs.Showing.{Showing, ToldClosed, ToldMemory};
+    ghost use Rattle.spf_pass.specs.Showing.{Showing, ToldClosed, ToldMemory, ToldNoPlace};
 
     // What its states and its errors say.
     ghost showing: { Showing Self.Step Self.State Self.Error };
@@ -47,6 +47,14 @@ pub trait Shows: Replay {
 
     fn out_of_memory() -> Self::Error
         ensures { showing.told result ≡ ToldMemory };
+
+    /// Returns the error of a pass that is given no place.
+    fn no_place() -> Self::Error
+        ensures { showing.told result ≡ ToldNoPlace };
+
+    /// Returns the error of a shutdown that timed out between these moments.
+    fn timed_out(started: i64, ended: i64) -> Self::Error
+        ensures { result ≡ showing.timed_out started ended };
 
     /// Writes the name of its updates.
     fn write_name<W: fmt::Write>(f: &mut fmt::Formatter<W>) -> fmt::Result;

@@ -5,7 +5,7 @@ use Rattle.spf_history.specs.Lists.{steps_of}
 use Rattle.spf_feed.specs.declared.state.X509SourceError.{X509SourceError}
 use Rattle.spf_feed.specs.declared.state.X509SourceError.TheVariants as errors
 use Rattle.spf_feed.specs.Steps.{PlainStep, StateView}
-use Rattle.spf_pass.specs.Showing.{Showing, Told, ToldClosed, ToldMemory, ToldOther}
+use Rattle.spf_pass.specs.Showing.{Showing, Told, ToldClosed, ToldMemory, ToldNoPlace, ToldOther}
 use Rattle.spf_x509_board.specs.Steps.{Legal, Replays}
 
 -- the state is the replay of the steps of a legal board list, and says whether the source is closed
@@ -17,6 +17,7 @@ pub record IsStateOf (list : List (Entry PlainStep)) (closed : Bool) (s : StateV
 abbrev pub told : X509SourceError → Told
 told errors.Closed = ToldClosed
 told errors.OutOfMemory = ToldMemory
+told errors.NoPlace = ToldNoPlace
 told _ = ToldOther
 
 -- what the states and the errors of X.509 sources say
@@ -26,4 +27,5 @@ showing = record {
   closed_of = λ s. s.closed;
   revision_of = λ s. s.revision;
   told = told;
+  timed_out = errors.ShutdownTimeout;
 }

@@ -94,6 +94,14 @@ impl Shows for X509 {
         X509SourceError::OutOfMemory
     }
 
+    fn no_place() -> X509SourceError {
+        X509SourceError::NoPlace
+    }
+
+    fn timed_out(started: i64, ended: i64) -> X509SourceError {
+        X509SourceError::ShutdownTimeout { started, ended }
+    }
+
     fn write_name<W: fmt::Write>(f: &mut fmt::Formatter<W>) -> fmt::Result {
         write!(f, "X509SourceUpdates")
     }

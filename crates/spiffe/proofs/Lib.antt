@@ -1,4 +1,3 @@
 pub mod Failing
 pub mod Joining
-pub mod Leaving
 pub mod Unyielded

@@ -1,5 +1,5 @@
 -- What the calls of a source return, and what they do to the pass that they are lent.
-use Rattle.std.specs.Prelude.{◌≡◌, ◌≢◌, ◌⊎◌, ◌≤◌, ℕ, ℤ, Bool, List, Option, Some, None}
+use Rattle.std.specs.Prelude.{◌≡◌, ◌≢◌, ◌⊎◌, ℕ, ℤ, Bool, List, Option, Some, None}
 use Rattle.std.specs.Prelude.{Result, Ok, Err}
 use Rattle.std.specs.Option.{option_map, option_and_then}
 use Rattle.std.specs.Arc.{arc_value}
@@ -10,7 +10,6 @@ use Rattle.spf_feed.specs.declared.state.X509SourceError.{X509SourceError}
 use Rattle.spf_feed.specs.declared.state.X509SourceError.TheVariants as errors
 use Rattle.spf_feed.specs.declared.step.Denial.{Denial}
 use Rattle.spf_feed.specs.Steps.{StateView, View, Material, PlainStep, held_in, reason_of}
-use Rattle.spf_io.specs.Outside.{Rose}
 use Rattle.spf_io.specs.declared.memory.OutOfMemory.{OutOfMemory}
 use Rattle.spf_board.specs.Passes.{Renews}
 use Rattle.spf_close.specs.Marks.{mark_by}
@@ -20,7 +19,7 @@ use Rattle.spf_x509_board.specs.Steps.{Legal, Replays, is_usable}
 use Rattle.spf_x509_board.specs.States.{IsStateOf, showing}
 use Rattle.spf_pass.specs.Passing.{FollowsBy, IsHealthyBy}
 pub use Rattle.spf_pass.specs.Passing.{IsClosedByCaller, LooksAt, SaysClosed, SeesNoLess}
-use Rattle.spf_pass.specs.Showing.{IsRevisionBy}
+use Rattle.spf_pass.specs.Showing.{HasPlaceCauseBy, IsRevisionBy}
 use Rattle.spf_pass.specs.Sources.{Source, Updates}
 
 -- the bundles of a set, by the names of their trust domains
@@ -93,10 +92,7 @@ IsHealthy now cell old new healthy =
 -- No place comes only where the count of refused places rose; the only other error is out of
 -- memory.
 abbrev pub HasPlaceCause : {T : Type 0} → ℕ → ℕ → Result T X509SourceError → Type 0
-HasPlaceCause before now (Ok p) = before ≤ now
-HasPlaceCause before now (Err errors.NoPlace) = (before ≤ now) × Rose before now
-HasPlaceCause before now (Err errors.OutOfMemory) = before ≤ now
-HasPlaceCause before now (Err _) = ⊥
+HasPlaceCause before now result = HasPlaceCauseBy showing before now result
 
 -- the revision of the state that a pass has read
 abbrev pub IsRevision : PassView → ℕ → Type 0

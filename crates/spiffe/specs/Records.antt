@@ -1,5 +1,5 @@
 -- What a supervisor is given, and what it leaves.
-use Rattle.std.specs.Prelude.{◌≡◌, ℕ, List, Option, None, IfSome, reverse}
+use Rattle.std.specs.Prelude.{◌≡◌, ℕ, List, Option, IfSome, reverse}
 use Rattle.logbook.specs.Pages.{Book}
 use Rattle.spf_close.specs.Marks.{Mark}
 use Rattle.spf_close.specs.declared.maker.Maker.TheVariants as makers
@@ -16,6 +16,7 @@ use Rattle.spf_feeder.specs.Kept.{rules_by}
 use Rattle.spf_feeder.specs.Orderly.{GoesOn, IsOrderly, IsSynced}
 use Rattle.spf_feeder.specs.Pacing.{KeepsPace}
 use Rattle.spf_pace.specs.declared.pace.Pace.{Pace}
+pub use Rattle.spf_supervisor.specs.Connectors.{unyielded}
 
 -- What a supervisor is given: its board, its closed cell, the run of the initial synchronisation,
 -- the rules, the picker, the bounds of its pauses, and the connector as it was handed in.
@@ -43,10 +44,6 @@ assigned board cell run settings picker bounds first = record {
 -- the same, its connector aside
 abbrev pub task_of : {S K : Type 0} → Assigned S K → Assigned (Unit {0}) K
 task_of job = assigned job.board job.cell job.run job.settings job.picker job.bounds tt
-
--- a connector of which nothing is known
-abbrev pub unyielded : {S : Type 0} → S → Option (List Member)
-unyielded connector = None
 
 -- what contracts see of a supervisor's record
 pub record Recorded (K : Type 0) : Type 0 where

@@ -6,9 +6,10 @@ ghost use Rattle.spiffe.specs.Building.{BuildFails, IsAssigned, IsBuilt, IsDefau
 
 use crate::handle::{PendingHandle, SupervisorHandle};
 use crate::job::X509Job;
-use crate::opening::{joined, open_cells, synchronised};
+use crate::opening::{joined, synchronised};
 use crate::source::X509Source;
 use rand_core::Rng;
+use spf_close::open_cells;
 use spf_feed::{
     MetricsRecorder, NoPicker, NoRecorder, Ready, ResourceLimits, SvidPicker, X509SourceError,
 };

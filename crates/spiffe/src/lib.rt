@@ -16,6 +16,7 @@ pub use builder::{Settings, X509SourceBuilder};
 pub use handle::{PendingHandle, SupervisorHandle};
 pub use job::{X509Done, X509Job};
 pub use publishing::BoardPublisher;
-pub use record::{Supervised, SupervisorEnd};
+pub use record::Supervised;
 pub use source::{X509Source, X509SourceUpdates};
+pub use spf_supervisor::SupervisorEnd;
 pub use task::Task;

@@ -23,7 +23,7 @@ use crate::publishing::BoardPublisher;
 use crate::source::X509Source;
 use rand_core::Rng;
 use spf_api::{EndpointError, WorkloadApiError};
-use spf_close::{Bell, Closer, Closing, Watch, closed_cell};
+use spf_close::{Bell, Cells, Closing, JobCells, SourceCells};
 use spf_feed::{
     MemPublisher, MetricsRecorder, Prepared, Step, SvidPicker, Terminal, X509SourceError,
 };
@@ -31,9 +31,9 @@ use spf_feeder::{Feeder, Opening, Stop, open_feeder};
 use spf_io::OutOfMemory;
 use spf_link::Connector;
 use spf_pace::Pace;
-use spf_pass::closing_of;
+use spf_pass::placed;
 use spf_system::{Clock, Pause, StopFlag};
-use spf_x509_board::{Desk, Front, Pass, PlaceFault, Places, X509, open};
+use spf_x509_board::{Desk, Front, Pass, Places, X509, open};
 use std::alloc::Global;
 use std::mem::drop;
 use std::sync::Wait;
@@ -232,123 +232,6 @@ where
     Ok((feeder, front, pass))
 }
 
-/// What a source keeps of its cell: what closes it, ends the waits of its supervisor, and wakes
-/// those who wait for a change.
-#[derive(Drop)]
-pub(crate) struct SourceCells {
-    caller: Closer,
-    pub(crate) stop: StopFlag,
-    bell: Bell,
-}
-
-/// What the job of a supervisor keeps of the cell.
-#[derive(Drop)]
-struct JobCells {
-    watch: Watch,
-    closer: Closer,
-    bell: Bell,
-}
-
-/// What closes a source, ends the waits of its supervisor, and wakes those who wait for a change:
-/// all of one cell. It is made before anything is asked.
-#[derive(Drop)]
-pub(crate) struct Cells {
-    closing: Closing,
-    pub(crate) source: SourceCells,
-    publisher_bell: Bell,
-    job: JobCells,
-}
-
-/// What closes the source of the closer, with two bells more.
-fn closing_bells(
-    alloc: Global,
-    caller: &mut Closer,
-    stop: &StopFlag,
-    bell: &Bell,
-) -> Result<(Closing, Bell, Bell), OutOfMemory>
-    requires { caller.old.maker ≡ makers.Caller }
-    ensures unchanged { caller.new ≡ caller.old }
-    ensures closing { IfOk result (λ r. r.0 ≡ caller.old.cell) }
-{
-    let closing = closing_of(alloc, caller, stop, bell)?;
-    let source_bell = bell.try_clone()?;
-    let publisher_bell = bell.try_clone()?;
-    Ok((closing, source_bell, publisher_bell))
-}
-
-/// A new cell, what closes it, and two bells more.
-#[derive(Drop)]
-struct Parts {
-    caller: Closer,
-    closer: Closer,
-    watch: Watch,
-    closing: Closing,
-    source_bell: Bell,
-    publisher_bell: Bell,
-}
-
-fn parts_of(alloc: Global, stop: &StopFlag, bell: &Bell) -> Result<Parts, OutOfMemory>
-    ensures makers { IfOk result (λ c. c.caller.maker ≡ makers.Caller) }
-    ensures one { IfOk result (λ c. (c.caller.cell ≡ c.watch) × (c.closing ≡ c.watch)) }
-{
-    let (mut caller, closer, watch) = closed_cell(alloc)?;
-    match closing_bells(alloc, &mut caller, stop, bell) {
-        Ok((closing, source_bell, publisher_bell)) => Ok(Parts {
-            caller,
-            closer,
-            watch,
-            closing,
-            source_bell,
-            publisher_bell,
-        }),
-        Err(OutOfMemory) => {
-            drop(caller);
-            drop(closer);
-            drop(watch);
-            Err(OutOfMemory)
-        }
-    }
-}
-
-pub(crate) fn open_cells(alloc: Global) -> Result<Cells, OutOfMemory>
-    ensures makers { IfOk result (λ c. c.source.caller.maker ≡ makers.Caller) }
-    ensures one { IfOk result (λ c. (c.source.caller.cell ≡ c.job.watch)
-        × (c.closing ≡ c.job.watch)) }
-{
-    let stop = StopFlag::new(alloc)?;
-    let bell = Bell::new(alloc)?;
-    match parts_of(alloc, &stop, &bell) {
-        Ok(
-            Parts {
-                caller,
-                closer,
-                watch,
-                closing,
-                source_bell,
-                publisher_bell,
-            },
-        ) => Ok(Cells {
-            closing,
-            source: SourceCells {
-                caller,
-                stop,
-                bell: source_bell,
-            },
-            publisher_bell,
-            job: JobCells {
-                watch,
-                closer,
-                bell,
-            },
-        }),
-        Err(OutOfMemory) => {
-            drop(stop);
-            drop(bell);
-            Err(OutOfMemory)
-        }
-    }
-}
-
 /// The source over its front, and its first pass.
 fn source_of<L: Places>(
     alloc: Global,
@@ -455,28 +338,6 @@ where
             drop(closing);
             drop(job);
             Err(e)
-        }
-    }
-}
-
-/// The pass from its places, with all places that the first pass has.
-pub(crate) fn placed<L: Places>(first: Pass, places: &mut L) -> Result<Pass, X509SourceError>
-    ensures pass { IfOk result (λ p. (p.book ≡ first.book) × (p.seen ≡ first.seen)) }
-    ensures cause { HasPlaceCause (L.refusals places.old) (L.refusals places.new) result }
-{
-    let mut giver = first;
-    match places.take(&mut giver) {
-        Ok(mut pass) => {
-            giver.give_back(&mut pass);
-            Ok(pass)
-        }
-        Err(PlaceFault::Refused) => {
-            drop(giver);
-            Err(X509SourceError::NoPlace)
-        }
-        Err(PlaceFault::OutOfMemory) => {
-            drop(giver);
-            Err(X509SourceError::OutOfMemory)
         }
     }
 }

@@ -85,7 +85,7 @@ impl<R: Wait + Drop> Publisher for BoardPublisher<R> {
     ghost use Rattle.spf_history.specs.Lists.{steps_of};
     ghost use Rattle.spf_feed.specs.Records.{RecordAppends};
     ghost use Rattle.spf_feed.specs.Steps.{MayFollow, plain};
-    ghost use Rattle.spiffe.specs.Boards.{numbers_of};
+    ghost use Rattle.spf_supervisor.specs.Boards.{numbers_of};
 
     ghost steps = { λ p. Some (steps_of p.list) };
 

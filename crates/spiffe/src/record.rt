@@ -7,18 +7,10 @@ ghost use Rattle.spiffe.specs.Records.{IsRecord, recorded_of};
 use spf_close::Closed;
 use spf_feed::{Event, SessionRules, Step, SvidPicker};
 use spf_pace::Pace;
+use spf_supervisor::SupervisorEnd;
 use std::fmt;
 use std::marker::Model;
 use std::time::Duration;
-
-/// Why a supervisor ended.
-#[derive(Clone, Copy, Debug, PartialEq, Eq)]
-pub enum SupervisorEnd {
-    /// A caller closed the source.
-    Closed,
-    /// Memory ran out. No record says it: where memory ran out there is none.
-    OutOfMemory,
-}
 
 /// What came to a supervisor, from the first event of the initial synchronisation on, and what it
 /// published.

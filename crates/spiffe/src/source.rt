@@ -12,14 +12,14 @@ ghost use Rattle.spiffe.specs.Reads.{BundleAnswer, BundlesAnswer, Gets, IsHealth
 ghost use Rattle.spiffe.specs.Reads.{Follows, HasPlaceCause, SeesNoLess, Tries, TriesBundle};
 ghost use Rattle.spiffe.specs.Updating.{ReadsFrom};
 
-use spf_close::{Bell, Closer, Closing, LastHandle, Watch};
+use spf_close::{Bell, Closer, Closing, LastHandle, Watch, closing_of};
 use spf_feed::{X509SourceError, X509SourceState};
 use spf_id::TrustDomain;
 use spf_io::OutOfMemory;
-use spf_pass::{SourceUpdates, check_open, closing_of, look};
+use spf_pass::{SourceUpdates, another_pass, check_open, look};
 use spf_system::StopFlag;
 use spf_x509::{BundleSource, SvidSource, X509Bundle, X509BundleSet, X509Context, X509Svid};
-use spf_x509_board::{Front, Pass, PlaceFault, Places, UsableAt, X509};
+use spf_x509_board::{Front, Pass, Places, UsableAt, X509};
 use std::alloc::Global;
 use std::fmt;
 use std::marker::Model;
@@ -248,11 +248,7 @@ impl X509Source {
         ensures pass { IfOk result (λ p. (p.book ≡ self.now.board) × (p.seen ≡ giver.old.seen)) }
         ensures cause { HasPlaceCause (H.refusals places.old) (H.refusals places.new) result }
     {
-        match places.take(giver) {
-            Ok(pass) => Ok(pass),
-            Err(PlaceFault::Refused) => Err(X509SourceError::NoPlace),
-            Err(PlaceFault::OutOfMemory) => Err(X509SourceError::OutOfMemory),
-        }
+        another_pass(giver, places)
     }
 
     /// Updates of the source, with a pass that has seen what the giver has seen. What is published

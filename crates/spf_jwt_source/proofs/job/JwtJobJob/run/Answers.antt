@@ -5,7 +5,7 @@ use Rattle.spf_jwt_feeder.specs.Kept.{rules_of}
 use Rattle.spf_feeder.specs.Orderly.{GoesOn}
 use Rattle.spf_jwt_feeder.specs.Orderly.{IsSynced}
 use Rattle.spf_jwt_feeder.proofs.FeedLemmas.{synced_after}
-use Rattle.spiffe.proofs.Leaving.{same_board}
+use Rattle.spf_supervisor.proofs.Leaving.{same_board}
 use Rattle.spf_jwt_source.specs.Records.{Assigned, IsOf, Left, Recorded}
 use Rattle.spf_jwt_source.proofs.Recording.{recorded_of_job}
 use Rattle.spf_jwt_source.proofs.job.JwtJobJob.run.Goals.{in-Some, in-None}

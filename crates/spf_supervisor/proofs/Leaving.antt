@@ -6,7 +6,7 @@ use Rattle.spf_history.specs.declared.entry.Entry.TheVariants as entry
 use Rattle.spf_history.specs.Lists.{steps_of}
 use Rattle.spf_history.specs.Past.{Past, added}
 use Rattle.spf_history.proofs.Prefixes.{steps_end}
-use Rattle.spiffe.specs.Boards.{numbers_of}
+use Rattle.spf_supervisor.specs.Boards.{numbers_of}
 
 -- an End is not a step
 pub same_steps : {S : Type 0} (new old : Past S) → (new ≡ added old entry.End) ⊎ (new ≡ old)

@@ -1,5 +1,0 @@
-use Rattle.spf_x509_board.proofs.places.RefusingPlacesPlaces.take.Goals as goal
-
-pub returns-clause-cause : goal.returns-clause-cause
-returns-clause-cause c =
-    record { later = c.refuse.ensures.later; refused = λ is. c.refuse.ensures.counted }
