@@ -12,6 +12,7 @@ use spf_jwt_board::{
     RefusingPlaces, SharedStep, Usable, open, settle,
 };
 use spf_jwt_feed::{JwtPublisher, JwtStep};
+use spf_pass::Places;
 use std::alloc::Global;
 use std::snapshot::Snapshot;
 use std::sync::{Arc, Wait};

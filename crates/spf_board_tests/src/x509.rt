@@ -6,10 +6,11 @@ ghost use Rattle.spf_feed.specs.Steps.{MayFollow};
 
 use spf_feed::{Denial, Prepared, Publisher, ResourceLimits, Step, validate_limits};
 use spf_io::OutOfMemory;
+use spf_pass::Places;
 use spf_x509::{X509BundleSet, X509Context};
 use spf_x509_board::{
-    BoardPlaces, Desk, Ended, Front, PLACES, Pass, PlaceFault, Places, RefusingPlaces, UsableAt,
-    X509, open, settle,
+    BoardPlaces, Desk, Ended, Front, PLACES, Pass, PlaceFault, RefusingPlaces, UsableAt, X509,
+    open, settle,
 };
 use std::alloc::Global;
 use std::snapshot::Snapshot;
@@ -160,7 +161,7 @@ fn has_place(places: &mut BoardPlaces, pass: &mut Pass) -> bool {
 }
 
 // Whether there is no place.
-fn is_refused<L: Places>(places: &mut L, pass: &mut Pass) -> bool {
+fn is_refused<L: spf_x509_board::Places>(places: &mut L, pass: &mut Pass) -> bool {
     match places.take(pass) {
         Ok(other) => {
             drop(other);

@@ -1,7 +1,7 @@
 -- What one turn of a feeder does.
 use Rattle.std.proofs.Common.{◌≡◌, Bool, true, false, List, [], ◌∷◌, ◌++◌, reverse, Option, None}
 use Rattle.std.proofs.Common.{Some, Result, Ok, Err, inl, inr, refl, sym, ◌∙◌, subst}
-use Rattle.std.specs.Prelude.{IfErr, IfSome, IsTrue, ℤ, ◌⊎◌, ◌&&◌, is_some}
+use Rattle.std.specs.Prelude.{IfErr, IfSome, ℤ, ◌⊎◌}
 use Rattle.spf_io.specs.declared.memory.OutOfMemory.{OutOfMemory}
 use Rattle.spf_api.specs.declared.response.ResponseKind.{ResponseKind}
 use Rattle.spf_link.specs.Connecting.{Member}
@@ -9,26 +9,25 @@ use Rattle.spf_link.specs.declared.answer.Answer.{Answer}
 use Rattle.spf_link.specs.declared.connector.Connector as connectors
 use Rattle.spf_link.specs.declared.link.Link as links
 use Rattle.spf_pace.specs.declared.pacer.AttemptEnd.{AttemptEnd}
+use Rattle.spf_view.specs.Steps.{steps_of}
 use Rattle.spf_view.specs.Views.{has_synced}
 use Rattle.spf_view.proofs.ViewLemmas.{last_first}
 use Rattle.spf_feed.specs.declared.event.SessionEvent.{SessionEvent}
 use Rattle.spf_feed.specs.declared.event.SessionEvent.TheVariants as events
 use Rattle.spf_feed.specs.declared.phase.Phase.{Phase}
-use Rattle.spf_feed.specs.Items.{Event, Rules, context_in, subject}
-use Rattle.spf_feed.specs.Run.{ask_of}
-use Rattle.spf_feed.specs.Steps.{Accept, Material, PlainStep, fits}
+use Rattle.spf_feed.specs.Items.{Event, Rules, subject}
+use Rattle.spf_feed.specs.Steps.{Accept}
 use Rattle.spf_feeder.specs.declared.session.Stop.{Stop}
 use Rattle.spf_feeder.specs.declared.session.Stop.TheVariants as stops
 use Rattle.spf_feeder.specs.Asking.{Asked, AsksFor, AsksOnceFor, Wanted, kind_wanted}
-use Rattle.spf_feeder.specs.Coming.{AllYieldedBy, Holds, left_after_by}
-use Rattle.spf_feeder.specs.Fed.{FedOf, IsReadyFor, StopsBy, StopsFor, TurnedAway, TurnsBy}
-use Rattle.spf_feeder.specs.Fed.{YieldsBy}
+use Rattle.spf_feeder.specs.Coming.{AllYieldedBy, AllYieldedOf, Holds, left_after_by, left_of}
+use Rattle.spf_feeder.specs.Fed.{FedOf, IsFed, IsReadyFor, StopsFor, TurnedAway, TurnsBy, YieldsOf}
 use Rattle.spf_feeder.specs.Kept.{AdvancesBy, Progress}
-use Rattle.spf_feeder.specs.Kinds.{Kind}
-use Rattle.spf_feeder.specs.Orderly.{AddsAnswer, IsAboutToAsk, IsOneStep, IsOpening, IsSynced}
-use Rattle.spf_feeder.specs.Orderly.{GoesOn, IsTimed}
+use Rattle.spf_feeder.specs.Kinds.{FollowsEvents, IsLawful, Kind, x509}
+use Rattle.spf_feeder.specs.Orderly.{AddsAnswerTo, GoesOn, IsAboutToAsk, IsFirstStep, IsOneStep}
+use Rattle.spf_feeder.specs.Orderly.{IsOpening, IsSyncedOf, IsTimedOf}
 use Rattle.spf_feeder.proofs.OrderLemmas.{about_timed, ends_unmoved, synced_on}
-use Rattle.spf_feeder.proofs.YieldLemmas.{FollowsEvents, ready_more, yields_more}
+use Rattle.spf_feeder.proofs.YieldLemmas.{ready_more, yields_more}
 
 -- an ask that yielded an event was made
 asked_once : {I S L : Type 0} (wanted : Wanted I) (connector : connectors.Ghosts S L)
@@ -147,7 +146,7 @@ ran k records old new e (Ok end) h going = h.run_is
 ran k records old new e (Err (stops.Terminal end)) h going = no_longer new.stuck going h.stuck_is
 ran k records old new e (Err stops.OutOfMemory) h going = no_longer new.stuck going h.stuck_is
 
-pub ready_of : {S L I M B R N : Type 0} (connector : connectors.Ghosts S L) (link : links.Ghosts L)
+ready_of : {S L I M B R N : Type 0} (connector : connectors.Ghosts S L) (link : links.Ghosts L)
     (records : N → Option (List R)) (k later : Kind I M B R) → FollowsEvents k.ask
     → (before after : Progress N I) (old new : Asked S L) (e : SessionEvent I)
     (r : Result (Option AttemptEnd) Stop) (ask : Phase) → ask ≡ k.ask (reverse before.run)
@@ -170,13 +169,7 @@ if_some : {X : Type 0} (o : Option X) (P Q : X → Type 0) → ((x : X) → P x 
 if_some None P Q f h = tt
 if_some (Some x) P Q f h = f x h
 
--- what is yielded by the asks of a kind
-abbrev pub YieldsOf : {S L I M B R : Type 0} → Kind I M B R → (S → Option (List Member))
-    → (L → Option (List Answer)) → List (SessionEvent I) → Asked S L → List Member → Type 0
-YieldsOf k members answers run asked first =
-    YieldsBy (AllYieldedBy k.wanted k.ask) (left_after_by k.ask) members answers run asked first
-
-pub yields_of : {S L I M B R N : Type 0} (connector : connectors.Ghosts S L) (link : links.Ghosts L)
+yields_of : {S L I M B R N : Type 0} (connector : connectors.Ghosts S L) (link : links.Ghosts L)
     (records : N → Option (List R)) (k later : Kind I M B R) (before after : Progress N I)
     (old new : Asked S L) (e : SessionEvent I) (r : Result (Option AttemptEnd) Stop) (ask : Phase)
     (first : Option (List Member)) → ask ≡ k.ask (reverse before.run)
@@ -186,6 +179,7 @@ pub yields_of : {S L I M B R N : Type 0} (connector : connectors.Ghosts S L) (li
     → IfSome first (YieldsOf k connector.members link.answers before.run old)
     → after.stuck ≡ false
     → IfSome first (YieldsOf later connector.members link.answers after.run new)
+unfolding AllYieldedOf left_of
 yields_of connector link records k later before after old new e r ask first next asks h same ready
     yields going =
     let once = asked_as k.wanted connector link ask _ old new e next asks in
@@ -199,6 +193,23 @@ yields_of connector link records k later before after old new e r ask first next
     (subst (λ l. YieldsOf k connector.members link.answers l new f) (sym run)
     (record { yielded = more.0; rest = more.1 }))) yields
 
+-- one more ask
+pub fed_more : {S L I M B R N : Type 0} (connector : connectors.Ghosts S L) (link : links.Ghosts L)
+    (records : N → Option (List R)) (k later : Kind I M B R) → IsLawful k
+    → (before after : Progress N I) (old new : Asked S L) (e : SessionEvent I)
+    (r : Result (Option AttemptEnd) Stop) (ask : Phase) (first : S)
+    → ask ≡ k.ask (reverse before.run)
+    → AsksFor {E = OutOfMemory} k.wanted connector link ask old (Ok e) new
+    → AdvancesBy k records before e r after → later ≡ k → before.stuck ≡ false
+    → IsFed k connector link before old first → IsFed later connector link after new first
+fed_more connector link records k later law before after old new e r ask first next asks h same
+    going fed = record {
+      ready = ready_of connector link records k later law.follows before after old new e r ask next
+          asks h same (fed.ready going);
+      yields = yields_of connector link records k later before after old new e r ask
+          (connector.members first) next asks h same (fed.ready going) (fed.yields going);
+    }
+
 -- ---- a terminal event
 
 pub stops_by : {I M B R N : Type 0} (records : N → Option (List R)) (k seen : Kind I M B R)
@@ -209,9 +220,14 @@ stops_by records k seen old new e (Err (stops.Terminal end)) same h =
     (e, (λ i. (sym same i).refusal (reverse (h.run_is i)) e) ∙ h.refused)
 stops_by records k seen old new e (Err stops.OutOfMemory) same h = tt
 
+-- the same kind
+pub stops_as : {I M B R : Type 0} (k seen : Kind I M B R) (run : List (SessionEvent I))
+    (stop : Stop) → seen ≡ k → StopsFor seen run stop → StopsFor k run stop
+stops_as k seen run stop same h = subst (λ x. StopsFor x run stop) same h
+
 -- ---- a moment asks nothing
 
-pub ready_still : {L I M B R N : Type 0} (kind_of : L → Option ResponseKind)
+ready_still : {L I M B R N : Type 0} (kind_of : L → Option ResponseKind)
     (records : N → Option (List R)) (k later : Kind I M B R) → FollowsEvents k.ask
     → (before after : Progress N I) (m : ℤ) (r : Result (Option AttemptEnd) Stop) (link : Option L)
     → AdvancesBy k records before (events.Moment m) r after → later ≡ k
@@ -228,12 +244,13 @@ ready_still kind_of records k later follows before after m r link h same ready g
     (subst (λ p. IsReadyFor (kind_wanted k.wanted) kind_of p link)
     (sym (follows.moment (reverse before.run) m)) ready)))
 
-pub yields_still : {S L I M B R N : Type 0} (members : S → Option (List Member))
+yields_still : {S L I M B R N : Type 0} (members : S → Option (List Member))
     (answers : L → Option (List Answer)) (records : N → Option (List R)) (k later : Kind I M B R)
     (before after : Progress N I) (m : ℤ) (r : Result (Option AttemptEnd) Stop) (asked : Asked S L)
     (first : Option (List Member)) → AdvancesBy k records before (events.Moment m) r after
     → later ≡ k → IfSome first (YieldsOf k members answers before.run asked) → after.stuck ≡ false
     → IfSome first (YieldsOf later members answers after.run asked)
+unfolding AllYieldedOf left_of
 yields_still members answers records k later before after m r asked first h same yields going =
     let run = ran k records before after (events.Moment m) r h going in
     let more = sym (last_first before.run (events.Moment m)) in
@@ -249,46 +266,48 @@ yields_still members answers records k later before after m r asked first h same
 
 -- ---- of an X.509 session
 
-pub follows : (rules : Rules) → FollowsEvents (ask_of context_in rules)
-follows rules = record {
-  keeps = λ past i. has_synced (subject rules) past && is_some (context_in i);
-  made = λ past. refl;
-  failed = λ past f. refl;
-  connected = λ past. refl;
-  refused = λ past s. refl;
-  item = λ past i. refl;
-  broken = λ past s. refl;
-  ended = λ past. refl;
-  moment = λ past m. refl;
-}
+-- one more moment
+pub fed_still : {S L I M B R N : Type 0} (connector : connectors.Ghosts S L) (link : links.Ghosts L)
+    (records : N → Option (List R)) (k later : Kind I M B R) → IsLawful k
+    → (before after : Progress N I) (m : ℤ) (r : Result (Option AttemptEnd) Stop)
+    (asked : Asked S L) (first : S) → AdvancesBy k records before (events.Moment m) r after
+    → later ≡ k → before.stuck ≡ false → IsFed k connector link before asked first
+    → IsFed later connector link after asked first
+fed_still connector link records k later law before after m r asked first h same going fed =
+    record {
+      ready = ready_still link.kind records k later law.follows before after m r asked.link h same
+          (fed.ready going);
+      yields = yields_still connector.members link.answers records k later before after m r asked
+          (connector.members first) h same (fed.yields going);
+    }
 
-pub stops_as : (rules seen : Rules) (run : List Event) (stop : Stop) → seen ≡ rules
-    → StopsBy seen run stop → StopsBy rules run stop
-stops_as rules seen run stop same h = subst (λ r. StopsBy r run stop) same h
+-- ---- the moments
 
-pub timed_after : (rules : Rules) (run run' : List Event) → IsAboutToAsk rules run
-    → AddsAnswer rules run run' → IsTimed rules (reverse run')
-unfolding IsTimed
-timed_after rules run run' h adds =
-    about_timed (subject rules) (ask_of context_in rules) run run' h.timed h.unsynced h.ends adds
+pub timed_after : {I M B R : Type 0} (k : Kind I M B R) (run run' : List (SessionEvent I))
+    → IsAboutToAsk k run → AddsAnswerTo k.ask run run' → IsTimedOf k (reverse run')
+unfolding IsTimedOf
+timed_after k run run' h adds =
+    about_timed k.subject k.ask run run' h.timed h.unsynced h.ends adds
 
-pub opening_after : (rules : Rules) (run run' : List Event) → IsAboutToAsk rules run
-    → AddsAnswer rules run run' → has_synced (subject rules) (reverse run') ≡ false
-    → IsOpening rules run'
-opening_after rules run run' h adds unsynced = record {
-  timed = timed_after rules run run' h adds;
+pub opening_after : {I M B R : Type 0} (k : Kind I M B R) (run run' : List (SessionEvent I))
+    → IsAboutToAsk k run → AddsAnswerTo k.ask run run'
+    → has_synced k.subject (reverse run') ≡ false → IsOpening k run'
+opening_after k run run' h adds unsynced = record {
+  timed = timed_after k run run' h adds;
   unsynced = unsynced;
-  ends = ends_unmoved (ask_of context_in rules) run run' adds;
+  ends = ends_unmoved k.ask run run' adds;
 }
 
-pub synced_after : (rules : Rules) (old new : List Event) → GoesOn old new
-    → IsSynced rules (reverse old) → IsSynced rules (reverse new)
-unfolding IsTimed
-synced_after rules old new on at =
-    let after = synced_on (subject rules) old new (λ m. refl) on (at.timed, at.synced) in
+pub synced_after : {I M B R : Type 0} (k : Kind I M B R) → IsLawful k
+    → (old new : List (SessionEvent I)) → GoesOn old new → IsSyncedOf k (reverse old)
+    → IsSyncedOf k (reverse new)
+unfolding IsTimedOf
+synced_after k law old new on at =
+    let after = synced_on k.subject old new law.unread on (at.timed, at.synced) in
     record { timed = after.0; synced = after.1 }
 
-pub one_step : (rules : Rules) {steps : List PlainStep}
-    → (m : Material) × (steps ≡ Accept m rules.limits ∷ []) × IsTrue (fits rules.limits m)
-    → IsOneStep steps
-one_step rules (m, is, within) = (Accept m rules.limits, is, within)
+-- ---- of X.509 sessions
+
+pub one_step : (rules : Rules) (run : List Event) → IsFirstStep (x509 rules) run
+    → IsOneStep (steps_of (subject rules) run)
+one_step rules run (m, is, within) = (Accept m rules.limits, is, within)

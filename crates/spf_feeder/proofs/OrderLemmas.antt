@@ -233,7 +233,7 @@ or_right false b h = h
 abbrev pub NoMomentIsRead : {I M L D : Type 0} → Subject (SessionEvent I) M L D → Type 0
 NoMomentIsRead s = (m : ℤ) → s.parsed (events.Moment m) ≡ None
 
-unread_moment : {I M L D : Type 0} (s : Subject (SessionEvent I) M L D)
+pub unread_moment : {I M L D : Type 0} (s : Subject (SessionEvent I) M L D)
     (past : List (SessionEvent I)) (m : ℤ) → NoMomentIsRead s
     → has_synced s (events.Moment m ∷ past) ≡ has_synced s past
 unread_moment s past m unread =

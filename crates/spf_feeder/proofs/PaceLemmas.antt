@@ -24,7 +24,7 @@ passed_over M synced None = refl
 passed_over M true (Some d) = refl
 passed_over M false (Some d) = refl
 
-accepted_brings : {M D : Type 0} (synced : Bool) (o : Option M) (d : Option D)
+pub accepted_brings : {M D : Type 0} (synced : Bool) (o : Option M) (d : Option D)
     → is_accepted (option_map_or Accepted o (denied_or_passed synced d)) ≡ is_some o
 accepted_brings {M} synced None d = passed_over M synced d
 accepted_brings synced (Some m) d = refl

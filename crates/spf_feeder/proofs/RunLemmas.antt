@@ -1,12 +1,12 @@
 -- What one more event does to what is kept of a run.
 use Rattle.std.proofs.Common.{◌≡◌, Bool, true, false, cond, List, [], ◌∷◌, ◌++◌, reverse, Option}
-use Rattle.std.proofs.Common.{None, Some, Result, Ok, Err, inl, refl, sym, ap, ◌∙◌, subst}
+use Rattle.std.proofs.Common.{None, Some, Ok, Err, inl, refl, sym, ap, ◌∙◌, subst}
 use Rattle.std.specs.Prelude.{ℤ, is_some, IsTrue, IfSome}
 use Rattle.std.specs.Borrow.{Bor}
 use Rattle.std.specs.Cmp.{IsEquivalence}
 use Rattle.std.specs.Option.{option_or, option_map, option_to_list}
 use Rattle.std.proofs.lemmas.List.{append-nil}
-use Rattle.spf_view.specs.Views.{Accepted, Denied, Outcome, Passed, Subject, has_synced, outcome}
+use Rattle.spf_view.specs.Views.{Accepted, Denied, Outcome, Passed, Subject, outcome}
 use Rattle.spf_view.specs.Keeping.{IsAt, kept_with_any}
 use Rattle.spf_view.specs.Sessions.{Grows}
 use Rattle.spf_view.specs.Standing.{Kept}
@@ -40,8 +40,8 @@ use Rattle.spf_feeder.specs.Attempts.{attempt_end_by, end_with, gave_accepted_by
 use Rattle.spf_feeder.specs.Attempts.{is_accepted}
 use Rattle.spf_feeder.specs.declared.session.Stop.{Stop}
 use Rattle.spf_feeder.specs.declared.session.Stop.TheVariants as stops
-use Rattle.spf_feeder.specs.declared.session.Foreseen.{Foreseen}
-use Rattle.spf_feeder.specs.declared.session.Place.{Place}
+use Rattle.spf_feeder.specs.declared.x509_session.Foreseen.{Foreseen}
+use Rattle.spf_feeder.specs.declared.x509_session.Place.{Place}
 use Rattle.spf_feeder.specs.Kept.{Accepts, Advanced, AdvancesBy, Denies, Ended, Going, GoingBy}
 use Rattle.spf_feeder.specs.Kept.{Passes, PlainTurn, Progress, PublishedBy, PublishesBy}
 use Rattle.spf_feeder.specs.Kept.{PublishesTurn, StepAppended, Stopped, Terminates, WentBy}

@@ -1,7 +1,7 @@
 -- What asks take of what a connector has to yield.
 use Rattle.std.proofs.Common.{◌≡◌, Bool, true, false, List, [], ◌∷◌, ◌++◌, reverse, Option, None}
 use Rattle.std.proofs.Common.{Some, Result, Ok, Err, cond, refl, sym, ap, ◌∙◌, subst}
-use Rattle.std.specs.Prelude.{IfOk, ℤ}
+use Rattle.std.specs.Prelude.{IfOk}
 use Rattle.std.specs.Option.{option_map}
 use Rattle.spf_view.proofs.ViewLemmas.{last_first}
 use Rattle.spf_api.specs.Refused.{Refused}
@@ -26,6 +26,7 @@ use Rattle.spf_feeder.specs.Asking.{kind_wanted, yielded_by_next, yielded_by_sta
 use Rattle.spf_feeder.specs.Coming.{AllYieldedBy, Coming, Holds, IsYielded, LinkHolds, answers_in}
 use Rattle.spf_feeder.specs.Coming.{left_after_by, left_at, yielded_at}
 use Rattle.spf_feeder.specs.Fed.{IsReadyFor}
+use Rattle.spf_feeder.specs.Kinds.{FollowsEvents}
 
 -- a fact of what a call that went through gave
 pub if_ok : {T E : Type 0} (q : Result T E) (P : T → Type 0) → ((x : T) → q ≡ Ok x → P x) → IfOk q P
@@ -226,22 +227,6 @@ yields_more E wanted ask connector link run old new e first h ready yielded hold
     )
 
 -- ---- where the link is asked next, it is there
-
--- what is asked next follows from the last event that is not a moment
-pub record FollowsEvents {I : Type 0} (ask : List (SessionEvent I) → Phase) : Type 0 where
-  pub keeps : List (SessionEvent I) → I → Bool
-  pub made : (past : List (SessionEvent I)) → ask (events.ClientMade ∷ past) ≡ phases.Connect
-  pub failed : (past : List (SessionEvent I)) (f : ClientFault)
-      → ask (events.ClientFailed f ∷ past) ≡ phases.Client
-  pub connected : (past : List (SessionEvent I)) → ask (events.Connected ∷ past) ≡ phases.Next
-  pub refused : (past : List (SessionEvent I)) (s : Refused)
-      → ask (events.ConnectStatus s ∷ past) ≡ phases.Client
-  pub item : (past : List (SessionEvent I)) (i : I)
-      → ask (events.Item i ∷ past) ≡ cond (keeps past i) phases.Next phases.Client
-  pub broken : (past : List (SessionEvent I)) (s : Refused)
-      → ask (events.ItemStatus s ∷ past) ≡ phases.Client
-  pub ended : (past : List (SessionEvent I)) → ask (events.StreamEnd ∷ past) ≡ phases.Client
-  pub moment : (past : List (SessionEvent I)) (m : ℤ) → ask (events.Moment m ∷ past) ≡ ask past
 
 ready_client : {L : Type 0} (kind : ResponseKind) (kind_of : L → Option ResponseKind) (ask : Phase)
     (link : Option L) → ask ≡ phases.Client → IsReadyFor kind kind_of ask link

@@ -24,7 +24,7 @@ use Rattle.spf_feed.specs.declared.event.SessionEvent.{SessionEvent}
 use Rattle.spf_feed.specs.declared.event.SessionEvent.TheVariants as events
 use Rattle.spf_feed.specs.declared.phase.Phase.{Phase}
 use Rattle.spf_feed.specs.declared.phase.Phase.TheVariants as phases
-use Rattle.spf_feed.specs.Items.{Event, value_of}
+use Rattle.spf_feed.specs.Items.{value_of}
 
 -- the displayed text of a connection that was lost or never made
 abbrev pub connect_text : List ℕ → List ℕ
@@ -133,7 +133,3 @@ contexts = record {
   start = record { headers = with_metadata []; request = request.X509Svid };
   item = context_of;
 }
-
-abbrev pub Asks : {S L E : Type 0} → connectors.Ghosts S L → links.Ghosts L → Phase → Asked S L
-    → Result Event E → Asked S L → Type 0
-Asks connector link ask old result new = AsksFor contexts connector link ask old result new

@@ -13,8 +13,6 @@ use Rattle.spf_feed.specs.declared.event.SessionEvent.{SessionEvent}
 use Rattle.spf_feed.specs.declared.event.SessionEvent.TheVariants as events
 use Rattle.spf_feed.specs.declared.phase.Phase.{Phase}
 use Rattle.spf_feed.specs.declared.phase.Phase.TheVariants as phases
-use Rattle.spf_feed.specs.Items.{Event, Rules, subject, context_in}
-use Rattle.spf_feed.specs.Run.{ask_of}
 
 abbrev pub is_accepted : {M D : Type 0} → Outcome M D → Bool
 is_accepted (Accepted m) = true
@@ -63,11 +61,3 @@ abbrev pub attempt_end_by : {I M L D : Type 0} → Subject (SessionEvent I) M L 
 attempt_end_by s ask past e =
     if is_accepted (outcome s e past) then None
     else end_with (ask (e ∷ past)) (gave_accepted_by s past) e
-
--- ---- of an X.509 session
-
-abbrev pub gave_accepted : Rules → List Event → Bool
-gave_accepted rules past = gave_accepted_by (subject rules) past
-
-abbrev pub attempt_end : Rules → List Event → Event → Option AttemptEnd
-attempt_end rules past e = attempt_end_by (subject rules) (ask_of context_in rules) past e

@@ -8,10 +8,10 @@ use Rattle.spf_feed.specs.declared.event.SessionEvent.{SessionEvent}
 use Rattle.spf_feed.specs.declared.event.SessionEvent.TheVariants as events
 use Rattle.spf_feed.specs.declared.phase.Phase.{Phase}
 use Rattle.spf_feed.specs.declared.phase.Phase.TheVariants as phases
-use Rattle.spf_feed.specs.Items.{Event, Rules, context_in}
-use Rattle.spf_feed.specs.Run.{ask_of}
-use Rattle.spf_feeder.specs.Asking.{Wanted, contexts, kind_wanted}
+use Rattle.spf_feed.specs.Items.{Event, Rules}
+use Rattle.spf_feeder.specs.Asking.{Wanted, kind_wanted}
 use Rattle.spf_feeder.specs.Asking.{yielded_by_connect, yielded_by_next, yielded_by_start}
+use Rattle.spf_feeder.specs.Kinds.{Kind, x509}
 
 -- what each `connect` to come gives, and the answers to come of the link in use
 pub record Coming : Type 0 where
@@ -77,10 +77,17 @@ pub record Holds {S L : Type 0} (members : S → Option (List Member))
   pub members_are : members connector ≡ Some coming.members
   pub answers_are : LinkHolds answers coming.answers link
 
+-- ---- of a session of some kind
+
+unfoldable pub left_of : {I M B R : Type 0} → Kind I M B R → List Member
+    → List (SessionEvent I) → Coming
+left_of k members past = left_after_by k.ask members past
+
+unfoldable pub AllYieldedOf : {I M B R : Type 0} → Kind I M B R → List Member
+    → List (SessionEvent I) → Type 0
+AllYieldedOf k members past = AllYieldedBy k.wanted k.ask members past
+
 -- ---- of an X.509 session
 
-unfoldable pub left_after : Rules → List Member → List Event → Coming
-left_after rules members past = left_after_by (ask_of context_in rules) members past
-
-unfoldable pub AllYielded : Rules → List Member → List Event → Type 0
-AllYielded rules members past = AllYieldedBy contexts (ask_of context_in rules) members past
+abbrev pub AllYielded : Rules → List Member → List Event → Type 0
+AllYielded rules members past = AllYieldedOf (x509 rules) members past

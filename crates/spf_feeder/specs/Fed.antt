@@ -1,8 +1,7 @@
 -- A feeder: a connector and its link, and the run of what they yield.
-use Rattle.std.specs.Prelude.{◌≡◌, true, List, ◌∷◌, [], ◌++◌, reverse, Option, None}
-use Rattle.std.specs.Prelude.{Some, Result, Ok, Err, ◌⊎◌}
+use Rattle.std.specs.Prelude.{◌≡◌, true, false, List, ◌∷◌, [], ◌++◌, reverse, Option, None}
+use Rattle.std.specs.Prelude.{Some, Result, Ok, Err, ◌⊎◌, IfSome}
 use Rattle.spf_io.specs.declared.memory.OutOfMemory.{OutOfMemory}
-use Rattle.spf_api.specs.declared.response.ContextResponse.{ContextResponse}
 use Rattle.spf_api.specs.declared.response.ResponseKind.{ResponseKind}
 use Rattle.spf_link.specs.Connecting.{Member}
 use Rattle.spf_link.specs.declared.answer.Answer.{Answer}
@@ -12,13 +11,12 @@ use Rattle.spf_pace.specs.declared.pacer.AttemptEnd.{AttemptEnd}
 use Rattle.spf_feed.specs.declared.event.SessionEvent.{SessionEvent}
 use Rattle.spf_feed.specs.declared.phase.Phase.{Phase}
 use Rattle.spf_feed.specs.declared.phase.Phase.TheVariants as phases
-use Rattle.spf_feed.specs.declared.record.MetricsRecord.{MetricsRecord}
 use Rattle.spf_feed.specs.Items.{Event, Rules}
 use Rattle.spf_feeder.specs.declared.session.Stop.{Stop}
 use Rattle.spf_feeder.specs.declared.session.Stop.TheVariants as stops
-use Rattle.spf_feeder.specs.Asking.{Asked, AsksOnceFor, contexts, kind_wanted}
-use Rattle.spf_feeder.specs.Coming.{AllYielded, Coming, Holds, left_after}
-use Rattle.spf_feeder.specs.Kept.{Advanced, Core, Progress, progress}
+use Rattle.spf_feeder.specs.Asking.{Asked, AsksOnceFor, kind_wanted}
+use Rattle.spf_feeder.specs.Coming.{AllYieldedOf, Coming, Holds, left_of}
+use Rattle.spf_feeder.specs.Kept.{Advanced, Progress}
 use Rattle.spf_feeder.specs.Kinds.{Kind, x509}
 
 -- What contracts see of a feeder, where C is the core.
@@ -56,6 +54,22 @@ pub record YieldsBy {S L I : Type 0} (All : List Member → List (SessionEvent I
     (first : List Member) : Type 0 where
   pub yielded : All first (reverse run)
   pub rest : Holds members answers (left first (reverse run)) asked.connector asked.link
+
+-- the same of a session of some kind
+abbrev pub YieldsOf : {S L I M B R : Type 0} → Kind I M B R → (S → Option (List Member))
+    → (L → Option (List Answer)) → List (SessionEvent I) → Asked S L → List Member → Type 0
+YieldsOf k members answers run asked first =
+    YieldsBy (AllYieldedOf k) (left_of k) members answers run asked first
+
+-- While a session goes on, its link may be asked for what comes next, and its events are what the
+-- asks take of the connector as it was handed in.
+pub record IsFed {S L I M B R N : Type 0} (k : Kind I M B R) (connector : connectors.Ghosts S L)
+    (link : links.Ghosts L) (progress : Progress N I) (asked : Asked S L) (first : S) :
+    Type 0 where
+  pub ready : progress.stuck ≡ false → IsReadyFor (kind_wanted k.wanted) link.kind
+      (k.ask (reverse progress.run)) asked.link
+  pub yields : progress.stuck ≡ false → IfSome (connector.members first)
+      (YieldsOf k connector.members link.answers progress.run asked)
 
 -- A turn that went through: one ask, one more event, which is published before the next turn.
 pub record TurnedOnce {S L I M B R N : Type 0} (k : Kind I M B R)
@@ -105,23 +119,6 @@ StopsFor {I} k run (stops.Terminal end) =
 StopsFor k run stops.OutOfMemory = Unit {0}
 
 -- ---- of an X.509 session
-
-abbrev pub Fed : (S L P M K : Type 0) → Type 0
-Fed S L P M K = FedOf S L (Core P M K)
-
-abbrev pub IsReady : {L : Type 0} → (L → Option ResponseKind) → Phase → Option L → Type 0
-IsReady kind_of ask link = IsReadyFor (kind_wanted contexts) kind_of ask link
-
-abbrev pub Yields : {S L : Type 0} → (S → Option (List Member)) → (L → Option (List Answer)) → Rules
-    → List Event → Asked S L → List Member → Type 0
-Yields members answers rules run asked first =
-    YieldsBy (AllYielded rules) (left_after rules) members answers run asked first
-
-abbrev pub Turns : {S L P M K E : Type 0} → connectors.Ghosts S L → links.Ghosts L
-    → (M → Option (List MetricsRecord)) → Rules → Fed S L P M K → Result (Option AttemptEnd) E
-    → Fed S L P M K → Type 0
-Turns connector link records rules old r new =
-    TurnsBy (x509 rules) connector link records (with_core progress old) r (with_core progress new)
 
 abbrev pub StopsBy : Rules → List Event → Stop → Type 0
 StopsBy rules run stop = StopsFor (x509 rules) run stop

@@ -158,6 +158,19 @@ core_of publisher recorder settings picker run stuck = record {
 abbrev pub progress : {P M K : Type 0} → Core P M K → Progress M ContextResponse
 progress core = record { recorder = core.recorder; run = core.run; stuck = core.stuck }
 
+-- what no event changes: the rules, and where the steps are published
+pub record Given (K : Type 0) : Type 0 where
+  pub settings : SessionRules
+  pub picker : Option K
+  pub target : List ℕ
+
+abbrev pub given : {P M K : Type 0} → (P → List ℕ) → Core P M K → Given K
+given target core = record {
+  settings = core.settings;
+  picker = core.picker;
+  target = target core.publisher;
+}
+
 -- the rules of a session, where `picks` is what pickers pick
 abbrev pub rules_by : {K : Type 0} → (K → List Svid → Option ℕ) → SessionRules → Option K → Rules
 rules_by picks settings picker =
@@ -167,11 +180,6 @@ abbrev pub Going : Rules → List Event → Option (List PlainStep) → Option (
     → Option ℤ → Phase → Bool → Type 0
 Going rules run steps kept now phase gave =
     GoingBy (x509 rules) run kept now phase gave × (IsTrue (is_some kept) → HasStep steps)
-
-abbrev pub Advances : {P M K : Type 0} → (M → Option (List MetricsRecord)) → Rules → Core P M K
-    → Event → Result (Option AttemptEnd) Stop → Core P M K → Type 0
-Advances records rules old e r new =
-    AdvancesBy (x509 rules) records (progress old) e r (progress new)
 
 abbrev pub turn_in : Turn → PlainTurn Material MetricsRecord
 turn_in (turns.Terminal end) = Terminates end

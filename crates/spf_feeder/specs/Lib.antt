@@ -4,6 +4,7 @@ pub mod Coming
 pub mod Fed
 pub mod Kept
 pub mod Kinds
+pub mod Laws
 pub mod Opened
 pub mod Orderly
 pub mod Pacing

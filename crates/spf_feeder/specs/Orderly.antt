@@ -1,20 +1,25 @@
 -- What the events of a feeder are: each is what the ask before it yields, or a moment, and none is
 -- terminal. What is asked next after a history is `ask`, and how an event ends it `refusal`.
 use Rattle.std.specs.Prelude.{◌≡◌, Bool, true, false, not, ◌||◌, ◌&&◌, if◌then◌else◌, List, [], ◌∷◌}
-use Rattle.std.specs.Prelude.{◌++◌, Option, None, Some, reverse}
+use Rattle.std.specs.Prelude.{◌++◌, Option, None, Some, IsTrue, reverse}
+use Rattle.spf_view.specs.Steps.{Accept, steps_of}
 use Rattle.spf_view.specs.Views.{Subject, has_synced}
 use Rattle.spf_feed.specs.declared.event.SessionEvent.{SessionEvent}
 use Rattle.spf_feed.specs.declared.event.SessionEvent.TheVariants as events
 use Rattle.spf_feed.specs.declared.phase.Phase.{Phase}
 use Rattle.spf_feed.specs.declared.phase.Phase.TheVariants as phases
-use Rattle.spf_feed.specs.Items.{Event, Rules, context_in, subject}
-use Rattle.spf_feed.specs.Run.{ask_of, stream}
+use Rattle.spf_feed.specs.Items.{Event, Rules}
 use Rattle.spf_feed.specs.Steps.{MayFollow, PlainStep}
 use Rattle.spf_feeder.specs.Asking.{is_client}
+use Rattle.spf_feeder.specs.Kinds.{Kind, x509}
 
 abbrev pub is_moment : {I : Type 0} → SessionEvent I → Bool
 is_moment (events.Moment m) = true
 is_moment _ = false
+
+abbrev pub is_item : {I : Type 0} → SessionEvent I → Bool
+is_item (events.Item i) = true
+is_item _ = false
 
 -- whether an event is one that the ask yields
 abbrev pub does_answer : {I : Type 0} → Phase → SessionEvent I → Bool
@@ -84,35 +89,51 @@ AreTimed s [] = Unit {0}
 AreTimed s (e ∷ past) =
     (is_timed (ends_with_moment past) (has_synced s past) e ≡ true) × AreTimed s past
 
--- ---- of an X.509 session
+-- ---- of a session of some kind
 
-unfoldable pub IsOrderly : Rules → List Event → Type 0
-IsOrderly rules past = AreOrderly (ask_of context_in rules) (stream rules).refusal past
+unfoldable pub IsOrderlyOf : {I M B R : Type 0} → Kind I M B R → List (SessionEvent I) → Type 0
+IsOrderlyOf k past = AreOrderly k.ask k.refusal past
 
-abbrev pub AddsAnswer : Rules → List Event → List Event → Type 0
-AddsAnswer rules old new = AddsAnswerTo (ask_of context_in rules) old new
-
-unfoldable pub IsTimed : Rules → List Event → Type 0
-IsTimed rules past = AreTimed (subject rules) past
+unfoldable pub IsTimedOf : {I M B R : Type 0} → Kind I M B R → List (SessionEvent I) → Type 0
+IsTimedOf k past = AreTimed k.subject past
 
 -- nothing is accepted yet, and the moments so far stand where they should: the last event is one
 -- only where a client is asked for next
-pub record IsOpening (rules : Rules) (run : List Event) : Type 0 where
-  pub timed : IsTimed rules (reverse run)
-  pub unsynced : has_synced (subject rules) (reverse run) ≡ false
-  pub ends : ends_with_moment (reverse run) ≡ true
-      → is_client (ask_of context_in rules (reverse run)) ≡ true
+pub record IsOpening {I M B R : Type 0} (k : Kind I M B R) (run : List (SessionEvent I)) :
+    Type 0 where
+  pub timed : IsTimedOf k (reverse run)
+  pub unsynced : has_synced k.subject (reverse run) ≡ false
+  pub ends : ends_with_moment (reverse run) ≡ true → is_client (k.ask (reverse run)) ≡ true
 
 -- the same, where the last event is a moment exactly if a client is asked for next
-pub record IsAboutToAsk (rules : Rules) (run : List Event) : Type 0 where
-  pub timed : IsTimed rules (reverse run)
-  pub unsynced : has_synced (subject rules) (reverse run) ≡ false
-  pub ends : ends_with_moment (reverse run) ≡ is_client (ask_of context_in rules (reverse run))
+pub record IsAboutToAsk {I M B R : Type 0} (k : Kind I M B R) (run : List (SessionEvent I)) :
+    Type 0 where
+  pub timed : IsTimedOf k (reverse run)
+  pub unsynced : has_synced k.subject (reverse run) ≡ false
+  pub ends : ends_with_moment (reverse run) ≡ is_client (k.ask (reverse run))
 
 -- something is accepted, and the moments before it stand where they should; the newest first
-pub record IsSynced (rules : Rules) (past : List Event) : Type 0 where
-  pub timed : IsTimed rules past
-  pub synced : has_synced (subject rules) past ≡ true
+pub record IsSyncedOf {I M B R : Type 0} (k : Kind I M B R) (past : List (SessionEvent I)) :
+    Type 0 where
+  pub timed : IsTimedOf k past
+  pub synced : has_synced k.subject past ≡ true
+
+-- there is exactly one step, which accepts something within the limits
+abbrev pub IsFirstStep : {I M B R : Type 0} → Kind I M B R → List (SessionEvent I) → Type 0
+IsFirstStep {M = M} k run =
+    (m : M) × (steps_of k.subject run ≡ Accept m k.subject.limits ∷ [])
+    × IsTrue (k.subject.is_within k.subject.limits m)
+
+-- ---- of an X.509 session
+
+abbrev pub IsOrderly : Rules → List Event → Type 0
+IsOrderly rules past = IsOrderlyOf (x509 rules) past
+
+abbrev pub IsTimed : Rules → List Event → Type 0
+IsTimed rules past = IsTimedOf (x509 rules) past
+
+abbrev pub IsSynced : Rules → List Event → Type 0
+IsSynced rules past = IsSyncedOf (x509 rules) past
 
 -- there is exactly one step, which may be the first of all
 abbrev pub IsOneStep : List PlainStep → Type 0

@@ -7,9 +7,9 @@ use Rattle.spf_pace.specs.Pacing.{Paces, paced_by}
 use Rattle.spf_view.specs.Views.{Subject, has_synced, outcome}
 use Rattle.spf_feed.specs.declared.event.SessionEvent.{SessionEvent}
 use Rattle.spf_feed.specs.declared.phase.Phase.{Phase}
-use Rattle.spf_feed.specs.Items.{Event, Rules, context_in, subject}
-use Rattle.spf_feed.specs.Run.{ask_of}
+use Rattle.spf_feed.specs.Items.{Event, Rules}
 use Rattle.spf_feeder.specs.Attempts.{attempt_end_by, is_accepted}
+use Rattle.spf_feeder.specs.Kinds.{Kind, x509}
 
 -- the first accepted item
 abbrev pub opens_by : {E M L D : Type 0} → Subject E M L D → List E → E → Bool
@@ -28,22 +28,26 @@ abbrev pub KeepsPaceBy : {I M L D : Type 0} → Subject (SessionEvent I) M L D
     → (List (SessionEvent I) → Phase) → List (SessionEvent I) → Pace → Type 0
 KeepsPaceBy s ask run pace = Paces (pace_steps s ask (reverse run)) pace
 
--- ---- of an X.509 session
+-- ---- of a session of some kind
 
-abbrev pub opens : Rules → List Event → Event → Bool
-opens rules past e = opens_by (subject rules) past e
-
-unfoldable pub KeepsPace : Rules → List Event → Pace → Type 0
-KeepsPace rules run pace = KeepsPaceBy (subject rules) (ask_of context_in rules) run pace
+unfoldable pub KeepsPaceOf : {I M B R : Type 0} → Kind I M B R → List (SessionEvent I) → Pace
+    → Type 0
+KeepsPaceOf k run pace = KeepsPaceBy k.subject k.ask run pace
 
 -- After a refused ask the delays are those of the run, or of the run before its last event.
-pub record Halted (rules : Rules) (run : List Event) (pace : Pace) : Type 0 where
-  pub before : List Event
-  pub keeps : KeepsPace rules before pace
-  pub run_is : (run ≡ before) ⊎ ((e : Event) × (run ≡ before ++ e ∷ []))
+pub record Halted {I M B R : Type 0} (k : Kind I M B R) (run : List (SessionEvent I))
+    (pace : Pace) : Type 0 where
+  pub before : List (SessionEvent I)
+  pub keeps : KeepsPaceOf k before pace
+  pub run_is : (run ≡ before) ⊎ ((e : SessionEvent I) × (run ≡ before ++ e ∷ []))
 
 -- where an ask and the pause after it leave the delays
-abbrev pub PacesOn : {T E : Type 0} → Rules → List Event → Pace → Result T E → List Event → Pace
-    → Type 0
-PacesOn rules run pace (Ok done) run' pace' = KeepsPace rules run pace → KeepsPace rules run' pace'
-PacesOn rules run pace (Err e) run' pace' = KeepsPace rules run pace → Halted rules run' pace'
+abbrev pub PacesOn : {I M B R T E : Type 0} → Kind I M B R → List (SessionEvent I) → Pace
+    → Result T E → List (SessionEvent I) → Pace → Type 0
+PacesOn k run pace (Ok done) run' pace' = KeepsPaceOf k run pace → KeepsPaceOf k run' pace'
+PacesOn k run pace (Err e) run' pace' = KeepsPaceOf k run pace → Halted k run' pace'
+
+-- ---- of an X.509 session
+
+abbrev pub KeepsPace : Rules → List Event → Pace → Type 0
+KeepsPace rules run pace = KeepsPaceOf (x509 rules) run pace

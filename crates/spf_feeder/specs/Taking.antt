@@ -1,5 +1,5 @@
 -- What one more event does where a session stands.
-use Rattle.std.specs.Prelude.{◌≡◌, ℤ, Bool, List, ◌∷◌, [], ◌++◌, reverse, Option, None, Some}
+use Rattle.std.specs.Prelude.{◌≡◌, Bool, List, ◌∷◌, [], ◌++◌, reverse, Option, None, Some}
 use Rattle.std.specs.Prelude.{Result, Ok, Err, if◌then◌else◌}
 use Rattle.std.specs.Option.{option_or}
 use Rattle.spf_pace.specs.declared.pacer.AttemptEnd.{AttemptEnd}
@@ -15,11 +15,11 @@ use Rattle.spf_feed.specs.Received.{received_records, received_refusal}
 use Rattle.spf_feed.specs.Steps.{Material, PlainStep}
 use Rattle.spf_feed.specs.Turns.{IsTurn, listed}
 use Rattle.spf_feeder.specs.Attempts.{attempt_end_by, end_with, gave_with}
-use Rattle.spf_feeder.specs.declared.session.Foreseen.{Foreseen}
-use Rattle.spf_feeder.specs.declared.session.Place.{Place}
+use Rattle.spf_feeder.specs.declared.x509_session.Foreseen.{Foreseen}
+use Rattle.spf_feeder.specs.declared.x509_session.Place.{Place}
 use Rattle.spf_feeder.specs.declared.session.Stop.{Stop}
 use Rattle.spf_feeder.specs.declared.session.Stop.TheVariants as stops
-use Rattle.spf_feeder.specs.declared.session.Taken.{Taken}
+use Rattle.spf_feeder.specs.declared.x509_session.Taken.{Taken}
 use Rattle.spf_feeder.specs.Kept.{Going, PublishedBy, accepts}
 use Rattle.spf_feeder.specs.Kinds.{Kind, x509}
 

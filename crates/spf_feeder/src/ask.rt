@@ -1,17 +1,14 @@
 //! One ask of a connector or of its link, and the event that it yields.
 
-ghost use Rattle.std.specs.Prelude.{◌≡◌, [], Some, IfOk, is_some, true};
-ghost use Rattle.std.specs.Option.{ForSome};
-ghost use Rattle.spf_api.specs.declared.response.ResponseKind.TheVariants as kind;
+ghost use Rattle.std.specs.Prelude.{◌≡◌, [], Some, IfOk};
 ghost use Rattle.spf_link.specs.Metadata.{with_metadata};
-ghost use Rattle.spf_feeder.specs.Asking.{Asks, ClientAsked, StreamAsked, ItemAsked, connect_text};
-ghost use Rattle.spf_feeder.specs.Asking.{context_of, contexts, refused_as};
-ghost use Rattle.spf_feeder.specs.Fed.{IsReady};
+ghost use Rattle.spf_feeder.specs.Asking.{AsksFor, ClientAsked, StreamAsked, ItemAsked};
+ghost use Rattle.spf_feeder.specs.Asking.{connect_text, kind_wanted, refused_as};
+ghost use Rattle.spf_feeder.specs.Fed.{IsReadyFor};
 
-use spf_api::{
-    ClientFault, GrpcStatusCode, GrpcStatusError, LinkFault, Response, TransportConnectError,
-};
-use spf_feed::{Event, Phase, SessionEvent};
+use crate::session::Session;
+use spf_api::{ClientFault, GrpcStatusCode, GrpcStatusError, LinkFault, TransportConnectError};
+use spf_feed::{Phase, SessionEvent};
 use spf_io::{OutOfMemory, Text};
 use spf_link::{Connector, Headers, Link, MetadataAdder, NoInterceptor, Request};
 use std::alloc::Global;
@@ -25,8 +22,8 @@ fn connect_message(alloc: Global, e: &TransportConnectError) -> Result<Text, Out
     Ok(Text::new(format!(in alloc; "gRPC transport connection failed: {source}")?))
 }
 
-/// Returns the status that a refusal of a link yields.
-pub fn status_of(alloc: Global, fault: LinkFault) -> Result<GrpcStatusError, OutOfMemory>
+/// The status that a refusal of a link yields.
+fn status_of(alloc: Global, fault: LinkFault) -> Result<GrpcStatusError, OutOfMemory>
     ensures { IfOk result (λ s. refused_as fault ≡ Some s) }
 {
     match fault {
@@ -39,8 +36,8 @@ pub fn status_of(alloc: Global, fault: LinkFault) -> Result<GrpcStatusError, Out
     }
 }
 
-/// Returns the headers of each `start`.
-pub fn stream_headers(alloc: Global) -> Result<Headers, OutOfMemory>
+/// The headers of each `start`.
+fn stream_headers(alloc: Global) -> Result<Headers, OutOfMemory>
     ensures { IfOk result (λ h. h ≡ with_metadata []) }
 {
     let mut headers = Headers::new(alloc);
@@ -54,7 +51,7 @@ pub fn stream_headers(alloc: Global) -> Result<Headers, OutOfMemory>
 }
 
 /// Asks for a client. Its link takes the place of the one before.
-pub fn ask_client<I: Drop, C: Connector>(
+fn ask_client<I: Drop, C: Connector>(
     connector: &mut C,
     link: &mut Option<C::Link>,
 ) -> Result<SessionEvent<I>, OutOfMemory>
@@ -78,7 +75,7 @@ where
 }
 
 /// Asks the link for a stream.
-pub fn ask_stream<I: Drop, L: Link>(
+fn ask_stream<I: Drop, L: Link>(
     alloc: Global,
     link: &mut L,
     headers: &Headers,
@@ -94,30 +91,37 @@ pub fn ask_stream<I: Drop, L: Link>(
 }
 
 /// Asks the link for the next item of its stream.
-fn ask_item<L: Link>(alloc: Global, link: &mut L) -> Result<Event, OutOfMemory>
-    requires { L.kind link.old ≡ Some kind.Context }
-    ensures asked { ItemAsked context_of L.Link link.old result link.new }
-    ensures kind { L.kind link.new ≡ Some kind.Context }
+fn ask_item<L: Link, S: Session>(
+    alloc: Global,
+    link: &mut L,
+    session: &S,
+) -> Result<SessionEvent<S::Item>, OutOfMemory>
+    requires { L.kind link.old ≡ Some (kind_wanted (S.kind (S.given session.now)).wanted) }
+    ensures { ItemAsked (S.kind (S.given session.now)).wanted.item L.Link link.old result link.new }
 {
     match link.next() {
-        Ok(Some(Response::Context(response))) => Ok(Event::Item(response)),
-        Ok(Some(_)) => unreachable!(),
-        Ok(None) => Ok(Event::StreamEnd),
-        Err(fault) => Ok(Event::ItemStatus(status_of(alloc, fault)?)),
+        Ok(Some(response)) => match session.item_of(response) {
+            Some(item) => Ok(SessionEvent::Item(item)),
+            None => unreachable!(),
+        },
+        Ok(None) => Ok(SessionEvent::StreamEnd),
+        Err(fault) => Ok(SessionEvent::ItemStatus(status_of(alloc, fault)?)),
     }
 }
 
 /// Asks once, for what comes next.
-pub(crate) fn ask<C: Connector>(
+pub(crate) fn ask<C: Connector, S: Session>(
     alloc: Global,
     connector: &mut C,
     link: &mut Option<C::Link>,
+    session: &S,
     phase: Phase,
-) -> Result<Event, OutOfMemory>
+) -> Result<SessionEvent<S::Item>, OutOfMemory>
 where
     C::Link: Drop,
-    requires { IsReady C.Link.kind phase link.old }
-    ensures { Asks C.Connector C.Link.Link phase
+    requires { IsReadyFor (kind_wanted (S.kind (S.given session.now)).wanted) C.Link.kind phase
+        link.old }
+    ensures { AsksFor (S.kind (S.given session.now)).wanted C.Connector C.Link.Link phase
         (record { connector = connector.old; link = link.old }) result
         (record { connector = connector.new; link = link.new }) }
 {
@@ -128,13 +132,13 @@ where
             let Some(asked) = link.as_mut() else {
                 unreachable!()
             };
-            ask_stream(alloc, asked, &headers, &Request::X509Svid)
+            ask_stream(alloc, asked, &headers, &session.request())
         }
         Phase::Next => {
             let Some(asked) = link.as_mut() else {
                 unreachable!()
             };
-            ask_item(alloc, asked)
+            ask_item(alloc, asked, session)
         }
     }
 }

@@ -8,7 +8,7 @@ ghost use Rattle.spf_feeder.specs.Attempts as spec;
 
 use crate::received::copy_of_status;
 use spf_api::{ClientFault, GrpcStatusError, WorkloadApiError};
-use spf_feed::{Event, Phase, Received};
+use spf_feed::{Phase, SessionEvent};
 use spf_io::OutOfMemory;
 use spf_pace::AttemptEnd;
 use std::alloc::Global;
@@ -52,44 +52,45 @@ fn item_end(next: Phase, gave_accepted: bool) -> Option<AttemptEnd>
     }
 }
 
-/// How an event that is not accepted ends the attempt, where `next` is what comes next.
-pub(crate) fn end_of(
+/// Returns how an event that is not accepted ends the attempt, where `next` is what comes next.
+pub fn end_of<I: Drop>(
     alloc: Global,
     next: Phase,
     gave_accepted: bool,
-    event: &Received,
+    event: &SessionEvent<I>,
 ) -> Result<Option<AttemptEnd>, OutOfMemory>
     ensures { IfOk result (λ o. o ≡ end_with next gave_accepted event.now) }
 {
     match event {
-        Received::ClientFailed(fault) => Ok(Some(AttemptEnd::Client {
+        SessionEvent::ClientFailed(fault) => Ok(Some(AttemptEnd::Client {
             no_identity: failure_says_no_identity(alloc, fault)?,
         })),
-        Received::ConnectStatus(status) => Ok(Some(AttemptEnd::Connect {
+        SessionEvent::ConnectStatus(status) => Ok(Some(AttemptEnd::Connect {
             no_identity: says_no_identity(alloc, status)?,
         })),
-        Received::Item(_) => Ok(item_end(next, gave_accepted)),
-        Received::ItemStatus(status) => Ok(Some(AttemptEnd::Stream {
+        SessionEvent::Item(_) => Ok(item_end(next, gave_accepted)),
+        SessionEvent::ItemStatus(status) => Ok(Some(AttemptEnd::Stream {
             gave_accepted,
             no_identity: says_no_identity(alloc, status)?,
         })),
-        Received::StreamEnd => Ok(Some(AttemptEnd::Stream {
+        SessionEvent::StreamEnd => Ok(Some(AttemptEnd::Stream {
             gave_accepted,
             no_identity: false,
         })),
-        Received::ClientMade | Received::Connected | Received::Moment(_) | Received::Close => {
-            Ok(None)
-        }
+        SessionEvent::ClientMade
+        | SessionEvent::Connected
+        | SessionEvent::Moment(_)
+        | SessionEvent::Close => Ok(None),
     }
 }
 
-/// Whether the stream of the last connection gave an accepted item, after an event that is accepted
-/// or not.
-pub(crate) fn gave_after(gave_accepted: bool, is_accepted: bool, event: &Event) -> bool
+/// Returns whether the stream of the last connection gave an accepted item, after an event that is
+/// accepted or not.
+pub fn gave_after<I: Drop>(gave_accepted: bool, is_accepted: bool, event: &SessionEvent<I>) -> bool
     ensures { result ≡ gave_with gave_accepted is_accepted event.now }
 {
     match event {
-        Event::Connected => false,
+        SessionEvent::Connected => false,
         _ => is_accepted || gave_accepted,
     }
 }

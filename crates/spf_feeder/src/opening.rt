@@ -1,21 +1,22 @@
-//! How a feeder is opened: by its initial synchronisation.
+//! How the feeder of a session is opened: by its initial synchronisation.
 
-ghost use Rattle.std.specs.Prelude.{◌≡◌, ◌≤ℤ◌, pos, [], false, true, IfErr, IfOk, IfSome, reverse};
-ghost use Rattle.std.specs.Option.{ForSome, option_map};
-ghost use Rattle.spf_view.specs.Steps.{steps_of};
+ghost use Rattle.std.specs.Prelude.{◌≡◌, ◌∷◌, [], ◌≤ℤ◌, pos, false, true, IfErr, IfOk, List};
+ghost use Rattle.std.specs.Prelude.{reverse};
+ghost use Rattle.std.specs.Option.{option_map};
 ghost use Rattle.spf_view.specs.Views.{has_synced};
-ghost use Rattle.spf_feed.specs.Items.{subject};
-ghost use Rattle.spf_feeder.specs.Kept.{rules_by};
-ghost use Rattle.spf_feeder.specs.Opened.{HasDeadline, StopsOpening};
-ghost use Rattle.spf_feeder.specs.Orderly.{IsOneStep, IsTimed};
-ghost use Rattle.spf_feeder.specs.Pacing.{KeepsPace};
-ghost use Rattle.spf_feeder.specs.Times.{GivesMoments, deadline_after as deadline_from};
+ghost use Rattle.spf_feed.specs.declared.event.SessionEvent.{SessionEvent};
+ghost use Rattle.spf_feed.specs.declared.event.SessionEvent.TheVariants as events;
+ghost use Rattle.spf_feed.specs.declared.phase.Phase.TheVariants as phases;
+ghost use Rattle.spf_feeder.specs.Fed.{StopsFor};
+ghost use Rattle.spf_feeder.specs.Orderly.{IsFirstStep, IsTimedOf};
+ghost use Rattle.spf_feeder.specs.Pacing.{KeepsPaceOf};
+ghost use Rattle.spf_feeder.specs.Times.{GivesMoments, TakesMoment};
+ghost use Rattle.spf_feeder.specs.Times.{deadline_after as deadline_from};
 
-use crate::feeder::Feeder;
-use crate::session::Stop;
+use crate::feeder::SessionFeeder;
+use crate::session::{Session, Stop};
 use crate::synchronisation::{deadline_after, next_moment, synchronise};
 use rand_core::Rng;
-use spf_feed::{MetricsRecorder, Publisher, Ready, ResourceLimits, SessionRules, SvidPicker};
 use spf_link::Connector;
 use spf_pace::{Pace, ReconnectConfig};
 use spf_system::{Clock, Pause};
@@ -24,18 +25,22 @@ use std::mem::drop;
 use std::sync::Wait;
 use std::time::Duration;
 
-/// What a feeder is opened with.
-#[derive(Clone, Copy)]
-pub struct Opening {
-    pub limits: ResourceLimits,
-    pub ready: Ready,
-    pub bounds: ReconnectConfig,
-    /// How long the initial synchronisation may take.
-    pub timeout: Option<Duration>,
+/// Returns the moment from which a deadline counts: the next one that the clock gives. It pauses as
+/// before an attempt where the clock gives none.
+pub fn first_moment<T: Clock, W: Pause, H: Wait>(
+    rt: &H,
+    clock: &mut T,
+    pause: &mut W,
+    bounds: ReconnectConfig,
+) -> i64
+    ensures moment { TakesMoment (T.moments clock.old) (T.moments clock.new) result }
+    ensures range { pos 0 ≤ℤ result }
+{
+    next_moment(rt, clock, pause, bounds.normalize().min_backoff)
 }
 
-/// The deadline after the first moment.
-fn deadline_of(first: i64, timeout: Option<Duration>) -> Option<i64>
+/// Returns the deadline after the first moment.
+pub fn deadline_of(first: i64, timeout: Option<Duration>) -> Option<i64>
     requires { pos 0 ≤ℤ first }
     ensures { result ≡ option_map (deadline_from first) timeout }
 {
@@ -45,71 +50,59 @@ fn deadline_of(first: i64, timeout: Option<Duration>) -> Option<i64>
     }
 }
 
-/// Takes a moment from the clock, from which the deadline counts, and synchronises. It returns a
-/// feeder whose first item was accepted, and its pace.
-#[tactic(auto, unfolding(crate::specs::Orderly::IsTimed))]
-pub fn open_feeder<C, P, M, K, R, T, W, H>(
+/// Synchronises a session that begins with the first moment. Returns a feeder whose first item was
+/// accepted, and its pace.
+#[tactic(auto, unfolding(crate::specs::Orderly::IsTimedOf))]
+pub fn open_session<C, S, R, T, W, H>(
     rt: &H,
     alloc: Global,
     connector: C,
-    publisher: P,
-    recorder: M,
-    picker: Option<K>,
-    opening: Opening,
+    session: S,
+    first: i64,
+    bounds: ReconnectConfig,
     random: &mut R,
     clock: &mut T,
     pause: &mut W,
-) -> Result<(Feeder<C, P, M, K>, Pace), Stop>
+) -> Result<(SessionFeeder<C, S>, Pace), Stop>
 where
     C: Connector + Drop,
     C::Link: Drop,
-    P: Publisher + Drop,
-    M: MetricsRecorder + Drop,
-    K: SvidPicker + Drop,
+    S: Session,
     R: Rng,
     T: Clock,
     W: Pause,
     H: Wait,
-    requires picker { ForSome picker K.can_pick }
-    requires unused { IfSome (P.steps publisher) (λ steps. steps ≡ []) }
+    requires going { (S.progress session).stuck ≡ false }
+    requires unused { (S.progress session).run ≡ [] }
+    requires client { (S.kind (S.given session)).ask [] ≡ phases.Client }
+    ensures given { IfOk result (λ r. S.given r.0.core ≡ S.given session) }
     ensures first { IfOk result (λ r. r.0.first ≡ connector) }
-    ensures picker { IfOk result (λ r. r.0.core.picker ≡ picker) }
-    ensures limits { IfOk result (λ r. r.0.core.settings.limits ≡ opening.limits) }
-    ensures ready { IfOk result (λ r. r.0.core.settings.ready ≡ opening.ready) }
-    ensures deadline { IfOk result (λ r. HasDeadline opening.timeout r.0.core.settings.deadline) }
-    ensures going { IfOk result (λ r. r.0.core.stuck ≡ false) }
-    ensures synced { IfOk result (λ r. has_synced
-        (subject (rules_by K.picks r.0.core.settings r.0.core.picker)) (reverse r.0.core.run)
-        ≡ true) }
-    ensures timed { IfOk result (λ r. IsTimed
-        (rules_by K.picks r.0.core.settings r.0.core.picker) (reverse r.0.core.run)) }
-    ensures once { IfOk result (λ r. IsOneStep (steps_of (subject
-        (rules_by K.picks r.0.core.settings r.0.core.picker)) r.0.core.run)) }
+    ensures going { IfOk result (λ r. (S.progress r.0.core).stuck ≡ false) }
+    ensures synced { IfOk result (λ r. has_synced (S.kind (S.given session)).subject
+        (reverse (S.progress r.0.core).run) ≡ true) }
+    ensures timed { IfOk result (λ r. IsTimedOf (S.kind (S.given session))
+        (reverse (S.progress r.0.core).run)) }
+    ensures once { IfOk result (λ r. IsFirstStep (S.kind (S.given session))
+        (S.progress r.0.core).run) }
 
-    // The moments are those that the clock gave.
-    ensures clock { IfOk result (λ r. GivesMoments (T.moments clock.old) (T.moments clock.new) []
-        r.0.core.run) }
-    ensures bounds { IfOk result (λ r. r.1.bounds ≡ opening.bounds) }
-    ensures paces { IfOk result (λ r. KeepsPace
-        (rules_by K.picks r.0.core.settings r.0.core.picker) r.0.core.run r.1) }
+    // The moments after the first are those that the clock gave.
+    ensures clock { IfOk result (λ r. GivesMoments (T.moments clock.old) (T.moments clock.new)
+        (events.Moment first ∷ []) (S.progress r.0.core).run) }
+    ensures bounds { IfOk result (λ r. r.1.bounds ≡ bounds) }
+    ensures paces { IfOk result (λ r. KeepsPaceOf (S.kind (S.given session))
+        (S.progress r.0.core).run r.1) }
 
     // A terminal event came before anything was accepted.
-    ensures ended { IfErr result (StopsOpening K.picks opening.limits opening.timeout opening.ready
-        picker) }
+    ensures ended { IfErr result (λ stop. (run : List (SessionEvent S.Item))
+        × StopsFor (S.kind (S.given session)) run stop) }
 {
-    let delay = opening.bounds.normalize().min_backoff;
-    let first = next_moment(rt, clock, pause, delay);
-    let settings = SessionRules {
-        limits: opening.limits,
-        deadline: deadline_of(first, opening.timeout),
-        ready: opening.ready,
-    };
-    let mut feeder = Feeder::new(alloc, connector, publisher, recorder, picker, settings);
+    let mut feeder = SessionFeeder::new(alloc, connector, session);
     if let Err(stop) = feeder.take_moment(first) {
         drop(feeder);
         return Err(stop);
     }
-    let mut pace = Pace::new(alloc, opening.bounds);
+    let mut pace = Pace::new(alloc, bounds);
+    let delay = bounds.normalize().min_backoff;
     match synchronise(rt, &mut feeder, &mut pace, random, clock, pause, delay) {
         Ok(()) => Ok((feeder, pace)),
         Err(stop) => {

@@ -1,17 +1,19 @@
 //! An event as it is received: its item is read down to its context.
 
-ghost use Rattle.std.specs.Prelude.{◌≡◌, Err, IfOk};
+ghost use Rattle.std.specs.Prelude.{◌≡◌, Err, IfOk, false};
 ghost use Rattle.spf_api.specs.Errors.{is_memory_api};
 ghost use Rattle.spf_feed.specs.Events.{map_item};
 ghost use Rattle.spf_feed.specs.Items.{IsReceived, context_in};
+ghost use Rattle.spf_feeder.specs.Orderly.{is_item};
 
 use spf_api::{ClientFault, ContextResponse, GrpcStatusError, WorkloadApiError, context_from};
-use spf_feed::{Event, Received};
+use spf_feed::{Event, Received, SessionEvent};
 use spf_io::{OutOfMemory, Text};
 use spf_x509::X509Context;
 use std::alloc::Global;
 use std::mem::drop;
 
+/// A copy of a status.
 pub(crate) fn copy_of_status(
     alloc: Global,
     status: &GrpcStatusError,
@@ -29,6 +31,7 @@ pub(crate) fn copy_of_status(
     }
 }
 
+/// A copy of a fault.
 fn copy_of_fault(alloc: Global, fault: &ClientFault) -> Result<ClientFault, OutOfMemory>
     ensures { IfOk result (λ f. f ≡ fault.now) }
 {
@@ -76,21 +79,39 @@ fn context_of(alloc: Global, response: &ContextResponse) -> Result<Option<X509Co
     received(context_from(alloc, response))
 }
 
+/// Returns an event as it is received, which is not an item.
+pub fn beside_item<I: Drop, J: Drop>(
+    alloc: Global,
+    event: &SessionEvent<I>,
+) -> Result<SessionEvent<J>, OutOfMemory>
+    requires { is_item event.now ≡ false }
+    ensures { (read : I → J) → IfOk result (λ r. r ≡ map_item read event.now) }
+{
+    match event {
+        SessionEvent::ClientMade => Ok(SessionEvent::ClientMade),
+        SessionEvent::ClientFailed(fault) => {
+            Ok(SessionEvent::ClientFailed(copy_of_fault(alloc, fault)?))
+        }
+        SessionEvent::Connected => Ok(SessionEvent::Connected),
+        SessionEvent::ConnectStatus(status) => {
+            Ok(SessionEvent::ConnectStatus(copy_of_status(alloc, status)?))
+        }
+        SessionEvent::Item(_) => unreachable!(),
+        SessionEvent::ItemStatus(status) => {
+            Ok(SessionEvent::ItemStatus(copy_of_status(alloc, status)?))
+        }
+        SessionEvent::StreamEnd => Ok(SessionEvent::StreamEnd),
+        SessionEvent::Moment(moment) => Ok(SessionEvent::Moment(*moment)),
+        SessionEvent::Close => Ok(SessionEvent::Close),
+    }
+}
+
 /// The event as it is received.
 pub(crate) fn received_of(alloc: Global, event: &Event) -> Result<Received, OutOfMemory>
     ensures { IfOk result (λ r. r ≡ map_item context_in event.now) }
 {
     match event {
-        Event::ClientMade => Ok(Received::ClientMade),
-        Event::ClientFailed(fault) => Ok(Received::ClientFailed(copy_of_fault(alloc, fault)?)),
-        Event::Connected => Ok(Received::Connected),
-        Event::ConnectStatus(status) => {
-            Ok(Received::ConnectStatus(copy_of_status(alloc, status)?))
-        }
         Event::Item(response) => Ok(Received::Item(context_of(alloc, response)?)),
-        Event::ItemStatus(status) => Ok(Received::ItemStatus(copy_of_status(alloc, status)?)),
-        Event::StreamEnd => Ok(Received::StreamEnd),
-        Event::Moment(moment) => Ok(Received::Moment(*moment)),
-        Event::Close => Ok(Received::Close),
+        other => beside_item(alloc, other),
     }
 }

@@ -1,16 +1,14 @@
 //! The loop of a supervisor: asks with pauses between them, until a caller closes the source.
 
 ghost use Rattle.std.specs.Prelude.{◌≡◌, false, IfErr, IfNone, IfSome, OnOk};
-ghost use Rattle.spf_feeder.specs.Fed.{StopsBy};
-ghost use Rattle.spf_feeder.specs.Kept.{rules_by};
-ghost use Rattle.spf_feeder.specs.Orderly.{AddsAnswer, GoesOn};
-ghost use Rattle.spf_feeder.specs.Pacing.{Halted, KeepsPace, PacesOn};
+ghost use Rattle.spf_feeder.specs.Fed.{StopsFor};
+ghost use Rattle.spf_feeder.specs.Orderly.{AddsAnswerTo, GoesOn};
+ghost use Rattle.spf_feeder.specs.Pacing.{Halted, KeepsPaceOf, PacesOn};
 
-use crate::feeder::Feeder;
-use crate::session::Stop;
+use crate::feeder::SessionFeeder;
+use crate::session::{Session, Stop};
 use rand_core::Rng;
 use spf_close::{Closed, Maker, Watch};
-use spf_feed::{MetricsRecorder, Publisher, SvidPicker};
 use spf_link::Connector;
 use spf_pace::Pace;
 use spf_system::Pause;
@@ -18,9 +16,9 @@ use std::mem::drop;
 use std::sync::Wait;
 
 /// Asks once, and pauses where that ended an attempt.
-#[tactic(auto, unfolding(crate::specs::Pacing::KeepsPace))]
-pub(crate) fn paced_ask<C, P, M, K, R, W>(
-    feeder: &mut Feeder<C, P, M, K>,
+#[tactic(auto, unfolding(crate::specs::Pacing::KeepsPaceOf))]
+pub(crate) fn paced_ask<C, S, R, W>(
+    feeder: &mut SessionFeeder<C, S>,
     pace: &mut Pace,
     random: &mut R,
     pause: &mut W,
@@ -28,26 +26,21 @@ pub(crate) fn paced_ask<C, P, M, K, R, W>(
 where
     C: Connector + Drop,
     C::Link: Drop,
-    P: Publisher + Drop,
-    M: MetricsRecorder + Drop,
-    K: SvidPicker + Drop,
+    S: Session,
     R: Rng,
     W: Pause,
-    requires going { feeder.old.core.stuck ≡ false }
-    ensures settings { feeder.new.core.settings ≡ feeder.old.core.settings }
-    ensures picker { feeder.new.core.picker ≡ feeder.old.core.picker }
+    requires going { (S.progress feeder.old.core).stuck ≡ false }
+    ensures given { S.given feeder.new.core ≡ S.given feeder.old.core }
     ensures first { feeder.new.first ≡ feeder.old.first }
-    ensures target { P.target feeder.new.core.publisher ≡ P.target feeder.old.core.publisher }
-    ensures goes_on { GoesOn feeder.old.core.run feeder.new.core.run }
+    ensures goes_on { GoesOn (S.progress feeder.old.core).run (S.progress feeder.new.core).run }
     ensures bounds { pace.new.bounds ≡ pace.old.bounds }
-    ensures going { OnOk result (feeder.new.core.stuck ≡ false) }
-    ensures adds { OnOk result (AddsAnswer
-        (rules_by K.picks feeder.old.core.settings feeder.old.core.picker) feeder.old.core.run
-        feeder.new.core.run) }
-    ensures paces { PacesOn (rules_by K.picks feeder.old.core.settings feeder.old.core.picker)
-        feeder.old.core.run pace.old result feeder.new.core.run pace.new }
-    ensures ended { IfErr result (StopsBy
-        (rules_by K.picks feeder.old.core.settings feeder.old.core.picker) feeder.new.core.run) }
+    ensures going { OnOk result ((S.progress feeder.new.core).stuck ≡ false) }
+    ensures adds { OnOk result (AddsAnswerTo (S.kind (S.given feeder.old.core)).ask
+        (S.progress feeder.old.core).run (S.progress feeder.new.core).run) }
+    ensures paces { PacesOn (S.kind (S.given feeder.old.core)) (S.progress feeder.old.core).run
+        pace.old result (S.progress feeder.new.core).run pace.new }
+    ensures ended { IfErr result (StopsFor (S.kind (S.given feeder.old.core))
+        (S.progress feeder.new.core).run) }
 {
     let was_synced = feeder.is_synced();
     match feeder.ask_once()? {
@@ -78,9 +71,9 @@ fn by_caller(closed: Closed) -> Option<Closed>
 
 /// Asks until a caller closes the source, and returns what shows that; or None, where memory ran
 /// out. It looks at the closed mark between two asks.
-pub fn supervise<C, P, M, K, R, W, H>(
+pub fn supervise<C, S, R, W, H>(
     rt: &H,
-    feeder: &mut Feeder<C, P, M, K>,
+    feeder: &mut SessionFeeder<C, S>,
     pace: &mut Pace,
     random: &mut R,
     pause: &mut W,
@@ -89,30 +82,25 @@ pub fn supervise<C, P, M, K, R, W, H>(
 where
     C: Connector + Drop,
     C::Link: Drop,
-    P: Publisher + Drop,
-    M: MetricsRecorder + Drop,
-    K: SvidPicker + Drop,
+    S: Session,
     R: Rng,
     W: Pause,
     H: Wait,
-    requires going { feeder.old.core.stuck ≡ false }
-    requires keeps { KeepsPace (rules_by K.picks feeder.old.core.settings feeder.old.core.picker)
-        feeder.old.core.run pace.old }
-    ensures settings { feeder.new.core.settings ≡ feeder.old.core.settings }
-    ensures picker { feeder.new.core.picker ≡ feeder.old.core.picker }
+    requires going { (S.progress feeder.old.core).stuck ≡ false }
+    requires keeps { KeepsPaceOf (S.kind (S.given feeder.old.core))
+        (S.progress feeder.old.core).run pace.old }
+    ensures given { S.given feeder.new.core ≡ S.given feeder.old.core }
     ensures first { feeder.new.first ≡ feeder.old.first }
-    ensures target { P.target feeder.new.core.publisher ≡ P.target feeder.old.core.publisher }
-    ensures goes_on { GoesOn feeder.old.core.run feeder.new.core.run }
+    ensures goes_on { GoesOn (S.progress feeder.old.core).run (S.progress feeder.new.core).run }
     ensures bounds { pace.new.bounds ≡ pace.old.bounds }
 
     // A caller closed this cell, and the delays are those of the run.
     ensures closed { IfSome result (λ c. (c.cell ≡ watch.now) × (c.maker ≡ Maker.Caller)
-        × (feeder.new.core.stuck ≡ false)
-        × KeepsPace (rules_by K.picks feeder.old.core.settings feeder.old.core.picker)
-        feeder.new.core.run pace.new) }
-    ensures halted { IfNone result (Halted
-        (rules_by K.picks feeder.old.core.settings feeder.old.core.picker) feeder.new.core.run
+        × ((S.progress feeder.new.core).stuck ≡ false)
+        × KeepsPaceOf (S.kind (S.given feeder.old.core)) (S.progress feeder.new.core).run
         pace.new) }
+    ensures halted { IfNone result (Halted (S.kind (S.given feeder.old.core))
+        (S.progress feeder.new.core).run pace.new) }
 {
     'turns: for _ in rt.forever() {
         if let Some(closed) = watch.look() {

@@ -2,22 +2,18 @@
 //! accepted.
 
 ghost use Rattle.std.specs.Prelude.{◌≡◌, ◌≤ℤ◌, false, true, pos, IfErr, OnOk, reverse};
-ghost use Rattle.spf_view.specs.Steps.{steps_of};
 ghost use Rattle.spf_view.specs.Views.{has_synced};
-ghost use Rattle.spf_feed.specs.Items.{subject};
-ghost use Rattle.spf_feeder.specs.Fed.{StopsBy};
-ghost use Rattle.spf_feeder.specs.Kept.{rules_by};
-ghost use Rattle.spf_feeder.specs.Orderly.{IsAboutToAsk, IsOneStep, IsOpening, IsTimed};
-ghost use Rattle.spf_feeder.specs.Pacing.{KeepsPace};
+ghost use Rattle.spf_feeder.specs.Fed.{StopsFor};
+ghost use Rattle.spf_feeder.specs.Orderly.{IsAboutToAsk, IsFirstStep, IsOpening, IsTimedOf};
+ghost use Rattle.spf_feeder.specs.Pacing.{KeepsPaceOf};
 ghost use Rattle.spf_feeder.specs.Times.{GivesMoments, TakesMoment};
 ghost use Rattle.spf_feeder.specs.Times as spec;
 ghost use Rattle.spf_pace.specs.declared.pace.Pace.{Pace as Paces};
 
-use crate::feeder::Feeder;
-use crate::session::Stop;
+use crate::feeder::SessionFeeder;
+use crate::session::{Session, Stop};
 use crate::supervisor::paced_ask;
 use rand_core::Rng;
-use spf_feed::{MetricsRecorder, Publisher, SvidPicker};
 use spf_link::Connector;
 use spf_pace::Pace;
 use spf_system::{Clock, Pause};
@@ -56,10 +52,10 @@ pub(crate) fn deadline_after(first: i64, timeout: Duration) -> i64
 
 /// Takes a moment of the clock where a client is asked for next, so that it stands right before the
 /// client.
-#[tactic(auto, unfolding(crate::specs::Orderly::IsTimed, crate::specs::Pacing::KeepsPace))]
-fn moment_before<C, P, M, K, T, W, H>(
+#[tactic(auto, unfolding(crate::specs::Orderly::IsTimedOf, crate::specs::Pacing::KeepsPaceOf))]
+fn moment_before<C, S, T, W, H>(
     rt: &H,
-    feeder: &mut Feeder<C, P, M, K>,
+    feeder: &mut SessionFeeder<C, S>,
     clock: &mut T,
     pause: &mut W,
     delay: Duration,
@@ -67,31 +63,27 @@ fn moment_before<C, P, M, K, T, W, H>(
 where
     C: Connector + Drop,
     C::Link: Drop,
-    P: Publisher + Drop,
-    M: MetricsRecorder + Drop,
-    K: SvidPicker + Drop,
+    S: Session,
     T: Clock,
     W: Pause,
     H: Wait,
-    requires going { feeder.old.core.stuck ≡ false }
-    requires timed { IsOpening (rules_by K.picks feeder.old.core.settings feeder.old.core.picker)
-        feeder.old.core.run }
-    ensures settings { feeder.new.core.settings ≡ feeder.old.core.settings }
-    ensures picker { feeder.new.core.picker ≡ feeder.old.core.picker }
+    requires going { (S.progress feeder.old.core).stuck ≡ false }
+    requires timed { IsOpening (S.kind (S.given feeder.old.core))
+        (S.progress feeder.old.core).run }
+    ensures given { S.given feeder.new.core ≡ S.given feeder.old.core }
     ensures handed { feeder.new.first ≡ feeder.old.first }
     ensures asked { feeder.new.asked ≡ feeder.old.asked }
-    ensures going { OnOk result (feeder.new.core.stuck ≡ false) }
-    ensures timed { OnOk result (IsAboutToAsk
-        (rules_by K.picks feeder.old.core.settings feeder.old.core.picker) feeder.new.core.run) }
+    ensures going { OnOk result ((S.progress feeder.new.core).stuck ≡ false) }
+    ensures timed { OnOk result (IsAboutToAsk (S.kind (S.given feeder.old.core))
+        (S.progress feeder.new.core).run) }
     ensures clock { OnOk result (GivesMoments (T.moments clock.old) (T.moments clock.new)
-        feeder.old.core.run feeder.new.core.run) }
-    ensures paces { (pace : Paces) → KeepsPace
-        (rules_by K.picks feeder.old.core.settings feeder.old.core.picker) feeder.old.core.run pace
-        → OnOk result (KeepsPace
-        (rules_by K.picks feeder.old.core.settings feeder.old.core.picker) feeder.new.core.run
-        pace) }
-    ensures ended { IfErr result (StopsBy
-        (rules_by K.picks feeder.old.core.settings feeder.old.core.picker) feeder.new.core.run) }
+        (S.progress feeder.old.core).run (S.progress feeder.new.core).run) }
+    ensures paces { (pace : Paces) → KeepsPaceOf (S.kind (S.given feeder.old.core))
+        (S.progress feeder.old.core).run pace
+        → OnOk result (KeepsPaceOf (S.kind (S.given feeder.old.core))
+        (S.progress feeder.new.core).run pace) }
+    ensures ended { IfErr result (StopsFor (S.kind (S.given feeder.old.core))
+        (S.progress feeder.new.core).run) }
 {
     if !feeder.asks_client() || feeder.ends_with_moment() {
         return Ok(());
@@ -105,9 +97,9 @@ where
 
 /// Asks until the first item is accepted, with a moment of the clock right before each attempt, and
 /// a pause after each that failed.
-pub(crate) fn synchronise<C, P, M, K, R, T, W, H>(
+pub(crate) fn synchronise<C, S, R, T, W, H>(
     rt: &H,
-    feeder: &mut Feeder<C, P, M, K>,
+    feeder: &mut SessionFeeder<C, S>,
     pace: &mut Pace,
     random: &mut R,
     clock: &mut T,
@@ -117,38 +109,32 @@ pub(crate) fn synchronise<C, P, M, K, R, T, W, H>(
 where
     C: Connector + Drop,
     C::Link: Drop,
-    P: Publisher + Drop,
-    M: MetricsRecorder + Drop,
-    K: SvidPicker + Drop,
+    S: Session,
     R: Rng,
     T: Clock,
     W: Pause,
     H: Wait,
-    requires going { feeder.old.core.stuck ≡ false }
-    requires keeps { KeepsPace (rules_by K.picks feeder.old.core.settings feeder.old.core.picker)
-        feeder.old.core.run pace.old }
-    requires timed { IsOpening (rules_by K.picks feeder.old.core.settings feeder.old.core.picker)
-        feeder.old.core.run }
-    ensures settings { feeder.new.core.settings ≡ feeder.old.core.settings }
-    ensures picker { feeder.new.core.picker ≡ feeder.old.core.picker }
+    requires going { (S.progress feeder.old.core).stuck ≡ false }
+    requires keeps { KeepsPaceOf (S.kind (S.given feeder.old.core))
+        (S.progress feeder.old.core).run pace.old }
+    requires timed { IsOpening (S.kind (S.given feeder.old.core))
+        (S.progress feeder.old.core).run }
+    ensures given { S.given feeder.new.core ≡ S.given feeder.old.core }
     ensures handed { feeder.new.first ≡ feeder.old.first }
-    ensures timed { OnOk result (IsTimed
-        (rules_by K.picks feeder.old.core.settings feeder.old.core.picker)
-        (reverse feeder.new.core.run)) }
-    ensures once { OnOk result (IsOneStep (steps_of (subject
-        (rules_by K.picks feeder.old.core.settings feeder.old.core.picker)) feeder.new.core.run)) }
+    ensures timed { OnOk result (IsTimedOf (S.kind (S.given feeder.old.core))
+        (reverse (S.progress feeder.new.core).run)) }
+    ensures once { OnOk result (IsFirstStep (S.kind (S.given feeder.old.core))
+        (S.progress feeder.new.core).run) }
     ensures clock { OnOk result (GivesMoments (T.moments clock.old) (T.moments clock.new)
-        feeder.old.core.run feeder.new.core.run) }
+        (S.progress feeder.old.core).run (S.progress feeder.new.core).run) }
     ensures bounds { pace.new.bounds ≡ pace.old.bounds }
-    ensures going { OnOk result (feeder.new.core.stuck ≡ false) }
-    ensures synced { OnOk result (has_synced
-        (subject (rules_by K.picks feeder.old.core.settings feeder.old.core.picker))
-        (reverse feeder.new.core.run) ≡ true) }
-    ensures paces { OnOk result (KeepsPace
-        (rules_by K.picks feeder.old.core.settings feeder.old.core.picker) feeder.new.core.run
-        pace.new) }
-    ensures ended { IfErr result (StopsBy
-        (rules_by K.picks feeder.old.core.settings feeder.old.core.picker) feeder.new.core.run) }
+    ensures going { OnOk result ((S.progress feeder.new.core).stuck ≡ false) }
+    ensures synced { OnOk result (has_synced (S.kind (S.given feeder.old.core)).subject
+        (reverse (S.progress feeder.new.core).run) ≡ true) }
+    ensures paces { OnOk result (KeepsPaceOf (S.kind (S.given feeder.old.core))
+        (S.progress feeder.new.core).run pace.new) }
+    ensures ended { IfErr result (StopsFor (S.kind (S.given feeder.old.core))
+        (S.progress feeder.new.core).run) }
 {
     'asks: for _ in rt.forever() {
         moment_before(rt, feeder, clock, pause, delay)?;

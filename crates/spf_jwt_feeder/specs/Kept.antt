@@ -1,13 +1,12 @@
 -- What is kept of a run: its events, oldest first, what it published, and where it stands.
-use Rattle.std.specs.Prelude.{◌≡◌, ℤ, Bool, IfSome, IsTrue, is_some, List, Option, Result}
+use Rattle.std.specs.Prelude.{◌≡◌, ℕ, ℤ, Bool, IfSome, IsTrue, is_some, List, Option, Result}
 use Rattle.spf_api.specs.declared.response.BundlesResponse.{BundlesResponse}
-use Rattle.spf_pace.specs.declared.pacer.AttemptEnd.{AttemptEnd}
 use Rattle.spf_view.specs.Standing.{Kept}
 use Rattle.spf_view.specs.Steps.{steps_of}
 use Rattle.spf_feed.specs.declared.phase.Phase.{Phase}
 use Rattle.spf_feed.specs.declared.step.Denial.{Denial}
 use Rattle.spf_feeder.specs.declared.session.Stop.{Stop}
-use Rattle.spf_feeder.specs.Kept.{Accepts, AdvancesBy, Denies, GoingBy, Passes, PlainTurn, Progress}
+use Rattle.spf_feeder.specs.Kept.{Accepts, Denies, GoingBy, Passes, PlainTurn, Progress}
 use Rattle.spf_feeder.specs.Kept.{PublishesBy, Terminates, accepts_in}
 use Rattle.spf_jwt.specs.Bundle.{set_eq}
 use Rattle.spf_jwt.specs.declared.limits.JwtResourceLimits.{JwtResourceLimits}
@@ -46,6 +45,14 @@ core_of publisher recorder settings run stuck = record {
 abbrev pub progress : {P M : Type 0} → Core P M → Progress M BundlesResponse
 progress core = record { recorder = core.recorder; run = core.run; stuck = core.stuck }
 
+-- what no event changes: the rules, and where the steps are published
+pub record Given : Type 0 where
+  pub settings : JwtSessionRules
+  pub target : List ℕ
+
+abbrev pub given : {P M : Type 0} → (P → List ℕ) → Core P M → Given
+given target core = record { settings = core.settings; target = target core.publisher }
+
 -- the rules of a session
 abbrev pub rules_of : JwtSessionRules → Rules
 rules_of settings = record { limits = settings.limits; deadline = settings.deadline }
@@ -56,11 +63,6 @@ abbrev pub Going : Rules → List Event → Option (List PlainStep) → Option (
 Going rules run steps kept phase gave =
     ((moment : Option ℤ) × GoingBy (jwt rules) run kept moment phase gave)
     × (IsTrue (is_some kept) → HasStep steps)
-
-abbrev pub Advances : {P M : Type 0} → (M → Option (List JwtMetricsRecord)) → Rules → Core P M
-    → Event → Result (Option AttemptEnd) Stop → Core P M → Type 0
-Advances records rules old e r new =
-    AdvancesBy (jwt rules) records (progress old) e r (progress new)
 
 abbrev pub turn_in : Turn → PlainTurn BundleSet JwtMetricsRecord
 turn_in (turns.Terminal end) = Terminates end

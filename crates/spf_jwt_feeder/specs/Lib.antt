@@ -1,9 +1,9 @@
 pub mod Asking
-pub mod Attempts
 pub mod Coming
 pub mod Fed
 pub mod Kept
 pub mod Kinds
+pub mod Laws
 pub mod Opened
 pub mod Orderly
 pub mod Pacing

@@ -1,32 +1,30 @@
-//! How a feeder is opened: by its initial synchronisation.
+//! How a feeder of JWT bundles is opened.
 
-ghost use Rattle.std.specs.Prelude.{◌≡◌, ◌≤ℤ◌, pos, [], false, true, IfErr, IfOk, IfSome, reverse};
-ghost use Rattle.std.specs.Option.{option_map};
+ghost use Rattle.std.specs.Prelude.{◌≡◌, [], false, true, IfErr, IfOk, IfSome, reverse};
 ghost use Rattle.spf_view.specs.Steps.{steps_of};
 ghost use Rattle.spf_view.specs.Views.{has_synced};
 ghost use Rattle.spf_jwt_feed.specs.Items.{subject};
 ghost use Rattle.spf_jwt_feeder.specs.Kept.{rules_of};
-ghost use Rattle.spf_feeder.specs.Opened.{HasDeadline};
-ghost use Rattle.spf_feeder.specs.Times.{deadline_after as deadline_from};
 ghost use Rattle.spf_jwt_feeder.specs.Opened.{StopsOpening};
 ghost use Rattle.spf_jwt_feeder.specs.Orderly.{IsOneStep, IsTimed};
 ghost use Rattle.spf_jwt_feeder.specs.Pacing.{KeepsPace};
+ghost use Rattle.spf_feeder.specs.Opened.{HasDeadline};
 ghost use Rattle.spf_feeder.specs.Times.{GivesMoments};
 
-use crate::feeder::JwtFeeder;
-use crate::session::JwtSessionRules;
-use crate::synchronisation::{deadline_after, next_moment, synchronise};
+use crate::session::{JwtSession, JwtSessionRules};
 use rand_core::Rng;
-use spf_feeder::Stop;
+use spf_feeder::{SessionFeeder, Stop, deadline_of, first_moment, open_session};
 use spf_jwt::JwtResourceLimits;
 use spf_jwt_feed::{JwtMetricsRecorder, JwtPublisher};
 use spf_link::Connector;
 use spf_pace::{Pace, ReconnectConfig};
 use spf_system::{Clock, Pause};
 use std::alloc::Global;
-use std::mem::drop;
 use std::sync::Wait;
 use std::time::Duration;
+
+/// Asks a connector and its link for JWT bundles, and publishes what they yield.
+pub type JwtFeeder<C, P, M> = SessionFeeder<C, JwtSession<P, M>>;
 
 /// What a feeder is opened with.
 #[derive(Clone, Copy)]
@@ -37,20 +35,8 @@ pub struct JwtOpening {
     pub timeout: Option<Duration>,
 }
 
-/// The deadline after the first moment.
-fn deadline_of(first: i64, timeout: Option<Duration>) -> Option<i64>
-    requires { pos 0 ≤ℤ first }
-    ensures { result ≡ option_map (deadline_from first) timeout }
-{
-    match timeout {
-        Some(timeout) => Some(deadline_after(first, timeout)),
-        None => None,
-    }
-}
-
 /// Takes a moment from the clock, from which the deadline counts, and synchronises. It returns a
 /// feeder whose first item was accepted, and its pace.
-#[tactic(auto, unfolding(crate::specs::Orderly::IsTimed))]
 pub fn open_jwt_feeder<C, P, M, R, T, W, H>(
     rt: &H,
     alloc: Global,
@@ -94,24 +80,25 @@ where
     // A terminal event came before anything was accepted.
     ensures ended { IfErr result (StopsOpening opening.limits opening.timeout) }
 {
-    let delay = opening.bounds.normalize().min_backoff;
-    let first = next_moment(rt, clock, pause, delay);
-    let settings = JwtSessionRules {
+    let first = first_moment(rt, clock, pause, opening.bounds);
+    let rules = JwtSessionRules {
         limits: opening.limits,
         deadline: deadline_of(first, opening.timeout),
     };
-    let mut feeder = JwtFeeder::new(alloc, connector, publisher, recorder, settings);
-    if let Err(stop) = feeder.take_moment(first) {
-        drop(feeder);
-        return Err(stop);
-    }
-    let mut pace = Pace::new(alloc, opening.bounds);
-    match synchronise(rt, &mut feeder, &mut pace, random, clock, pause, delay) {
-        Ok(()) => Ok((feeder, pace)),
-        Err(stop) => {
-            drop(feeder);
-            drop(pace);
-            Err(stop)
-        }
+    let session = JwtSession::new(alloc, publisher, recorder, rules);
+    let opened = open_session(
+        rt,
+        alloc,
+        connector,
+        session,
+        first,
+        opening.bounds,
+        random,
+        clock,
+        pause,
+    );
+    match opened {
+        Ok(opened) => Ok(opened),
+        Err(stop) => Err(stop),
     }
 }

@@ -1,30 +1,28 @@
-//! The core of a feeder: the events so far, what they published, and where they stand.
+//! Sessions of JWT bundles: the events so far, what they published, and where they stand.
 
 ghost use Rattle.std.specs.Prelude.{◌≡◌, ◌∷◌, [], true, false, None, Some, IsTrue, IfOk, OnOk};
 ghost use Rattle.std.specs.Prelude.{IfErr, IfSome, List, reverse, is_some, if◌then◌else◌, ◌||◌};
 ghost use Rattle.std.specs.Arc.{arc_value};
-ghost use Rattle.spf_view.specs.Views.{has_synced};
-ghost use Rattle.spf_jwt_feed.specs.Items.{Event as SessionOf, item_in, subject};
-ghost use Rattle.spf_jwt_feed.specs.Run.{ask_of};
+ghost use Rattle.spf_jwt_feed.specs.Items.{Event as SessionOf};
 ghost use Rattle.spf_jwt_feed.specs.Following.{update_of};
 ghost use Rattle.spf_jwt_feed.specs.Steps.{HasStep};
 ghost use Rattle.spf_jwt_feed.specs.Turns.{MayTake, listed};
-ghost use Rattle.spf_jwt_feeder.specs.Kept.{Advances, Going, Published, PublishesTurn, accepts};
-ghost use Rattle.spf_jwt_feeder.specs.Kept.{core_of, rules_of};
+ghost use Rattle.spf_jwt_feeder.specs.Kept.{Going, Published, PublishesTurn, accepts, core_of};
+ghost use Rattle.spf_jwt_feeder.specs.Kept.{rules_of};
 ghost use Rattle.spf_jwt_feeder.specs.Taking.{Foresees, Takes};
-ghost use Rattle.spf_feeder.specs.Orderly.{does_answer, is_moment};
 ghost use Rattle.spf_jwt_feeder.specs.Orderly.{IsOrderly};
 
-use crate::attempt::{end_of, gave_after};
 use crate::received::received_of;
+use spf_api::{BundlesResponse, Response};
 use spf_feed::{Change, Phase};
-use spf_feeder::Stop;
+use spf_feeder::{Session, Stop, end_of, gave_after};
 use spf_io::OutOfMemory;
 use spf_jwt::JwtResourceLimits;
 use spf_jwt_feed::{
     JwtEvent, JwtMetricsRecord, JwtMetricsRecorder, JwtPublisher, JwtSnapshot, JwtStep, Records,
     Turn, phase_after, publish, record_all, turn_of,
 };
+use spf_link::Request;
 use spf_pace::AttemptEnd;
 use std::alloc::Global;
 use std::marker::Model;
@@ -199,10 +197,10 @@ pub struct JwtSessionParts<P: JwtPublisher + Drop> {
     pub rules: JwtSessionRules,
 }
 
-/// The events so far, with all that they publish and record. Once a turn was refused it takes no
-/// further event.
+/// The events so far, with all that they publish and record. Once an event was refused it takes
+/// none.
 #[derive(Drop)]
-pub(crate) struct Session<P: JwtPublisher + Drop, M: JwtMetricsRecorder + Drop> {
+pub struct JwtSession<P: JwtPublisher + Drop, M: JwtMetricsRecorder + Drop> {
     alloc: Global,
     publisher: P,
     recorder: M,
@@ -213,7 +211,7 @@ pub(crate) struct Session<P: JwtPublisher + Drop, M: JwtMetricsRecorder + Drop> 
     stuck: bool,
 }
 
-impl<P: JwtPublisher + Drop, M: JwtMetricsRecorder + Drop> Model for Session<P, M> {
+impl<P: JwtPublisher + Drop, M: JwtMetricsRecorder + Drop> Model for JwtSession<P, M> {
     ghost use Rattle.std.specs.Prelude.{◌≡◌, false, reverse};
     ghost use Rattle.spf_jwt_feeder.specs.Kept.{Core, core_of, Published, Going, rules_of};
     ghost use Rattle.spf_jwt_feeder.specs.Orderly.{IsOrderly};
@@ -223,24 +221,24 @@ impl<P: JwtPublisher + Drop, M: JwtMetricsRecorder + Drop> Model for Session<P, 
     ghost view = { λ s. core_of s.publisher s.recorder s.rules s.events.items s.stuck };
 
     ghost invariant = { λ s. Published (P.steps s.publisher) (rules_of s.rules) s.events.items
-        × (s.stuck ≡ false → Going (rules_of s.rules) s.events.items (P.steps s.publisher)
-        s.snapshot s.place.phase s.place.gave_accepted)
+        × (s.stuck ≡ false → Going (rules_of s.rules) s.events.items
+        (P.steps s.publisher) s.snapshot s.place.phase s.place.gave_accepted)
         × IsOrderly (rules_of s.rules) (reverse s.events.items) };
 }
 
-impl<P: JwtPublisher + Drop, M: JwtMetricsRecorder + Drop> Session<P, M> {
+impl<P: JwtPublisher + Drop, M: JwtMetricsRecorder + Drop> JwtSession<P, M> {
     /// A session without events yet, whose publisher has no steps.
-    #[tactic(auto, unfolding(crate::specs::Orderly::IsOrderly))]
+    #[tactic(auto, unfolding(spf_feeder::specs::Orderly::IsOrderlyOf))]
     pub(crate) fn new(
         alloc: Global,
         publisher: P,
         recorder: M,
         rules: JwtSessionRules,
-    ) -> Session<P, M>
+    ) -> JwtSession<P, M>
         requires unused { IfSome (P.steps publisher) (λ steps. steps ≡ []) }
         ensures { result ≡ core_of publisher recorder rules [] false }
     {
-        Session {
+        JwtSession {
             alloc,
             publisher,
             recorder,
@@ -255,52 +253,15 @@ impl<P: JwtPublisher + Drop, M: JwtMetricsRecorder + Drop> Session<P, M> {
         }
     }
 
-    pub(crate) fn is_stuck(&self) -> bool
-        ensures { result ≡ self.now.stuck }
-    {
-        self.stuck
-    }
-
-    /// What is asked next.
-    pub(crate) fn phase(&self) -> Phase
-        requires { self.now.stuck ≡ false }
-        ensures { result ≡ ask_of item_in (rules_of self.now.settings)
-            (reverse self.now.run) }
-    {
-        self.place.phase
-    }
-
-    pub(crate) fn is_synced(&self) -> bool
-        requires { self.now.stuck ≡ false }
-        ensures { result ≡ has_synced
-            (subject (rules_of self.now.settings)) (reverse self.now.run) }
-    {
-        self.snapshot.is_some()
-    }
-
-    /// The events so far, oldest first.
-    pub(crate) fn events(&self) -> &[JwtEvent]
-        ensures { result.now ≡ self.now.run }
-    {
-        self.events.as_slice()
-    }
-
-    /// The events so far, which contracts alone see.
-    pub(crate) fn noted_events(&self) -> snapshot::Snapshot<Vec<JwtEvent>>
-        ensures { result.value.items ≡ self.now.run }
-    {
-        snapshot::Snapshot::of(&self.events)
-    }
-
-    /// The rules of the session.
-    pub(crate) fn rules(&self) -> JwtSessionRules
+    /// Returns the rules of the session.
+    pub fn rules(&self) -> JwtSessionRules
         ensures { result ≡ self.now.settings }
     {
         self.rules
     }
 
-    /// The publisher, which has exactly the steps of the run.
-    pub(crate) fn publisher(&self) -> &P
+    /// Returns the publisher, which has exactly the steps of the events.
+    pub fn publisher(&self) -> &P
         ensures publisher { result.now ≡ self.now.publisher }
         ensures published { Published (P.steps self.now.publisher)
             (rules_of self.now.settings) self.now.run }
@@ -310,7 +271,7 @@ impl<P: JwtPublisher + Drop, M: JwtMetricsRecorder + Drop> Session<P, M> {
 
     /// Returns the same with another publisher, which has published the same steps, and the
     /// publisher that it had until now.
-    pub(crate) fn with_publisher<Q: JwtPublisher + Drop>(self, publisher: Q) -> (Session<Q, M>, P)
+    pub fn with_publisher<Q: JwtPublisher + Drop>(self, publisher: Q) -> (JwtSession<Q, M>, P)
         requires published { Published (Q.steps publisher)
             (rules_of self.settings) self.run }
         requires has_step { HasStep (Q.steps publisher) }
@@ -318,7 +279,7 @@ impl<P: JwtPublisher + Drop, M: JwtMetricsRecorder + Drop> Session<P, M> {
             self.stuck }
         ensures publisher { result.1 ≡ self.publisher }
     {
-        let Session {
+        let JwtSession {
             alloc,
             publisher: before,
             recorder,
@@ -328,7 +289,7 @@ impl<P: JwtPublisher + Drop, M: JwtMetricsRecorder + Drop> Session<P, M> {
             place,
             stuck,
         } = self;
-        let session = Session {
+        let session = JwtSession {
             alloc,
             publisher,
             recorder,
@@ -341,8 +302,8 @@ impl<P: JwtPublisher + Drop, M: JwtMetricsRecorder + Drop> Session<P, M> {
         (session, before)
     }
 
-    /// What is left of a session that goes no further.
-    pub(crate) fn into_parts(self) -> JwtSessionParts<P>
+    /// Returns what is left of a session that goes no further.
+    pub fn into_parts(self) -> JwtSessionParts<P>
         ensures publisher { result.publisher ≡ self.publisher }
         ensures events { result.events.items ≡ self.run }
         ensures rules { result.rules ≡ self.settings }
@@ -351,7 +312,7 @@ impl<P: JwtPublisher + Drop, M: JwtMetricsRecorder + Drop> Session<P, M> {
         ensures orderly { IsOrderly (rules_of self.settings)
             (reverse self.run) }
     {
-        let Session {
+        let JwtSession {
             publisher,
             rules,
             events,
@@ -363,29 +324,91 @@ impl<P: JwtPublisher + Drop, M: JwtMetricsRecorder + Drop> Session<P, M> {
             rules,
         }
     }
+}
 
-    /// Takes no further event.
-    pub(crate) fn stop(&mut self)
-        ensures unchanged { self.new ≡ record self.old { stuck = true } }
-        ensures published { Published (P.steps self.new.publisher)
-            (rules_of self.new.settings) self.new.run }
-    {
+impl<P: JwtPublisher + Drop, M: JwtMetricsRecorder + Drop> Session for JwtSession<P, M> {
+    type Item = BundlesResponse;
+
+    ghost use Rattle.spf_jwt.specs.declared.limits.JwtResourceLimits.{JwtResourceLimits};
+    ghost use Rattle.spf_jwt_feed.specs.declared.record.JwtMetricsRecord.{JwtMetricsRecord};
+    ghost use Rattle.spf_feeder.specs.Kept.{AdvancesBy};
+    ghost use Rattle.spf_feeder.specs.Orderly.{does_answer, is_moment};
+    ghost use Rattle.spf_jwt_feed.specs.Items.{item_in};
+    ghost use Rattle.spf_jwt_feed.specs.Run.{ask_of};
+    ghost use Rattle.spf_jwt_feed.specs.Steps.{BundleSet};
+    ghost use Rattle.spf_jwt_feeder.specs.Kept.{Given, Published, given, progress, rules_of};
+    ghost use Rattle.spf_jwt_feeder.specs.Kinds.{jwt};
+    ghost use Rattle.spf_jwt_feeder.specs.Laws as laws;
+
+    ghost Material = { BundleSet };
+
+    ghost Limits = { JwtResourceLimits };
+
+    ghost Record = { JwtMetricsRecord };
+
+    ghost Recorder = { M };
+
+    ghost records = { M.records };
+
+    ghost Given = { Given };
+
+    ghost given = { given P.target };
+
+    ghost kind = { λ about. jwt (rules_of about.settings) };
+
+    ghost progress = { progress };
+
+    ghost is_published = { λ s. Published (P.steps s.publisher) (rules_of s.settings) s.run };
+
+    ghost lawful = { λ about. laws.lawful (rules_of about.settings) };
+
+    fn is_stuck(&self) -> bool {
+        self.stuck
+    }
+
+    fn phase(&self) -> Phase {
+        self.place.phase
+    }
+
+    fn is_synced(&self) -> bool {
+        self.snapshot.is_some()
+    }
+
+    fn events(&self) -> &[JwtEvent] {
+        self.events.as_slice()
+    }
+
+    fn noted_events(&self) -> snapshot::Snapshot<Vec<JwtEvent>> {
+        snapshot::Snapshot::of(&self.events)
+    }
+
+    fn request(&self) -> Request {
+        Request::JwtBundles
+    }
+
+    fn item_of(&self, response: Response) -> Option<BundlesResponse> {
+        match response {
+            Response::JwtBundles(bundles) => Some(bundles),
+            other => {
+                drop(other);
+                None
+            }
+        }
+    }
+
+    fn stop(&mut self) {
         self.stuck = true;
     }
 
-    /// Takes one more event: its step is published, then it is added to the events, then its
-    /// records are recorded.
-    pub(crate) fn advance(&mut self, event: JwtEvent) -> Result<Option<AttemptEnd>, Stop>
+    fn advance(&mut self, event: JwtEvent) -> Result<Option<AttemptEnd>, Stop>
         requires going { self.old.stuck ≡ false }
         requires fits { (is_moment event || does_answer (ask_of item_in
-            (rules_of self.old.settings) (reverse self.old.run)) event)
-            ≡ true }
-        ensures settings { self.new.settings ≡ self.old.settings }
-        ensures target { P.target self.new.publisher ≡ P.target self.old.publisher }
-        ensures published { Published (P.steps self.new.publisher)
-            (rules_of self.new.settings) self.new.run }
-        ensures advances { Advances M.records
-            (rules_of self.old.settings) self.old event result self.new }
+            (rules_of self.old.settings) (reverse self.old.run)) event) ≡ true }
+        ensures given { given P.target self.new ≡ given P.target self.old }
+        ensures published { Published (P.steps self.new.publisher) (rules_of self.new.settings)
+            self.new.run }
+        ensures advances { AdvancesBy (jwt (rules_of self.old.settings)) M.records
+            (progress self.old) event result (progress self.new) }
     {
         self.stuck = true;
         if self.events.reserve(1).is_err() {

@@ -15,11 +15,12 @@ use crate::publishing::BoardPublisher;
 use crate::record::JwtSupervised;
 use rand_core::Rng;
 use spf_close::{Bell, Closed, Closer, Watch};
+use spf_feeder::supervise;
 use spf_io::OutOfMemory;
 use spf_job::Job;
 use spf_jwt_board::{JwtEnded, JwtPass, settle};
 use spf_jwt_feed::JwtMetricsRecorder;
-use spf_jwt_feeder::{JwtFeeder, JwtSessionParts, supervise};
+use spf_jwt_feeder::{JwtFeeder, JwtSessionParts};
 use spf_link::Connector;
 use spf_pace::Pace;
 use spf_system::Pause;
@@ -141,7 +142,7 @@ where
         publisher,
         events,
         rules,
-    } = feeder.into_parts();
+    } = feeder.into_session().into_parts();
     let (ended, steps) = publisher.finish();
     let record = JwtSupervised::new(events, steps, rules, pace, closed);
     JwtDone {
@@ -160,7 +161,8 @@ where
     ensures board { result.past.book ≡ feeder.core.publisher.book }
     ensures recorded { result.recorded ≡ None }
 {
-    let (ended, _steps) = feeder.into_publisher().finish();
+    let JwtSessionParts { publisher, .. } = feeder.into_session().into_parts();
+    let (ended, _steps) = publisher.finish();
     JwtDone {
         ended,
         supervised: None,

@@ -24,10 +24,11 @@ use rand_core::Rng;
 use spf_api::{EndpointError, WorkloadApiError};
 use spf_close::{Bell, Cells, Closing, JobCells, SourceCells};
 use spf_feed::Terminal;
+use spf_feeder::Stop;
 use spf_io::OutOfMemory;
 use spf_jwt_board::{Front, Jwt, JwtDesk, JwtPass, JwtPlaces, SharedStep, open};
 use spf_jwt_feed::{JwtMetricsRecorder, JwtSourceError, JwtStep, MemJwtPublisher};
-use spf_jwt_feeder::{JwtFeeder, JwtOpening, Stop, open_jwt_feeder};
+use spf_jwt_feeder::{JwtFeeder, JwtOpening, open_jwt_feeder};
 use spf_link::Connector;
 use spf_pace::Pace;
 use spf_pass::placed;
@@ -204,7 +205,7 @@ where
         (rules_of feeder.core.settings)) feeder.core.run) }
 {
     let mut steps = Vec::new(alloc);
-    let (desk, pass) = match opened(rt, alloc, feeder.publisher(), &mut steps) {
+    let (desk, pass) = match opened(rt, alloc, feeder.session().publisher(), &mut steps) {
         Ok(opened) => opened,
         Err(OutOfMemory) => {
             drop(feeder);
@@ -215,9 +216,10 @@ where
     };
     let front = desk.front();
     let publisher = BoardPublisher::new(desk, steps, bell);
-    let (feeder, before) = feeder.with_publisher(publisher);
+    let (session, resting) = feeder.split();
+    let (session, before) = session.with_publisher(publisher);
     drop(before);
-    Ok((feeder, front, pass))
+    Ok((resting.feed(session), front, pass))
 }
 
 /// The source over its front, and its first pass.

@@ -57,8 +57,8 @@ where
     pub fn task(&self) -> JwtTask
         ensures { result ≡ task_of self.now }
     {
-        let front = self.feeder.publisher().front();
-        let rules = self.feeder.rules();
+        let front = self.feeder.session().publisher().front();
+        let rules = self.feeder.session().rules();
         JwtTask {
             front: Snapshot::of(&front),
             watch: Snapshot::of(&self.watch),

@@ -21,7 +21,7 @@ use Rattle.spf_jwt_source.specs.contracts.job.JwtJob as JwtJob
 use Rattle.spf_jwt_source.specs.contracts.job.JwtJob.TheInside as inside
 use Rattle.spf_feed.proofs.record.NoRecorder.TheSendSync as recorder
 use Rattle.spf_pace.proofs.pace.Pace.TheSendSync as pace
-use Rattle.spf_jwt_feeder.proofs.session.Session.TheSendSync as session
+use Rattle.spf_jwt_feeder.proofs.session.JwtSession.TheSendSync as session
 use Rattle.spf_close.proofs.bell.Bell.TheSendSync as bell
 use Rattle.spf_close.proofs.cell.Closer.TheSendSync as closer
 use Rattle.spf_close.proofs.cell.Watch.TheSendSync as watch

@@ -24,7 +24,7 @@ use Rattle.spiffe.specs.contracts.job.X509Job.TheInside as inside
 use Rattle.spf_feed.proofs.picker.NoPicker.TheSendSync as picker
 use Rattle.spf_agent.proofs.doubles.HeldRecorder.TheSendSync as recorder
 use Rattle.spf_pace.proofs.pace.Pace.TheSendSync as pace
-use Rattle.spf_feeder.proofs.session.Session.TheSendSync as session
+use Rattle.spf_feeder.proofs.x509_session.X509Session.TheSendSync as session
 use Rattle.spf_close.proofs.bell.Bell.TheSendSync as bell
 use Rattle.spf_close.proofs.cell.Closer.TheSendSync as closer
 use Rattle.spf_close.proofs.cell.Watch.TheSendSync as watch

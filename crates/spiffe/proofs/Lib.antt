@@ -1,3 +1,4 @@
 pub mod Failing
 pub mod Joining
+pub mod Recording
 pub mod Unyielded

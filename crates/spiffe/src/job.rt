@@ -145,7 +145,7 @@ where
         events,
         rules,
         picker,
-    } = feeder.into_parts();
+    } = feeder.into_session().into_parts();
     let (ended, steps) = publisher.finish();
     let record = Supervised::new(events, steps, rules, picker, pace, closed);
     X509Done {
@@ -165,7 +165,8 @@ where
     ensures board { result.past.book ≡ feeder.core.publisher.book }
     ensures recorded { result.recorded ≡ None }
 {
-    let (ended, _steps) = feeder.into_publisher().finish();
+    let SessionParts { publisher, .. } = feeder.into_session().into_parts();
+    let (ended, _steps) = publisher.finish();
     X509Done {
         ended,
         supervised: None,

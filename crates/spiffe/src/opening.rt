@@ -216,7 +216,7 @@ where
         (rules_by P.picks feeder.core.settings feeder.core.picker)) feeder.core.run) }
 {
     let mut steps = Vec::new(alloc);
-    let (desk, pass) = match opened(rt, alloc, feeder.publisher(), &mut steps) {
+    let (desk, pass) = match opened(rt, alloc, feeder.session().publisher(), &mut steps) {
         Ok(opened) => opened,
         Err(OutOfMemory) => {
             drop(feeder);
@@ -227,9 +227,10 @@ where
     };
     let front = desk.front();
     let publisher = BoardPublisher::new(desk, steps, bell);
-    let (feeder, before) = feeder.with_publisher(publisher);
+    let (session, resting) = feeder.split();
+    let (session, before) = session.with_publisher(publisher);
     drop(before);
-    Ok((feeder, front, pass))
+    Ok((resting.feed(session), front, pass))
 }
 
 /// The source over its front, and its first pass.

@@ -57,14 +57,14 @@ where
     pub fn task(&self) -> Task<K>
         ensures { result ≡ task_of self.now }
     {
-        let front = self.feeder.publisher().front();
-        let rules = self.feeder.rules();
+        let front = self.feeder.session().publisher().front();
+        let rules = self.feeder.session().rules();
         Task {
             front: Snapshot::of(&front),
             watch: Snapshot::of(&self.watch),
             events: self.feeder.noted_events(),
             rules: Snapshot::of(&rules),
-            picker: Snapshot::of(self.feeder.picker()),
+            picker: Snapshot::of(self.feeder.session().picker()),
             pace: Snapshot::of(&self.pace),
         }
     }

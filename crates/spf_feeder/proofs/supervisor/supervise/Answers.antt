@@ -1,6 +1,5 @@
-use Rattle.std.proofs.Common.{rules, ◌≡◌, ◌∙◌, subst, sym}
-use Rattle.spf_feeder.specs.Kept.{rules_by}
-use Rattle.spf_feeder.specs.Pacing.{Halted, KeepsPace}
+use Rattle.std.proofs.Common.{rules, ◌∙◌, subst, sym}
+use Rattle.spf_feeder.specs.Pacing.{Halted, KeepsPaceOf}
 use Rattle.spf_feeder.proofs.OrderLemmas.{goes_further}
 use Rattle.spf_feeder.proofs.supervisor.supervise.Goals as goal
 
@@ -11,34 +10,30 @@ returns-in-Err-clause-goes_on g c =
 pub returns-in-Err-clause-halted : goal.returns-in-Err-clause-halted
 returns-in-Err-clause-halted g c =
     let loop = c.turns.invariant in
-    let core = c.args.feeder.now.core in
-    let same : rules_by g.K.SvidPicker.picks c.turns.feeder.core.settings c.turns.feeder.core.picker
-    ≡ rules_by g.K.SvidPicker.picks core.settings core.picker =
-    λ i. rules_by g.K.SvidPicker.picks (loop.settings i) (loop.picker i) in
-    subst (λ r. Halted r c.paced_ask.new.feeder.core.run c.paced_ask.new.pace) same
+    let run = (g.S.Session.progress c.turns.feeder.core).run in
+    let ended = (g.S.Session.progress c.paced_ask.new.feeder.core).run in
+    subst (λ about. Halted (g.S.Session.kind about) ended c.paced_ask.new.pace) loop.given
     (c.in-Err.ensures.paces
-    (subst (λ r. KeepsPace r c.turns.feeder.core.run c.turns.pace) (sym same) loop.keeps))
+    (subst (λ about. KeepsPaceOf (g.S.Session.kind about) run c.turns.pace) (sym loop.given)
+    loop.keeps))
 
 pub turns-preserved : goal.turns-preserved
 turns-preserved g c =
     let loop = c.turns.invariant in
     let after = c.in-Ok.ensures in
-    let core = c.args.feeder.now.core in
-    let same : rules_by g.K.SvidPicker.picks c.turns.feeder.core.settings c.turns.feeder.core.picker
-    ≡ rules_by g.K.SvidPicker.picks core.settings core.picker =
-    λ i. rules_by g.K.SvidPicker.picks (loop.settings i) (loop.picker i) in
+    let run = (g.S.Session.progress c.turns.feeder.core).run in
+    let longer = (g.S.Session.progress c.paced_ask.new.feeder.core).run in
     let paced = after.paces
-    (subst (λ r. KeepsPace r c.turns.feeder.core.run c.turns.pace) (sym same) loop.keeps) in
+    (subst (λ about. KeepsPaceOf (g.S.Session.kind about) run c.turns.pace) (sym loop.given)
+    loop.keeps) in
     record {
       next = search rules;
       finite = search rules;
-      settings = after.settings ∙ loop.settings;
-      picker = after.picker ∙ loop.picker;
+      given = after.given ∙ loop.given;
       first = after.first ∙ loop.first;
-      target = after.target ∙ loop.target;
       goes_on = goes_further _ _ _ loop.goes_on after.goes_on;
       bounds = after.bounds ∙ loop.bounds;
       going = after.going;
-      keeps = subst (λ r. KeepsPace r c.paced_ask.new.feeder.core.run c.paced_ask.new.pace) same
-          paced;
+      keeps = subst (λ about. KeepsPaceOf (g.S.Session.kind about) longer c.paced_ask.new.pace)
+          loop.given paced;
     }

@@ -1,59 +1,64 @@
-use Rattle.std.proofs.Common.{rules, ◌≡◌, [], ◌∷◌, refl, reverse, sym, ap, ◌∙◌, subst}
-use Rattle.spf_view.specs.Steps.{steps_of}
+use Rattle.std.proofs.Common.{rules, ◌≡◌, [], ◌∷◌, true, reverse, sym, ap, subst, arith, of_z, to_z}
+use Rattle.std.proofs.lemmas.Int.{ints, to_z-of_z}
+use Rattle.std.specs.Int.{w64}
 use Rattle.spf_view.specs.Views.{has_synced}
 use Rattle.spf_feed.specs.declared.event.SessionEvent.TheVariants as events
-use Rattle.spf_jwt_feed.specs.Items.{Rules, item_in, subject}
-use Rattle.spf_jwt_feed.specs.Run.{ask_of}
-use Rattle.spf_jwt_feeder.specs.Fed.{StopsBy}
-use Rattle.spf_jwt_feeder.specs.Kept.{rules_of}
-use Rattle.spf_jwt_feeder.specs.Orderly.{IsOneStep, IsTimed}
+use Rattle.spf_jwt_feed.specs.Items.{subject}
+use Rattle.spf_jwt_feeder.specs.Kept.{Given, rules_of}
+use Rattle.spf_jwt_feeder.specs.Kinds.{jwt}
+use Rattle.spf_feeder.specs.Orderly.{IsFirstStep}
+use Rattle.spf_jwt_feeder.specs.Orderly.{IsTimed}
 use Rattle.spf_jwt_feeder.specs.Pacing.{KeepsPace}
-use Rattle.spf_feeder.proofs.PaceLemmas.{passes_on}
+use Rattle.spf_feeder.proofs.FeedLemmas.{stops_as}
+use Rattle.spf_jwt_feeder.proofs.FeedLemmas.{one_step}
 use Rattle.spf_feeder.proofs.TimeLemmas.{gives_moment, gives_more}
 use Rattle.spf_jwt_feeder.proofs.opening.open_jwt_feeder.Goals as goal
 
-pub synchronise-requires-clause-keeps : goal.synchronise-requires-clause-keeps
-unfolding KeepsPace
-synchronise-requires-clause-keeps g c =
-    let core = c.take_moment.new.self.core in
-    let rule : Rules = rules_of core.settings in
-    let run : core.run ≡ events.Moment c.next_moment-first.result ∷ [] = search rules in
-    subst (λ l. KeepsPace rule l c.new-pace.result) (sym run)
-    (passes_on (subject rule) (ask_of item_in rule) []
-    (events.Moment c.next_moment-first.result) c.new-pace.result refl refl c.new-pace.ensures.paces)
-
 pub returns-in-Ok-clause-synced : goal.returns-in-Ok-clause-synced
 returns-in-Ok-clause-synced g c =
-    (λ i. has_synced
-    (subject (rules_of (c.in-Ok.ensures.settings i)))
-    (reverse c.synchronise.new.feeder.core.run))
-    ∙ c.in-Ok.ensures.synced
-
-pub returns-in-Ok-clause-once : goal.returns-in-Ok-clause-once
-returns-in-Ok-clause-once g c =
-    subst (λ r. IsOneStep (steps_of (subject r) c.synchronise.new.feeder.core.run))
-    (λ i. rules_of (sym c.in-Ok.ensures.settings i)) c.in-Ok.ensures.once
+    let run = c.in-Ok.opened.0.core.run in
+    subst (λ (about : Given).
+    has_synced (subject (rules_of about.settings)) (reverse run)
+    ≡ true) (sym c.in-Ok.ensures.given) c.in-Ok.ensures.synced
 
 pub returns-in-Ok-clause-timed : goal.returns-in-Ok-clause-timed
 returns-in-Ok-clause-timed g c =
-    subst (λ r. IsTimed r (reverse c.synchronise.new.feeder.core.run))
-    (λ i. rules_of (sym c.in-Ok.ensures.settings i)) c.in-Ok.ensures.timed
+    let run = c.in-Ok.opened.0.core.run in
+    subst (λ (about : Given).
+    IsTimed (rules_of about.settings) (reverse run))
+    (sym c.in-Ok.ensures.given) c.in-Ok.ensures.timed
+
+pub returns-in-Ok-clause-once : goal.returns-in-Ok-clause-once
+returns-in-Ok-clause-once g c =
+    let core = c.in-Ok.opened.0.core in
+    one_step (rules_of core.settings) core.run
+    (subst (λ (about : Given).
+    IsFirstStep (jwt (rules_of about.settings)) core.run)
+    (sym c.in-Ok.ensures.given) c.in-Ok.ensures.once)
+
+pub returns-in-Ok-clause-paces : goal.returns-in-Ok-clause-paces
+returns-in-Ok-clause-paces g c =
+    let run = c.in-Ok.opened.0.core.run in
+    subst (λ (about : Given).
+    KeepsPace (rules_of about.settings) run c.in-Ok.opened.1)
+    (sym c.in-Ok.ensures.given) c.in-Ok.ensures.paces
 
 pub returns-in-Ok-clause-clock : goal.returns-in-Ok-clause-clock
 returns-in-Ok-clause-clock g c =
-    let run : c.take_moment.new.self.core.run ≡ events.Moment c.next_moment-first.result ∷ [] =
-    search rules in
+    let first = c.first_moment-first.result in
+    let same : to_z w64 (of_z w64 first) ≡ first = search (arith, ints, to_z-of_z) in
     gives_more _ _ _ [] _ _
-    (gives_moment _ _ c.next_moment-first.result [] _ c.next_moment-first.ensures.moment run)
-    c.in-Ok.ensures.clock
+    (gives_moment _ _ first [] _ c.first_moment-first.ensures.moment
+    (ap (λ m. events.Moment m ∷ []) same)) c.in-Ok.ensures.clock
 
-pub returns-in-Err-synchronise-clause-ended : goal.returns-in-Err-synchronise-clause-ended
-returns-in-Err-synchronise-clause-ended g c =
-    let moment = c.take_moment.ensures in record {
+pub returns-in-Err-clause-ended : goal.returns-in-Err-clause-ended
+returns-in-Err-clause-ended g c =
+    let ended = c.in-Err.ensures.ended in record {
       deadline = c.deadline_of.result;
       counts = search rules;
-      run = c.synchronise.new.feeder.core.run;
-      stops = subst (λ r. StopsBy r c.synchronise.new.feeder.core.run c.in-Err-synchronise.stop)
-          (λ i. rules_of ((moment.settings ∙ ap (λ k. k.settings) c.new-feeder.ensures.core) i))
-          c.in-Err-synchronise.ensures.ended;
+      run = ended.0;
+      stops = stops_as _ _ ended.0 c.in-Err.stop
+          (ap (λ core. jwt (rules_of core.settings))
+          c.new-session.ensures)
+          ended.1;
     }

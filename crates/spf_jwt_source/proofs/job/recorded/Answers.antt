@@ -2,11 +2,12 @@ use Rattle.std.proofs.Common.{sym, ap, ◌∙◌, subst, map}
 use Rattle.spf_jwt_feed.specs.Steps.{plain}
 use Rattle.spf_history.specs.Lists.{steps_of}
 use Rattle.spf_jwt_source.specs.Records.{IsRecord, recorded_of}
+use Rattle.spf_jwt_source.proofs.Joining.{paces_as, synced_as}
 use Rattle.spf_jwt_source.proofs.job.recorded.Goals as goal
 
 pub new-record-requires : goal.new-record-requires
 new-record-requires g c =
-    let core = c.args.feeder.core in
+    let same = c.into_session.ensures.session in
     let parts = c.into_parts-publisher.ensures in
     let steps = map plain c.finish-ended.result.1.items in
     subst IsRecord
@@ -14,10 +15,12 @@ new-record-requires g c =
     c.args.pace c.args.closed)
     (record {
       orderly = parts.orderly;
-      synced = c.requires.synced;
+      synced = synced_as _ _ _ _ (ap (λ core. core.settings) same) (ap (λ core. core.run) same)
+          c.requires.synced;
       steps_are = c.finish-ended.ensures.steps ∙ ap (λ p. steps_of p.list) parts.publisher
           ∙ parts.published;
-      paces = c.requires.paces;
+      paces = paces_as _ _ _ _ c.args.pace (ap (λ core. core.settings) same)
+          (ap (λ core. core.run) same) c.requires.paces;
       maker = c.requires.maker;
     })
 

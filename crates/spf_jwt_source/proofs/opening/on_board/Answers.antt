@@ -1,17 +1,36 @@
-use Rattle.std.proofs.Common.{ap, ◌∙◌}
+use Rattle.std.proofs.Common.{ap, sym, ◌∙◌}
+use Rattle.spf_view.specs.Steps.{steps_of}
 use Rattle.spf_history.specs.Lists.{steps_of as board_steps}
+use Rattle.spf_jwt_feed.specs.Items.{subject}
+use Rattle.spf_jwt_feeder.specs.Kept.{progress, rules_of}
+use Rattle.spf_jwt_feeder.specs.Kinds.{jwt}
+use Rattle.spf_jwt_source.proofs.Joining.{fed_as}
 use Rattle.spf_jwt_source.proofs.opening.on_board.Goals as goal
 
 pub new-publisher-requires : goal.new-publisher-requires
 new-publisher-requires g c = c.in-Ok.ensures.kept
 
-pub with_publisher-feeder-requires-clause-published :
-    goal.with_publisher-feeder-requires-clause-published
-with_publisher-feeder-requires-clause-published g c =
+pub with_publisher-session-requires-clause-published :
+    goal.with_publisher-session-requires-clause-published
+with_publisher-session-requires-clause-published g c =
     ap (λ p. board_steps p.list) c.new-publisher.ensures ∙ c.in-Ok.ensures.step
     ∙ ap (λ p. p.steps) c.publisher.ensures.publisher ∙ c.publisher.ensures.published
+    ∙ ap (λ core. steps_of (subject (rules_of core.settings)) core.run)
+    (c.session.ensures ∙ sym c.split-session.ensures.session)
+
+pub feed-requires : goal.feed-requires
+feed-requires g c =
+    let split = c.split-session.ensures in
+    let core = c.with_publisher-session.ensures.core in
+    record {
+      fed = fed_as
+          (ap (λ s. jwt (rules_of s.settings)) core
+          ∙ ap (λ s. jwt (rules_of s.settings)) split.session)
+          (ap progress core ∙ ap progress split.session) split.asked split.first split.fed;
+    }
 
 pub returns-clause-seen : goal.returns-clause-seen
 returns-clause-seen g c =
     ap board_steps c.in-Ok.ensures.pass.1 ∙ c.in-Ok.ensures.step
     ∙ ap (λ p. p.steps) c.publisher.ensures.publisher ∙ c.publisher.ensures.published
+    ∙ ap (λ core. steps_of (subject (rules_of core.settings)) core.run) c.session.ensures

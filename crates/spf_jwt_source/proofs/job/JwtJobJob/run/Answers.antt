@@ -1,10 +1,12 @@
 use Rattle.std.proofs.Common.{Option, ap, ◌∙◌, sym, subst, reverse}
 use Rattle.std.specs.Prelude.{IfSome}
 use Rattle.spf_jwt_feed.specs.Items.{Rules}
-use Rattle.spf_jwt_feeder.specs.Kept.{rules_of}
+use Rattle.spf_jwt_feeder.specs.Kept.{Given, rules_of}
+use Rattle.spf_jwt_feeder.specs.Kinds.{jwt}
+use Rattle.spf_jwt_feeder.specs.Laws.{lawful}
 use Rattle.spf_feeder.specs.Orderly.{GoesOn}
 use Rattle.spf_jwt_feeder.specs.Orderly.{IsSynced}
-use Rattle.spf_jwt_feeder.proofs.FeedLemmas.{synced_after}
+use Rattle.spf_feeder.proofs.FeedLemmas.{synced_after}
 use Rattle.spf_supervisor.proofs.Leaving.{same_board}
 use Rattle.spf_jwt_source.specs.Records.{Assigned, IsOf, Left, Recorded}
 use Rattle.spf_jwt_source.proofs.Recording.{recorded_of_job}
@@ -17,9 +19,8 @@ recorded-done-requires-clause-synced g c =
     let rule : Rules = rules_of core.settings in
     let went = c.supervise-closed.ensures in
     let run = c.supervise-closed.new.feeder.core.run in
-    subst (λ r. IsSynced r (reverse run))
-    (λ i. rules_of (sym went.settings i))
-    (synced_after rule core.run run went.goes_on c.self.invariant.1)
+    subst (λ (about : Given). IsSynced (rules_of about.settings) (reverse run)) (sym went.given)
+    (synced_after (jwt rule) (lawful rule) core.run run went.goes_on c.self.invariant.1)
 
 pub returns-clause-left : goal.returns-clause-left
 returns-clause-left g c =
@@ -27,7 +28,8 @@ returns-clause-left g c =
     let same = c.self.view_is in
     let went = c.supervise-closed.ensures in
     let feeder = c.supervise-closed.new.feeder in
-    let board = same_board _ _ went.target ∙ ap (λ (j : Assigned g.row.C.Denot). j.board) same in
+    let board = same_board _ _ (ap (λ (about : Given). about.target) went.given)
+    ∙ ap (λ (j : Assigned g.row.C.Denot). j.board) same in
     elim c.match-closed.branch [
       | in-Some w ↦ record {
         board = ap (λ (d : Left). d.past.book) w.done-is ∙ w.recorded-done.ensures.board ∙ board;
@@ -40,7 +42,8 @@ returns-clause-left g c =
             (went.first ∙ ap (λ (j : Assigned g.row.C.Denot). j.first) same)
             (subst (λ run. GoesOn run feeder.core.run)
             (ap (λ (j : Assigned g.row.C.Denot). j.run) same) went.goes_on)
-            (went.settings ∙ ap (λ (j : Assigned g.row.C.Denot). j.settings) same)
+            (ap (λ (about : Given). about.settings) went.given
+            ∙ ap (λ (j : Assigned g.row.C.Denot). j.settings) same)
             (went.bounds ∙ ap (λ (j : Assigned g.row.C.Denot). j.bounds) same)
             (w.in-Some.ensures.closed.0 ∙ ap (λ (j : Assigned g.row.C.Denot). j.cell) same));
       }

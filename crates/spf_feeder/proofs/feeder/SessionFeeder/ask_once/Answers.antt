@@ -1,0 +1,46 @@
+use Rattle.std.proofs.Common.{sym, ap, ◌∙◌}
+use Rattle.spf_feeder.specs.Fed.{with_core}
+use Rattle.spf_feeder.proofs.FeedLemmas.{fed_more, stays_idle, stops_by, turned_of, unyielded_of}
+use Rattle.spf_feeder.proofs.TurnLemmas.{turn_goes}
+use Rattle.spf_feeder.proofs.feeder.SessionFeeder.ask_once.Goals as goal
+
+pub returns-then-is_stuck-clause-turn : goal.returns-then-is_stuck-clause-turn
+returns-then-is_stuck-clause-turn g c =
+    stays_idle _ g.C.Connector g.C.Link.Link (with_core g.S.Session.progress c.args.self.now)
+    (ap (λ f. (g.S.Session.progress f.core).stuck) (sym c.self.view_is)
+    ∙ sym c.is_stuck.ensures.stuck ∙ c.if-is_stuck.true)
+
+pub returns-in-Err-clause-turn : goal.returns-in-Err-clause-turn
+returns-in-Err-clause-turn g c =
+    let going = sym c.is_stuck.ensures.stuck ∙ c.if-is_stuck.false in
+    unyielded_of (λ f. g.S.Session.kind (g.S.Session.given f.core))
+    (with_core g.S.Session.progress) g.C.Connector g.C.Link.Link _ _ _ _ _ c.self.view_is
+    c.phase-phase.ensures c.in-Err.ensures
+    (ap (λ core. core.run) c.stop.ensures.unchanged)
+    (ap (λ core. core.stuck) c.stop.ensures.unchanged) going
+
+pub returns-in-Ok-clause-turn : goal.returns-in-Ok-clause-turn
+returns-in-Ok-clause-turn g c =
+    let going = sym c.is_stuck.ensures.stuck ∙ c.if-is_stuck.false in
+    turned_of (λ f. g.S.Session.kind (g.S.Session.given f.core))
+    (with_core g.S.Session.progress) g.C.Connector g.C.Link.Link g.S.Session.records _ _ _ _ _ _
+    c.self.view_is c.phase-phase.ensures c.in-Ok.ensures c.advance.ensures.advances going
+
+pub returns-in-Ok-clause-goes_on : goal.returns-in-Ok-clause-goes_on
+returns-in-Ok-clause-goes_on g c = turn_goes _ _ _ _ _ _ _ (returns-in-Ok-clause-turn g c)
+
+pub invariant_of-self : goal.invariant_of-self
+invariant_of-self g c =
+    let before = c.self.inside.session in
+    let going = sym c.is_stuck.ensures.stuck ∙ c.if-is_stuck.false in
+    fed_more g.C.Connector g.C.Link.Link g.S.Session.records
+    (g.S.Session.kind (g.S.Session.given before)) _
+    (g.S.Session.lawful (g.S.Session.given before)) _ _ _ _ _ _ _ _ c.phase-phase.ensures
+    c.in-Ok.ensures c.advance.ensures.advances
+    (ap g.S.Session.kind c.advance.ensures.given) going c.self.invariant
+
+pub returns-in-Ok-clause-ended : goal.returns-in-Ok-clause-ended
+returns-in-Ok-clause-ended g c =
+    stops_by g.S.Session.records _ _ _ _ _ c.advance.result
+    (ap (λ f. g.S.Session.kind (g.S.Session.given f.core)) c.self.view_is)
+    c.advance.ensures.advances
