@@ -4,11 +4,12 @@ use crate::link_doubles::{connector, link};
 use spf_api::WorkloadApiError;
 use spf_client::{WorkloadApiClient, X509BundleStream, X509ContextStream, X509SvidStream};
 use spf_endpoint::Endpoint;
-use spf_io::{OutOfMemory, Text};
+use spf_io::Text;
 use spf_link::{MemConnector, MemLink, NoInterceptor};
 use spf_x509::{X509BundleSet, X509Context, X509Svid};
 use std::alloc::Global;
 use std::mem::drop;
+use std::process::Abort;
 use std::test::Fail;
 
 type Client = WorkloadApiClient<MemLink, NoInterceptor>;
@@ -19,66 +20,77 @@ fn client(alloc: Global, words: &[&str]) -> Result<Client, Fail> {
 
 /// A value by which these tests know it.
 trait Shown {
-    fn shown(&self, alloc: Global) -> Result<String, OutOfMemory>;
+    fn shown(&self) -> &str;
 }
 
 impl Shown for X509Context {
-    fn shown(&self, alloc: Global) -> Result<String, OutOfMemory> {
-        let svids = self.svids().len();
-        let bundles = self.bundle_set().len();
-        Ok(format!(in alloc; "{svids} SVIDs, {bundles} bundles")?)
+    fn shown(&self) -> &str {
+        if self.svids().len() == 1 && self.bundle_set().len() == 1 {
+            "1 SVIDs, 1 bundles"
+        } else {
+            "a context"
+        }
     }
 }
 
 impl Shown for X509Svid {
-    fn shown(&self, alloc: Global) -> Result<String, OutOfMemory> {
-        Ok(String::from_str(alloc, self.spiffe_id().as_str())?)
+    fn shown(&self) -> &str {
+        self.spiffe_id().as_str()
     }
 }
 
 impl Shown for Vec<X509Svid> {
-    fn shown(&self, alloc: Global) -> Result<String, OutOfMemory> {
-        Ok(format!(in alloc; "{} SVIDs", self.len())?)
+    fn shown(&self) -> &str {
+        if self.len() == 1 { "1 SVIDs" } else { "SVIDs" }
     }
 }
 
 impl Shown for X509BundleSet {
-    fn shown(&self, alloc: Global) -> Result<String, OutOfMemory> {
-        Ok(format!(in alloc; "{} bundles", self.len())?)
+    fn shown(&self) -> &str {
+        if self.len() == 1 {
+            "1 bundles"
+        } else {
+            "bundles"
+        }
     }
 }
 
-fn error_text(alloc: Global, e: &WorkloadApiError) -> Result<String, OutOfMemory> {
-    Ok(format!(in alloc; "{e}")?)
+/// Appends the text of the error.
+fn push_error(rt: &(impl Abort + AllocGlobal), text: &mut String, e: WorkloadApiError) {
+    let shown = format!(in rt.alloc(); "{e}").expect(rt, "memory");
+    drop(e);
+    text.push_str(shown.as_str()).expect(rt, "memory");
+    drop(shown);
 }
 
-fn text_of<T: Shown>(
-    alloc: Global,
-    answer: &Result<T, WorkloadApiError>,
-) -> Result<String, OutOfMemory> {
-    match answer {
-        Ok(value) => value.shown(alloc),
-        Err(e) => error_text(alloc, e),
-    }
-}
-
-/// What a call returned, as a text.
-fn summary<T: Shown + Drop>(
-    alloc: Global,
+/// Appends what a call returned.
+fn push_answer<T: Shown + Drop>(
+    rt: &(impl Abort + AllocGlobal),
+    text: &mut String,
     answer: Result<T, WorkloadApiError>,
-) -> Result<String, OutOfMemory> {
-    let text = text_of(alloc, &answer);
-    drop(answer);
-    text
+) {
+    match answer {
+        Ok(value) => {
+            text.push_str(value.shown()).expect(rt, "memory");
+            drop(value);
+        }
+        Err(e) => push_error(rt, text, e),
+    }
 }
 
-/// What the call of that name returns, as a text.
-fn fetched(alloc: Global, client: &mut Client, call: &str) -> Result<String, OutOfMemory> {
+/// Appends what the call of that name returns.
+fn push_fetched(
+    rt: &(impl Abort + AllocGlobal),
+    text: &mut String,
+    client: &mut Client,
+    call: &str,
+) {
+    let alloc = rt.alloc();
     match call {
-        "svid" => summary(alloc, client.fetch_x509_svid(alloc)),
-        "svids" => summary(alloc, client.fetch_all_x509_svids(alloc)),
-        "context" => summary(alloc, client.fetch_x509_context(alloc)),
-        _ => summary(alloc, client.fetch_x509_bundles(alloc)),
+        "svid" => push_answer(rt, text, client.fetch_x509_svid(alloc)),
+        "svids" => push_answer(rt, text, client.fetch_all_x509_svids(alloc)),
+        "context" => push_answer(rt, text, client.fetch_x509_context(alloc)),
+        _ => push_answer(rt, text, client.fetch_x509_bundles(alloc)),
     }
 }
 
@@ -126,7 +138,8 @@ fn client_fetches(rt: HostRuntime) -> Result<(), Fail> {
     let alloc = rt.alloc();
     for (words, call, wanted) in FETCHES {
         let mut client = client(alloc, words)?;
-        let found = fetched(alloc, &mut client, call).expect(&rt, "memory");
+        let mut found = String::new(alloc);
+        push_fetched(&rt, &mut found, &mut client, call);
         drop(client);
         assert!(rt; found.as_str() == *wanted, "{call}: {found}");
     }
@@ -135,82 +148,70 @@ fn client_fetches(rt: HostRuntime) -> Result<(), Fail> {
 
 /// Appends what a stream gave.
 fn push_item<T: Shown + Drop>(
-    alloc: Global,
+    rt: &(impl Abort + AllocGlobal),
     text: &mut String,
     item: Option<Result<T, WorkloadApiError>>,
-) -> Result<(), OutOfMemory> {
+) {
     match item {
-        None => text.push_str("none")?,
-        Some(answer) => text.push_str(summary(alloc, answer)?.as_str())?,
+        None => text.push_str("none").expect(rt, "memory"),
+        Some(answer) => push_answer(rt, text, answer),
     }
-    text.push_str("; ")?;
-    Ok(())
-}
-
-/// Appends why a stream did not start.
-fn push_refusal(alloc: Global, text: &mut String, e: WorkloadApiError) -> Result<(), OutOfMemory> {
-    let refusal = error_text(alloc, &e);
-    drop(e);
-    text.push_str(refusal?.as_str())?;
-    Ok(())
+    text.push_str("; ").expect(rt, "memory");
 }
 
 fn push_contexts(
-    alloc: Global,
+    rt: &(impl Abort + AllocGlobal),
     text: &mut String,
     stream: &mut X509ContextStream<'_, MemLink>,
     calls: usize,
-) -> Result<(), OutOfMemory> {
+) {
     for _ in 0..calls {
-        push_item(alloc, text, stream.next_item(alloc))?;
+        push_item(rt, text, stream.next_item(rt.alloc()));
     }
-    Ok(())
 }
 
 fn push_svids(
-    alloc: Global,
+    rt: &(impl Abort + AllocGlobal),
     text: &mut String,
     stream: &mut X509SvidStream<'_, MemLink>,
     calls: usize,
-) -> Result<(), OutOfMemory> {
+) {
     for _ in 0..calls {
-        push_item(alloc, text, stream.next_item(alloc))?;
+        push_item(rt, text, stream.next_item(rt.alloc()));
     }
-    Ok(())
 }
 
 fn push_bundle_sets(
-    alloc: Global,
+    rt: &(impl Abort + AllocGlobal),
     text: &mut String,
     stream: &mut X509BundleStream<'_, MemLink>,
     calls: usize,
-) -> Result<(), OutOfMemory> {
+) {
     for _ in 0..calls {
-        push_item(alloc, text, stream.next_item(alloc))?;
+        push_item(rt, text, stream.next_item(rt.alloc()));
     }
-    Ok(())
 }
 
-/// Appends what the first calls of a stream of that kind return.
+/// Appends what the first calls of a stream of that kind return, or why there is no stream.
 fn push_stream(
-    alloc: Global,
+    rt: &(impl Abort + AllocGlobal),
     text: &mut String,
     client: &mut Client,
     kind: &str,
     calls: usize,
-) -> Result<(), OutOfMemory> {
+) {
     match kind {
-        "contexts" => match client.stream_x509_contexts(alloc) {
-            Ok(mut stream) => push_contexts(alloc, text, &mut stream, calls),
-            Err(e) => push_refusal(alloc, text, e),
+        "contexts" => match client.stream_x509_contexts(rt.alloc()) {
+            Ok(mut stream) => push_contexts(rt, text, &mut stream, calls),
+            Err(e) => push_error(rt, text, e),
         },
-        "svids" => match client.stream_x509_svids(alloc) {
-            Ok(mut stream) => push_svids(alloc, text, &mut stream, calls),
-            Err(e) => push_refusal(alloc, text, e),
+        "svids" => match client.stream_x509_svids(rt.alloc()) {
+            Ok(mut stream) => push_svids(rt, text, &mut stream, calls),
+            Err(e) => push_error(rt, text, e),
         },
-        _ => match client.stream_x509_bundles(alloc) {
-            Ok(mut stream) => push_bundle_sets(alloc, text, &mut stream, calls),
-            Err(e) => push_refusal(alloc, text, e),
+        _ => match client.stream_x509_bundles(rt.alloc()) {
+            Ok(mut stream) => push_bundle_sets(rt, text, &mut stream, calls),
+            Err(e) => push_error(rt, text, e),
         },
     }
 }
@@ -254,85 +255,105 @@ fn client_streams(rt: HostRuntime) -> Result<(), Fail> {
     for (words, kind, wanted) in STREAMS {
         let mut client = client(alloc, words)?;
         let mut found = String::new(alloc);
-        push_stream(alloc, &mut found, &mut client, kind, 4).expect(&rt, "memory");
+        push_stream(&rt, &mut found, &mut client, kind, 4);
         drop(client);
         assert!(rt; found.as_str() == *wanted, "{kind}: {found}");
     }
     Ok(())
 }
 
+/// Appends what a call returns, or the first item of a stream of contexts.
+fn push_asked(rt: &(impl Abort + AllocGlobal), text: &mut String, client: &mut Client, call: &str) {
+    match call {
+        "contexts" => push_stream(rt, text, client, call, 1),
+        _ => push_fetched(rt, text, client, call),
+    }
+}
+
+/// Calls of one client, and what each returns.
+const CALLS: &[(&str, &str)] = &[
+    ("contexts", "1 SVIDs, 1 bundles; "),
+    ("svid", "spiffe://example.org/w"),
+    ("bundles", "1 bundles"),
+    ("bundles", UNAVAILABLE),
+];
+
 /// A client fetches again, also where it has left a stream.
 #[test]
 fn client_asks_again(rt: HostRuntime) -> Result<(), Fail> {
-    let alloc = rt.alloc();
     let words = ["started", "first", "started", "first", "started", "bundles"];
-    let mut client = client(alloc, &words)?;
-    let mut items = String::new(alloc);
-    push_stream(alloc, &mut items, &mut client, "contexts", 1).expect(&rt, "memory");
-    assert!(rt; items.as_str() == "1 SVIDs, 1 bundles; ");
-    for (call, wanted) in [
-        ("svid", "spiffe://example.org/w"),
-        ("bundles", "1 bundles"),
-        ("bundles", UNAVAILABLE),
-    ] {
-        let found = fetched(alloc, &mut client, call).expect(&rt, "memory");
+    let mut client = client(rt.alloc(), &words)?;
+    for &(call, wanted) in CALLS {
+        let mut found = String::new(rt.alloc());
+        push_asked(&rt, &mut found, &mut client, call);
         assert!(rt; found.as_str() == wanted, "{call}: {found}");
     }
-    drop(items);
     drop(client);
     Ok(())
 }
 
-fn unix_endpoint(alloc: Global, path: &str) -> Result<Endpoint, OutOfMemory> {
-    Ok(Endpoint::Unix(Text::copy_of(alloc, path)?))
+/// Whether a client has no endpoint.
+fn is_unnamed(client: Client) -> bool {
+    let is_unnamed = client.endpoint().is_none();
+    drop(client);
+    is_unnamed
+}
+
+fn is_path(endpoint: Option<&Endpoint>, path: &str) -> bool {
+    match endpoint {
+        Some(Endpoint::Unix(found)) => found.as_str() == path,
+        _ => false,
+    }
+}
+
+/// Whether a client over the link has the endpoint of that path.
+fn has_path(rt: &(impl Abort + AllocGlobal), link: MemLink, path: &str) -> bool {
+    let endpoint = Endpoint::Unix(Text::copy_of(rt.alloc(), path).expect(rt, "memory"));
+    let client = WorkloadApiClient::new_with_link(Some(endpoint), link, NoInterceptor);
+    let has_path = is_path(client.endpoint(), path);
+    drop(client);
+    has_path
 }
 
 #[test]
 fn client_endpoint(rt: HostRuntime) -> Result<(), Fail> {
-    let alloc = rt.alloc();
-    let unnamed = client(alloc, &[])?;
-    assert!(rt; unnamed.endpoint().is_none());
-    drop(unnamed);
-    let empty = link(alloc, &[])?;
-    let endpoint = unix_endpoint(alloc, "/foo").expect(&rt, "an endpoint");
-    let named = WorkloadApiClient::new_with_link(Some(endpoint), empty, NoInterceptor);
-    let wanted = unix_endpoint(alloc, "/foo").expect(&rt, "an endpoint");
-    assert!(rt; named.endpoint() == Some(&wanted));
-    drop(wanted);
-    drop(named);
+    assert!(rt; is_unnamed(client(rt.alloc(), &[])?));
+    assert!(rt; has_path(&rt, link(rt.alloc(), &[])?, "/foo"));
     Ok(())
 }
 
-/// Why the connector gives no client.
-fn refusal(alloc: Global, connector: &mut MemConnector) -> Result<String, OutOfMemory> {
+/// Appends what the next client of the connector fetches, or why there is none.
+fn push_connected(
+    rt: &(impl Abort + AllocGlobal),
+    text: &mut String,
+    connector: &mut MemConnector,
+) {
     match WorkloadApiClient::connect_over(connector) {
-        Ok(client) => {
+        Ok(mut client) => {
+            if client.endpoint().is_some() {
+                text.push_str("an endpoint; ").expect(rt, "memory");
+            }
+            push_fetched(rt, text, &mut client, "svids");
             drop(client);
-            Ok(String::from_str(alloc, "a client")?)
         }
-        Err(e) => {
-            let text = error_text(alloc, &e);
-            drop(e);
-            text
-        }
+        Err(e) => push_error(rt, text, e),
     }
 }
 
+/// What the clients of a connector fetch, one after another, or why there is none.
+const CONNECTED: &[&str] = &[
+    "1 SVIDs",
+    "permission denied: no",
+    "gRPC transport connection failed: nobody listens",
+    UNAVAILABLE,
+];
+
 #[test]
 fn client_over_a_connector(rt: HostRuntime) -> Result<(), Fail> {
-    let alloc = rt.alloc();
-    let mut connector = connector(alloc, &["started", "first"])?;
-    let mut client = WorkloadApiClient::connect_over(&mut connector).expect(&rt, "a client");
-    assert!(rt; client.endpoint().is_none());
-    let found = fetched(alloc, &mut client, "svids").expect(&rt, "memory");
-    drop(client);
-    assert!(rt; found.as_str() == "1 SVIDs");
-    for wanted in [
-        "permission denied: no",
-        "gRPC transport connection failed: nobody listens",
-        UNAVAILABLE,
-    ] {
-        let found = refusal(alloc, &mut connector).expect(&rt, "memory");
+    let mut connector = connector(rt.alloc(), &["started", "first"])?;
+    for &wanted in CONNECTED {
+        let mut found = String::new(rt.alloc());
+        push_connected(&rt, &mut found, &mut connector);
         assert!(rt; found.as_str() == wanted, "{found}");
     }
     drop(connector);

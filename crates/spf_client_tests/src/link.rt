@@ -23,7 +23,7 @@ fn set_to_false(headers: &mut Headers) -> Result<(), InterceptorFault>
 }
 
 /// What `set_to_false` does.
-#[derive(Debug, Drop)]
+#[derive(Drop)]
 struct SetsFalse;
 
 impl InterceptFunction for SetsFalse {
@@ -31,7 +31,7 @@ impl InterceptFunction for SetsFalse {
 }
 
 /// Refuses each request.
-#[derive(Debug, Drop)]
+#[derive(Drop)]
 struct Expired {
     alloc: Global,
 }
@@ -62,57 +62,67 @@ impl Interceptor for Expired {
     }
 }
 
-/// The headers in order, each as its name, `=`, its value and a space.
-fn spelled(alloc: Global, headers: &Headers) -> Result<String, OutOfMemory> {
-    let mut text = String::new(alloc);
-    push_headers(&mut text, headers)?;
-    Ok(text)
-}
-
-fn push_headers(text: &mut String, headers: &Headers) -> Result<(), OutOfMemory> {
-    for (name, value) in headers.entries() {
-        text.push_str(name.as_str())?;
-        text.push_str("=")?;
-        text.push_str(value.as_str())?;
-        text.push_str(" ")?;
+/// Whether the headers are these, in order.
+fn has(headers: &Headers, wanted: &[(&str, &str)]) -> bool {
+    let entries = headers.entries();
+    if entries.len() != wanted.len() {
+        return false;
     }
-    Ok(())
+    for (entry, wanted) in entries.iter().zip(wanted) {
+        if entry.0.as_str() != wanted.0 || entry.1.as_str() != wanted.1 {
+            return false;
+        }
+    }
+    true
 }
 
-/// Whether the headers are spelled so.
-fn is_spelled(alloc: Global, headers: &Headers, wanted: &str) -> Result<bool, OutOfMemory> {
-    Ok(spelled(alloc, headers)?.as_str() == wanted)
+/// Headers that are set, or removed where there is no value, and what the list is after each.
+const STEPS: &[(&str, Option<&str>, &[(&str, &str)])] = &[
+    ("a", Some("1"), &[("a", "1")]),
+    ("b", Some("2"), &[("a", "1"), ("b", "2")]),
+    ("c", Some("3"), &[("a", "1"), ("b", "2"), ("c", "3")]),
+    ("a", Some("4"), &[("a", "4"), ("b", "2"), ("c", "3")]),
+    ("b", None, &[("a", "4"), ("c", "3")]),
+    ("B", None, &[("a", "4"), ("c", "3")]),
+];
+
+/// Sets the header, or removes it. Returns whether it then has that value.
+fn put(headers: &mut Headers, name: &str, value: Option<&str>) -> Result<bool, OutOfMemory> {
+    match value {
+        Some(value) => headers.set(name, value)?,
+        None => headers.remove(name),
+    }
+    Ok(headers.get(name) == value)
 }
 
 #[test]
 fn headers(rt: HostRuntime) {
-    let alloc = rt.alloc();
-    let mut headers = Headers::new(alloc);
-    for (name, value) in [("a", "1"), ("b", "2"), ("c", "3"), ("a", "4")] {
-        headers.set(name, value).expect(&rt, "memory");
+    let mut headers = Headers::new(rt.alloc());
+    for &(name, value, wanted) in STEPS {
+        assert!(rt;
+            put(&mut headers, name, value).expect(&rt, "memory"),
+            "{name}"
+        );
+        assert!(rt; has(&headers, wanted), "{name}");
     }
-    assert!(rt; is_spelled(alloc, &headers, "a=4 b=2 c=3 ").expect(&rt, "memory"));
-    headers.remove("b");
-    headers.remove("B");
-    assert!(rt; is_spelled(alloc, &headers, "a=4 c=3 ").expect(&rt, "memory"));
     assert!(rt; headers.get("c") == Some("3"));
-    assert!(rt; headers.get("b").is_none());
     drop(headers);
 }
 
+/// The header `x`, and the one that each request carries.
+const METADATA: &[(&str, &str)] = &[("x", "1"), ("workload.spiffe.io", "true")];
+
 #[test]
 fn metadata_header(rt: HostRuntime) {
-    let alloc = rt.alloc();
-    let mut headers = Headers::new(alloc);
+    let mut headers = Headers::new(rt.alloc());
     headers.set("x", "1").expect(&rt, "memory");
     let interceptor = InterceptorFn::<_, SetsFalse>::new(|headers: &mut Headers| set_to_false(
         headers,
     ));
-    let wanted = "x=1 workload.spiffe.io=true ";
     assert!(rt; is_added(MetadataAdder::new(interceptor).call(&mut headers)));
-    assert!(rt; is_spelled(alloc, &headers, wanted).expect(&rt, "memory"));
+    assert!(rt; has(&headers, METADATA));
     assert!(rt; is_added(MetadataAdder::new(NoInterceptor).call(&mut headers)));
-    assert!(rt; is_spelled(alloc, &headers, wanted).expect(&rt, "memory"));
+    assert!(rt; has(&headers, METADATA));
     drop(headers);
 }
 

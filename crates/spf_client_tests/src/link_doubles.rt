@@ -9,6 +9,7 @@ use spf_link::{Answer, Connector, Headers, Link, MemConnector, MemLink, Request,
 use spf_responses::{FIRST, SvidRow, bundle_entries, context};
 use std::alloc::Global;
 use std::mem::drop;
+use std::process::Abort;
 use std::test::Fail;
 
 /// An SVID entry whose key is not one.
@@ -19,14 +20,42 @@ const BROKEN: SvidRow<'static> = SvidRow {
     hint: "",
 };
 
-fn denied(alloc: Global) -> Result<GrpcStatusError, Fail> {
+fn denied(alloc: Global) -> Result<GrpcStatusError, OutOfMemory> {
     let message = Text::copy_of(alloc, "no")?;
     Ok(GrpcStatusError::new(GrpcStatusCode::PermissionDenied, message))
 }
 
-fn bundles(alloc: Global, rows: &[(&str, &str)]) -> Result<Answer, Fail> {
+fn lost(alloc: Global) -> Result<LinkFault, OutOfMemory> {
+    let source = Text::copy_of(alloc, "gone")?;
+    Ok(LinkFault::Connect(TransportConnectError::new(source)))
+}
+
+/// The refusal that the word stands for.
+fn refused(alloc: Global, word: &str) -> Result<LinkFault, OutOfMemory> {
+    match word {
+        "denied" => Ok(LinkFault::Status(denied(alloc)?)),
+        "lost" => lost(alloc),
+        _ => Ok(LinkFault::OutOfMemory),
+    }
+}
+
+fn bundles(alloc: Global, rows: &[(&str, &str)]) -> Result<Response, Fail> {
     let bundles = bundle_entries(alloc, rows)?;
-    Ok(Answer::Item(Response::Bundles(BundlesResponse { bundles })))
+    Ok(Response::Bundles(BundlesResponse { bundles }))
+}
+
+fn svid(alloc: Global, row: SvidRow<'_>) -> Result<Response, Fail> {
+    Ok(Response::Context(context(alloc, &[row], &[])?))
+}
+
+/// The response that the word stands for.
+fn response(alloc: Global, word: &str) -> Result<Response, Fail> {
+    match word {
+        "no_bundles" => bundles(alloc, &[]),
+        "bundles" => bundles(alloc, &[("example.org", "ROOT1")]),
+        "broken" => svid(alloc, BROKEN),
+        _ => svid(alloc, FIRST),
+    }
 }
 
 /// The answer that the word stands for.
@@ -34,23 +63,8 @@ fn answer(alloc: Global, word: &str) -> Result<Answer, Fail> {
     match word {
         "started" => Ok(Answer::Started),
         "end" => Ok(Answer::End),
-        "denied" => Ok(Answer::Refused(LinkFault::Status(denied(alloc)?))),
-        "lost" => {
-            let source = Text::copy_of(alloc, "gone")?;
-            let e = TransportConnectError::new(source);
-            Ok(Answer::Refused(LinkFault::Connect(e)))
-        }
-        "memory" => Ok(Answer::Refused(LinkFault::OutOfMemory)),
-        "no_bundles" => bundles(alloc, &[]),
-        "bundles" => bundles(alloc, &[("example.org", "ROOT1")]),
-        "broken" => {
-            let response = context(alloc, &[BROKEN], &[])?;
-            Ok(Answer::Item(Response::Context(response)))
-        }
-        _ => {
-            let response = context(alloc, &[FIRST], &[])?;
-            Ok(Answer::Item(Response::Context(response)))
-        }
+        "denied" | "lost" | "memory" => Ok(Answer::Refused(refused(alloc, word)?)),
+        _ => Ok(Answer::Item(response(alloc, word)?)),
     }
 }
 
@@ -63,65 +77,53 @@ pub fn link(alloc: Global, words: &[&str]) -> Result<MemLink, Fail> {
     Ok(MemLink::new(alloc, answers))
 }
 
+fn unreachable(alloc: Global) -> Result<ClientFault, OutOfMemory> {
+    Ok(ClientFault::Unreachable(Text::copy_of(alloc, "nobody listens")?))
+}
+
 /// Returns a connector that gives a link with these answers, then a denial and an endpoint that
 /// cannot be reached.
 pub fn connector(alloc: Global, words: &[&str]) -> Result<MemConnector, Fail> {
     let mut links = Vec::new(alloc);
     links.push(Ok(link(alloc, words)?))?;
     links.push(Err(ClientFault::Status(denied(alloc)?)))?;
-    let text = Text::copy_of(alloc, "nobody listens")?;
-    links.push(Err(ClientFault::Unreachable(text)))?;
+    links.push(Err(unreachable(alloc)?))?;
     Ok(MemConnector::new(alloc, links))
 }
 
-fn fault_text(alloc: Global, fault: &LinkFault) -> Result<String, OutOfMemory> {
-    Ok(format!(in alloc; "{fault}")?)
+/// The text of the refusal.
+fn fault_text(rt: &(impl Abort + AllocGlobal), fault: LinkFault) -> String {
+    let text = format!(in rt.alloc(); "{fault}").expect(rt, "memory");
+    drop(fault);
+    text
 }
 
-fn start_text(alloc: Global, answer: &Result<(), LinkFault>) -> Result<String, OutOfMemory> {
-    match answer {
-        Ok(()) => Ok(String::from_str(alloc, "started")?),
-        Err(fault) => fault_text(alloc, fault),
-    }
+fn copied(rt: &(impl Abort + AllocGlobal), text: &str) -> String {
+    String::from_str(rt.alloc(), text).expect(rt, "memory")
 }
 
-fn next_text(
-    alloc: Global,
-    answer: &Result<Option<Response>, LinkFault>,
-) -> Result<String, OutOfMemory> {
-    match answer {
-        Ok(Some(_)) => Ok(String::from_str(alloc, "item")?),
-        Ok(None) => Ok(String::from_str(alloc, "end")?),
-        Err(fault) => fault_text(alloc, fault),
-    }
-}
-
-/// The header `a` with the value `1`.
-fn one_header(alloc: Global) -> Result<Headers, OutOfMemory> {
-    let mut headers = Headers::new(alloc);
-    match headers.set("a", "1") {
-        Ok(()) => Ok(headers),
-        Err(OutOfMemory) => {
-            drop(headers);
-            Err(OutOfMemory)
-        }
-    }
-}
-
-fn started(alloc: Global, link: &mut MemLink, request: &Request) -> Result<String, OutOfMemory> {
-    let headers = one_header(alloc)?;
+/// What a start with the header `a` returns, as a text.
+fn started(rt: &(impl Abort + AllocGlobal), link: &mut MemLink, request: &Request) -> String {
+    let mut headers = Headers::new(rt.alloc());
+    headers.set("a", "1").expect(rt, "memory");
     let answer = link.start(&headers, request);
     drop(headers);
-    let text = start_text(alloc, &answer);
-    drop(answer);
-    text
+    match answer {
+        Ok(()) => copied(rt, "started"),
+        Err(fault) => fault_text(rt, fault),
+    }
 }
 
-fn next(alloc: Global, link: &mut MemLink) -> Result<String, OutOfMemory> {
-    let answer = link.next();
-    let text = next_text(alloc, &answer);
-    drop(answer);
-    text
+/// What the next answer is, as a text.
+fn next(rt: &(impl Abort + AllocGlobal), link: &mut MemLink) -> String {
+    match link.next() {
+        Ok(Some(item)) => {
+            drop(item);
+            copied(rt, "item")
+        }
+        Ok(None) => copied(rt, "end"),
+        Err(fault) => fault_text(rt, fault),
+    }
 }
 
 const UNAVAILABLE: &str = "gRPC status unavailable: ";
@@ -143,39 +145,37 @@ const CALLS: &[(&str, &str)] = &[
 /// A `start` takes one answer, and so does each `next`: what does not fit refuses like none.
 #[test]
 fn link_answers_in_turn(rt: HostRuntime) -> Result<(), Fail> {
-    let alloc = rt.alloc();
     let words = [
         "first", "started", "first", "bundles", "started", "end", "first",
     ];
-    let mut link = link(alloc, &words)?;
+    let mut link = link(rt.alloc(), &words)?;
     for &(call, wanted) in CALLS {
         let found = match call {
-            "start" => started(alloc, &mut link, &Request::X509Svid),
-            _ => next(alloc, &mut link),
+            "start" => started(&rt, &mut link, &Request::X509Svid),
+            _ => next(&rt, &mut link),
         };
-        let found = found.expect(&rt, "memory");
         assert!(rt; found.as_str() == wanted, "{call}: {found}");
     }
     drop(link);
     Ok(())
 }
 
+fn text(rt: &(impl Abort + AllocGlobal), text: &str) -> Text {
+    Text::copy_of(rt.alloc(), text).expect(rt, "memory")
+}
+
 /// A request that a token be validated.
-fn validation(alloc: Global) -> Result<Request, OutOfMemory> {
-    let audience = Text::copy_of(alloc, "a")?;
-    match Text::copy_of(alloc, "t") {
-        Ok(svid) => Ok(Request::ValidateJwt { audience, svid }),
-        Err(OutOfMemory) => {
-            drop(audience);
-            Err(OutOfMemory)
-        }
+fn validation(rt: &(impl Abort + AllocGlobal)) -> Request {
+    Request::ValidateJwt {
+        audience: text(rt, "a"),
+        svid: text(rt, "t"),
     }
 }
 
 fn has_starts(starts: &[Start], last: &Request) -> bool {
     match starts {
         [first, second] => {
-            first.request == Request::X509Svid
+            matches!(first.request, Request::X509Svid)
                 && second.request == *last
                 && second.headers.get("a") == Some("1")
         }
@@ -186,15 +186,14 @@ fn has_starts(starts: &[Start], last: &Request) -> bool {
 /// Each `start` but one that is out of memory is kept with its headers.
 #[test]
 fn link_keeps_starts(rt: HostRuntime) -> Result<(), Fail> {
-    let alloc = rt.alloc();
-    let mut link = link(alloc, &["started", "memory", "denied"])?;
-    let last = validation(alloc).expect(&rt, "a request");
+    let mut link = link(rt.alloc(), &["started", "memory", "denied"])?;
+    let last = validation(&rt);
     for (request, wanted) in [
         (&Request::X509Svid, "started"),
         (&Request::JwtBundles, "out of memory"),
         (&last, "gRPC status permission_denied: no"),
     ] {
-        let found = started(alloc, &mut link, request).expect(&rt, "memory");
+        let found = started(&rt, &mut link, request);
         assert!(rt; found.as_str() == wanted, "{found}");
     }
     assert!(rt; has_starts(link.starts(), &last));
@@ -204,61 +203,56 @@ fn link_keeps_starts(rt: HostRuntime) -> Result<(), Fail> {
 }
 
 /// A request of a JWT-SVID for two audiences.
-fn svid_request(alloc: Global) -> Result<Request, OutOfMemory> {
-    let mut audience = Vec::new(alloc);
-    for name in ["a", "b"] {
-        audience.push(Text::copy_of(alloc, name)?)?;
-    }
-    Ok(Request::JwtSvid {
-        spiffe_id: Text::copy_of(alloc, "spiffe://example.org/w")?,
+fn svid_request(rt: &(impl Abort + AllocGlobal)) -> Request {
+    let audience = vec![in rt.alloc(); text(rt, "a"), text(rt, "b")].expect(rt, "memory");
+    Request::JwtSvid {
+        spiffe_id: text(rt, "spiffe://example.org/w"),
         audience: List::new(audience),
-    })
+    }
 }
 
 /// Whether a copy of the request is the same.
-fn is_copied(alloc: Global, request: &Request) -> Result<bool, OutOfMemory> {
-    let copy = request.try_clone(alloc)?;
+fn is_copied(rt: &(impl Abort + AllocGlobal), request: &Request) -> bool {
+    let copy = request.try_clone(rt.alloc()).expect(rt, "memory");
     let is_same = copy == *request;
     drop(copy);
-    Ok(is_same)
+    is_same
 }
 
 #[test]
 fn request_is_copied(rt: HostRuntime) {
-    let alloc = rt.alloc();
-    let request = svid_request(alloc).expect(&rt, "a request");
-    assert!(rt; is_copied(alloc, &request).expect(&rt, "memory"));
-    assert!(rt; is_copied(alloc, &Request::X509Bundles).expect(&rt, "memory"));
+    let request = svid_request(&rt);
+    assert!(rt; is_copied(&rt, &request));
+    assert!(rt; is_copied(&rt, &Request::X509Bundles));
     drop(request);
 }
 
 /// Why the connector gives no link.
-fn refusal(alloc: Global, connector: &mut MemConnector) -> Result<String, OutOfMemory> {
+fn refusal(rt: &(impl Abort + AllocGlobal), connector: &mut MemConnector) -> String {
     match connector.connect() {
         Ok(link) => {
             drop(link);
-            Ok(String::from_str(alloc, "a link")?)
+            copied(rt, "a link")
         }
         Err(fault) => {
-            let text = format!(in alloc; "{fault}");
+            let text = format!(in rt.alloc(); "{fault}").expect(rt, "memory");
             drop(fault);
-            Ok(text?)
+            text
         }
     }
 }
 
 #[test]
 fn connector_gives_links_in_turn(rt: HostRuntime) -> Result<(), Fail> {
-    let alloc = rt.alloc();
-    let mut connector = connector(alloc, &["started"])?;
-    assert!(rt; connector.validate() == Ok(()));
+    let mut connector = connector(rt.alloc(), &["started"])?;
+    assert!(rt; connector.validate().is_ok());
     for wanted in [
         "a link",
         "gRPC status permission_denied: no",
         "nobody listens",
         UNAVAILABLE,
     ] {
-        let found = refusal(alloc, &mut connector).expect(&rt, "memory");
+        let found = refusal(&rt, &mut connector);
         assert!(rt; found.as_str() == wanted, "{found}");
     }
     drop(connector);

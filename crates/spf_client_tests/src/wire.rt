@@ -2,7 +2,7 @@
 
 use spf_api::{LinkFault, Response};
 use spf_fixtures::octets;
-use spf_io::{MemSink, MemSource, OutOfMemory, Text};
+use spf_io::{MemSink, MemSource, Text};
 use spf_link::{Headers, Link, Request};
 use spf_responses::first_item;
 use spf_wire::WireLink;
@@ -71,19 +71,10 @@ fn fault_name(fault: &LinkFault) -> &'static str {
     }
 }
 
-fn start_name(started: &Result<(), LinkFault>) -> &'static str {
-    match started {
-        Ok(()) => "started",
-        Err(fault) => fault_name(fault),
-    }
-}
-
-fn next_name(next: &Result<Option<Response>, LinkFault>) -> &'static str {
-    match next {
-        Ok(Some(_)) => "item",
-        Ok(None) => "end",
-        Err(fault) => fault_name(fault),
-    }
+fn name_of(fault: LinkFault) -> &'static str {
+    let name = fault_name(&fault);
+    drop(fault);
+    name
 }
 
 /// A source that gives its first octets one at a time, and whose listed reads fail.
@@ -107,36 +98,35 @@ fn sink(rt: &(impl Abort + AllocGlobal), room: usize, failing: &[u64]) -> MemSin
 
 type MemWire = WireLink<MemSource, MemSink>;
 
+/// A link that reads the octets of the text, over a sink of that room whose listed puts fail.
+fn wire(
+    rt: &(impl Abort + AllocGlobal),
+    text: &str,
+    room: usize,
+    failing: &[u64],
+) -> Result<MemWire, Fail> {
+    let source = source_of(rt, text, 0, &[])?;
+    Ok(WireLink::new(rt.alloc(), source, sink(rt, room, failing)))
+}
+
 /// The name of what a start returns.
-fn started(link: &mut MemWire, headers: &Headers) -> &'static str {
-    let answer = link.start(headers, &Request::X509Svid);
-    let name = start_name(&answer);
-    drop(answer);
-    name
+fn started(link: &mut MemWire, headers: &Headers, request: &Request) -> &'static str {
+    match link.start(headers, request) {
+        Ok(()) => "started",
+        Err(fault) => name_of(fault),
+    }
 }
 
 /// The name of what the next answer is.
 fn next(link: &mut MemWire) -> &'static str {
-    let answer = link.next();
-    let name = next_name(&answer);
-    drop(answer);
-    name
-}
-
-/// Appends what a call returns.
-fn push_call(
-    names: &mut String,
-    link: &mut MemWire,
-    headers: &Headers,
-    call: u8,
-) -> Result<(), OutOfMemory> {
-    names.push_str(if call == b's' {
-        started(link, headers)
-    } else {
-        next(link)
-    })?;
-    names.push(' ')?;
-    Ok(())
+    match link.next() {
+        Ok(Some(item)) => {
+            drop(item);
+            "item"
+        }
+        Ok(None) => "end",
+        Err(fault) => name_of(fault),
+    }
 }
 
 /// What the calls return, one after another.
@@ -145,7 +135,12 @@ fn names(rt: &(impl Abort + AllocGlobal), source: MemSource, calls: &str) -> Str
     let headers = Headers::new(rt.alloc());
     let mut names = String::new(rt.alloc());
     for call in calls.as_bytes() {
-        push_call(&mut names, &mut link, &headers, *call).expect(rt, "memory");
+        let name = match *call {
+            b's' => started(&mut link, &headers, &Request::X509Svid),
+            _ => next(&mut link),
+        };
+        names.push_str(name).expect(rt, "memory");
+        names.push(' ').expect(rt, "memory");
     }
     drop(headers);
     drop(link);
@@ -178,12 +173,6 @@ fn answers(rt: HostRuntime) -> Result<(), Fail> {
     Ok(())
 }
 
-/// Whether the link has put these octets.
-fn has_put(alloc: Global, link: &MemWire, wanted: &str) -> Result<bool, Fail> {
-    let wanted = octets(alloc, wanted)?;
-    Ok(link.sink().bytes() == wanted.as_slice())
-}
-
 /// Whether the next answer is the first item.
 fn gives_first_item(alloc: Global, link: &mut MemWire) -> Result<bool, Fail> {
     let item = Response::Context(first_item(alloc)?);
@@ -197,46 +186,30 @@ fn gives_first_item(alloc: Global, link: &mut MemWire) -> Result<bool, Fail> {
     Ok(is_first)
 }
 
-/// Whether a start puts its request, and the item and the end come after it.
-fn is_played(alloc: Global, link: &mut MemWire) -> Result<bool, Fail> {
-    let headers = Headers::new(alloc);
-    let name = started(link, &headers);
+/// Whether a start with these headers is granted, after which the link has put these octets.
+fn puts(link: &mut MemWire, headers: Headers, request: &Request, wanted: &[u8]) -> bool {
+    let name = started(link, &headers, request);
     drop(headers);
-    Ok(
-        name == "started"
-            && has_put(alloc, link, "110000000400000000")?
-            && gives_first_item(alloc, link)?
-            && next(link) == "end",
-    )
+    name == "started" && link.sink().bytes() == wanted
+}
+
+/// Whether the item and the end come after a start.
+fn is_played(alloc: Global, link: &mut MemWire) -> Result<bool, Fail> {
+    let wanted = b"\x11\0\0\0\x04\0\0\0\0";
+    if !puts(link, Headers::new(alloc), &Request::X509Svid, wanted) {
+        return Ok(false);
+    }
+    Ok(gives_first_item(alloc, link)? && next(link) == "end")
 }
 
 #[test]
 fn wire_link(rt: HostRuntime) -> Result<(), Fail> {
-    let source = source_of(&rt, "CN I1 07 00000000", 0, &[])?;
-    let mut link = WireLink::new(rt.alloc(), source, sink(&rt, 9, &[]));
+    let mut link = wire(&rt, "CN I1 07 00000000", 9, &[])?;
     let is_played = is_played(rt.alloc(), &mut link);
     drop(link);
     assert!(rt; is_played?);
     assert!(rt; is_answered(&rt, ("CN", "s", "unavailable "), 0, &[1])?);
     Ok(())
-}
-
-/// Whether a start puts these octets.
-fn puts(
-    rt: &(impl Abort + AllocGlobal),
-    headers: &Headers,
-    request: &Request,
-    wanted: &str,
-) -> Result<bool, Fail> {
-    let source = source_of(rt, "CN", 0, &[])?;
-    let mut link = WireLink::new(rt.alloc(), source, sink(rt, 200, &[]));
-    let answer = link.start(headers, request);
-    let name = start_name(&answer);
-    drop(answer);
-    let has_put = has_put(rt.alloc(), &link, wanted);
-    drop(link);
-    let has_put = has_put?;
-    Ok(name == "started" && has_put)
 }
 
 /// The headers of a request with that one.
@@ -254,40 +227,50 @@ fn validation(rt: &(impl Abort + AllocGlobal)) -> Request {
     }
 }
 
+const BUNDLES: &[u8] = b"\x12\0\0\0\x0f\0\0\0\x01\0\0\0\x01a\0\0\0\x02bc";
+
+const VALIDATION: &[u8] = b"\x15\0\0\0\x0e\0\0\0\0\0\0\0\x01a\0\0\0\x01t";
+
 #[test]
 fn requests(rt: HostRuntime) -> Result<(), Fail> {
+    let mut link = wire(&rt, "CN", 200, &[])?;
     let headers = one_header(&rt, "a", "bc");
-    let wanted = "12 0000000f 00000001 00000001 61 00000002 6263";
-    let bundles = puts(&rt, &headers, &Request::X509Bundles, wanted);
-    drop(headers);
-    assert!(rt; bundles?);
-    let (headers, request) = (Headers::new(rt.alloc()), validation(&rt));
-    let wanted = "15 0000000e 00000000 00000001 61 00000001 74";
-    let validation = puts(&rt, &headers, &request, wanted);
-    drop(headers);
+    assert!(rt; puts(&mut link, headers, &Request::X509Bundles, BUNDLES));
+    drop(link);
+    let mut link = wire(&rt, "CN", 200, &[])?;
+    let request = validation(&rt);
+    assert!(rt; puts(&mut link, Headers::new(rt.alloc()), &request, VALIDATION));
     drop(request);
-    assert!(rt; validation?);
+    drop(link);
     Ok(())
 }
 
-/// A value that is too long for a request.
-fn set_too_long(rt: &(impl Abort + AllocGlobal), headers: &mut Headers) {
-    let value = "a".repeat(rt.alloc(), 1 << 24).expect(rt, "memory");
+/// How long the header `long` is, where there is one, and what a start then returns.
+const STARTS: &[(Option<usize>, &str)] = &[
+    (None, "unavailable"),
+    (Some(1 << 24), "resource_exhausted"),
+    (Some(5), "started"),
+];
+
+/// Sets the header `long` to a value of that length.
+fn set_long(rt: &(impl Abort + AllocGlobal), headers: &mut Headers, length: usize) {
+    let value = "a".repeat(rt.alloc(), length).expect(rt, "memory");
     headers.set("long", value.as_str()).expect(rt, "memory");
     drop(value);
 }
 
 #[test]
 fn refused_before_it_is_read(rt: HostRuntime) -> Result<(), Fail> {
-    let source = source_of(&rt, "CN", 0, &[])?;
-    let mut link = WireLink::new(rt.alloc(), source, sink(&rt, 100, &[1]));
+    let mut link = wire(&rt, "CN", 100, &[1])?;
     let mut headers = Headers::new(rt.alloc());
-    assert!(rt; started(&mut link, &headers) == "unavailable");
-    set_too_long(&rt, &mut headers);
-    assert!(rt; started(&mut link, &headers) == "resource_exhausted");
-    assert!(rt; link.sink().bytes().is_empty());
-    headers.set("long", "short").expect(&rt, "memory");
-    assert!(rt; started(&mut link, &headers) == "started");
+    for &(length, wanted) in STARTS {
+        assert!(rt; link.sink().bytes().is_empty(), "{wanted}");
+        if let Some(length) = length {
+            set_long(&rt, &mut headers, length);
+        }
+        let found = started(&mut link, &headers, &Request::X509Svid);
+        assert!(rt; found == wanted, "{found}");
+    }
     drop(headers);
     drop(link);
     Ok(())
