@@ -1,4 +1,5 @@
 pub mod FeedLemmas
+pub mod Joining
 pub mod MomentLemmas
 pub mod PaceLemmas
 pub mod OrderLemmas

@@ -1,9 +1,6 @@
 -- What is kept of a run: its events, oldest first, what it published, and where it stands.
 use Rattle.std.specs.Prelude.{◌≡◌, ℕ, ℤ, Bool, true, false, IsTrue, is_some, List, ◌∷◌, [], ◌++◌}
 use Rattle.std.specs.Prelude.{reverse, Option, None, Some, Result, Ok, Err, ◌⊎◌, IfSome}
-use Rattle.std.specs.Option.{option_map}
-use Rattle.spf_api.specs.declared.response.ContextResponse.{ContextResponse}
-use Rattle.spf_x509.specs.Svid.{Svid}
 use Rattle.spf_pace.specs.declared.pacer.AttemptEnd.{AttemptEnd}
 use Rattle.spf_view.specs.Keeping.{IsAt, kept_with_any}
 use Rattle.spf_view.specs.Sessions.{Grows}
@@ -17,13 +14,12 @@ use Rattle.spf_feed.specs.declared.record.MetricsRecord.{MetricsRecord}
 use Rattle.spf_feed.specs.declared.record.MetricsRecord.TheVariants as x509_records
 use Rattle.spf_feed.specs.declared.step.Denial.{Denial}
 use Rattle.spf_feed.specs.declared.turn.Records.{Records}
-use Rattle.spf_feed.specs.declared.turn.SessionRules.{SessionRules}
 use Rattle.spf_feed.specs.declared.turn.Terminal.{Terminal}
 use Rattle.spf_feed.specs.declared.turn.Turn.{Turn}
 use Rattle.spf_feed.specs.declared.turn.Turn.TheVariants as turns
 use Rattle.spf_feed.specs.Handing.{change_of, update_of}
 use Rattle.spf_feed.specs.Records.{Appended}
-use Rattle.spf_feed.specs.Items.{Event, Rules, rules_with, subject}
+use Rattle.spf_feed.specs.Items.{Event, Rules, subject}
 use Rattle.spf_feed.specs.Steps.{HasStep, Material, PlainStep, same_material}
 use Rattle.spf_feed.specs.Turns.{listed}
 use Rattle.spf_feeder.specs.Attempts.{attempt_end_by, gave_accepted_by}
@@ -41,6 +37,35 @@ pub record Progress (N I : Type 0) : Type 0 where
   pub recorder : N
   pub run : List (SessionEvent I)
   pub stuck : Bool
+
+-- What contracts see of a session by its rules, where P is its publisher and M its recorder.
+pub record Core (P M G I : Type 0) : Type 0 where
+  pub publisher : P
+  pub recorder : M
+  pub rules : G
+  pub run : List (SessionEvent I)
+  -- memory ran out, or a terminal event came: nothing more is taken
+  pub stuck : Bool
+
+abbrev pub core_of : {P M G I : Type 0} → P → M → G → List (SessionEvent I) → Bool → Core P M G I
+core_of publisher recorder rules run stuck = record {
+  publisher = publisher;
+  recorder = recorder;
+  rules = rules;
+  run = run;
+  stuck = stuck;
+}
+
+abbrev pub progress : {P M G I : Type 0} → Core P M G I → Progress M I
+progress core = record { recorder = core.recorder; run = core.run; stuck = core.stuck }
+
+-- what no event changes: the rules, and where the steps are published
+pub record Given (G : Type 0) : Type 0 where
+  pub rules : G
+  pub target : List ℕ
+
+abbrev pub given : {P M G I : Type 0} → (P → List ℕ) → Core P M G I → Given G
+given target core = record { rules = core.rules; target = target core.publisher }
 
 -- what is kept in place stands for the events so far
 pub record GoingBy {I M B R : Type 0} (k : Kind I M B R) (run : List (SessionEvent I))
@@ -133,48 +158,6 @@ accepts_in _ = false
 
 abbrev pub Published : Option (List PlainStep) → Rules → List Event → Type 0
 Published steps rules run = IfSome steps (λ s. s ≡ steps_of (subject rules) run)
-
--- what contracts see of the core of a feeder
-pub record Core (P M K : Type 0) : Type 0 where
-  pub publisher : P
-  pub recorder : M
-  pub settings : SessionRules
-  pub picker : Option K
-  pub run : List Event
-  -- memory ran out, or a terminal event came: nothing more is taken
-  pub stuck : Bool
-
-abbrev pub core_of : {P M K : Type 0} → P → M → SessionRules → Option K → List Event → Bool
-    → Core P M K
-core_of publisher recorder settings picker run stuck = record {
-  publisher = publisher;
-  recorder = recorder;
-  settings = settings;
-  picker = picker;
-  run = run;
-  stuck = stuck;
-}
-
-abbrev pub progress : {P M K : Type 0} → Core P M K → Progress M ContextResponse
-progress core = record { recorder = core.recorder; run = core.run; stuck = core.stuck }
-
--- what no event changes: the rules, and where the steps are published
-pub record Given (K : Type 0) : Type 0 where
-  pub settings : SessionRules
-  pub picker : Option K
-  pub target : List ℕ
-
-abbrev pub given : {P M K : Type 0} → (P → List ℕ) → Core P M K → Given K
-given target core = record {
-  settings = core.settings;
-  picker = core.picker;
-  target = target core.publisher;
-}
-
--- the rules of a session, where `picks` is what pickers pick
-abbrev pub rules_by : {K : Type 0} → (K → List Svid → Option ℕ) → SessionRules → Option K → Rules
-rules_by picks settings picker =
-    rules_with settings.limits settings.deadline settings.ready (option_map picks picker)
 
 abbrev pub Going : Rules → List Event → Option (List PlainStep) → Option (Kept Material Denial)
     → Option ℤ → Phase → Bool → Type 0

@@ -2,6 +2,7 @@ pub mod Asking
 pub mod Attempts
 pub mod Coming
 pub mod Fed
+pub mod Governed
 pub mod Kept
 pub mod Kinds
 pub mod Laws

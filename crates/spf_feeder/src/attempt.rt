@@ -1,6 +1,6 @@
 //! How an event ends an attempt.
 
-ghost use Rattle.std.specs.Prelude.{◌≡◌, IfOk};
+ghost use Rattle.std.specs.Prelude.{◌≡◌, None, IfOk, if◌then◌else◌};
 ghost use Rattle.spf_api.specs.Errors.{status_reading};
 ghost use Rattle.spf_feeder.specs.Attempts.{client_no_identity, end_with, gave_with};
 ghost use Rattle.spf_feeder.specs.Attempts.{is_no_identity};
@@ -93,4 +93,11 @@ pub fn gave_after<I: Drop>(gave_accepted: bool, is_accepted: bool, event: &Sessi
         SessionEvent::Connected => false,
         _ => is_accepted || gave_accepted,
     }
+}
+
+/// Returns how an event ends the attempt: one that is accepted ends none.
+pub fn unless_accepted(is_accepted: bool, end: Option<AttemptEnd>) -> Option<AttemptEnd>
+    ensures { result ≡ (if is_accepted then None else end) }
+{
+    if is_accepted { None } else { end }
 }

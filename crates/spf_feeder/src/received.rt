@@ -1,6 +1,7 @@
 //! An event as it is received: its item is read down to its context.
 
 ghost use Rattle.std.specs.Prelude.{◌≡◌, Err, IfOk, false};
+ghost use Rattle.std.specs.Arc.{arc_value};
 ghost use Rattle.spf_api.specs.Errors.{is_memory_api};
 ghost use Rattle.spf_feed.specs.Events.{map_item};
 ghost use Rattle.spf_feed.specs.Items.{IsReceived, context_in};
@@ -12,6 +13,7 @@ use spf_io::{OutOfMemory, Text};
 use spf_x509::X509Context;
 use std::alloc::Global;
 use std::mem::drop;
+use std::sync::Arc;
 
 /// A copy of a status.
 pub(crate) fn copy_of_status(
@@ -77,6 +79,13 @@ fn context_of(alloc: Global, response: &ContextResponse) -> Result<Option<X509Co
     ensures { IfOk result (λ o. o ≡ context_in response.now) }
 {
     received(context_from(alloc, response))
+}
+
+/// Returns a value that may be shared.
+pub fn shared<T: Drop>(alloc: Global, value: T) -> Result<Arc<T>, OutOfMemory>
+    ensures { IfOk result (λ a. arc_value a ≡ value) }
+{
+    Ok(Arc::new(alloc, value)?)
 }
 
 /// Returns an event as it is received, which is not an item.

@@ -1,5 +1,6 @@
 //! What a feeder feeds: sessions of any kind.
 
+use crate::rules::Governs;
 use spf_api::Response;
 use spf_feed::{Phase, SessionEvent, Terminal};
 use spf_io::OutOfMemory;
@@ -24,6 +25,15 @@ impl From<OutOfMemory> for Stop {
     fn from(_e: OutOfMemory) -> Stop {
         Stop::OutOfMemory
     }
+}
+
+/// What is left of a session.
+#[derive(Drop)]
+pub struct SessionParts<P: Drop, G: Governs> {
+    pub publisher: P,
+    /// The events, oldest first.
+    pub events: Vec<SessionEvent<G::Item>>,
+    pub rules: G,
 }
 
 /// The events so far, with all that they publish and record. Once an event was refused it takes

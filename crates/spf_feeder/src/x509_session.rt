@@ -1,26 +1,26 @@
 //! Sessions of X.509 identities: the events so far, what they published, and where they stand.
 
 ghost use Rattle.std.specs.Prelude.{◌≡◌, ◌∷◌, [], true, false, None, Some, IsTrue, IfOk, OnOk};
-ghost use Rattle.std.specs.Prelude.{IfErr, IfSome, List, reverse, is_some, if◌then◌else◌, ◌||◌};
-ghost use Rattle.std.specs.Arc.{arc_value};
+ghost use Rattle.std.specs.Prelude.{IfErr, IfSome, List, reverse, is_some, ◌||◌};
 ghost use Rattle.std.specs.Option.{ForSome};
 ghost use Rattle.spf_feed.specs.Items.{Event as SessionOf};
 ghost use Rattle.spf_feed.specs.Following.{update_of};
 ghost use Rattle.spf_feed.specs.Steps.{HasStep};
 ghost use Rattle.spf_feed.specs.Turns.{MayTake, listed};
 ghost use Rattle.spf_feeder.specs.Kept.{Going, Published, PublishesTurn, accepts, core_of};
-ghost use Rattle.spf_feeder.specs.Kept.{rules_by};
+ghost use Rattle.spf_feeder.specs.Governed.{rules_by};
 ghost use Rattle.spf_feeder.specs.Taking.{Foresees, Takes};
 ghost use Rattle.spf_feeder.specs.Orderly.{IsOrderly};
 
-use crate::attempt::{end_of, gave_after};
-use crate::received::received_of;
-use crate::session::{Session, Stop};
+use crate::attempt::{end_of, gave_after, unless_accepted};
+use crate::feeder::SessionFeeder;
+use crate::received::{received_of, shared};
+use crate::session::{Session, SessionParts, Stop};
+use crate::x509_rules::X509Rules;
 use spf_api::{ContextResponse, Response};
 use spf_feed::{
     Change, Event, MetricsRecord, MetricsRecorder, Phase, Publisher, Records, ResourceLimits,
-    SessionRules, Snapshot, Step, SvidPicker, Turn, moment_after, phase_after, publish, record_all,
-    turn_of,
+    Snapshot, Step, SvidPicker, Turn, moment_after, phase_after, publish, record_all, turn_of,
 };
 use spf_io::OutOfMemory;
 use spf_link::Request;
@@ -29,7 +29,6 @@ use std::alloc::Global;
 use std::marker::Model;
 use std::mem::drop;
 use std::snapshot;
-use std::sync::Arc;
 
 /// The records of an accepted item, by what its step changed.
 fn records_of(change: Change) -> Records
@@ -42,12 +41,6 @@ fn records_of(change: Change) -> Records
         },
         Change::Opened | Change::Unchanged => Records::none(),
     }
-}
-
-fn shared<T: Drop>(alloc: Global, value: T) -> Result<Arc<T>, OutOfMemory>
-    ensures { IfOk result (λ a. arc_value a ≡ value) }
-{
-    Ok(Arc::new(alloc, value)?)
 }
 
 /// Publishes the step of a turn, where it has one, and returns the records of the turn.
@@ -92,13 +85,6 @@ fn is_accepted(turn: &Turn) -> bool
     matches!(turn, Turn::Accepted { .. })
 }
 
-/// An accepted item ends no attempt.
-fn unless(is_accepted: bool, end: Option<AttemptEnd>) -> Option<AttemptEnd>
-    ensures { result ≡ (if is_accepted then None else end) }
-{
-    if is_accepted { None } else { end }
-}
-
 /// Where a session stands after its events, its snapshot aside.
 #[derive(Clone, Copy)]
 struct Place {
@@ -116,18 +102,17 @@ struct Foreseen {
 }
 
 /// What an event is to do, where an item was accepted before it or not.
-fn foresee<K: SvidPicker>(
+fn foresee<K: SvidPicker + Drop>(
     alloc: Global,
-    rules: SessionRules,
-    picker: &Option<K>,
+    rules: &X509Rules<K>,
     synced: bool,
     place: Place,
     event: &Event,
 ) -> Result<Foreseen, OutOfMemory>
-    requires { ForSome picker.now K.can_pick }
-    ensures may { IfOk result (λ f. MayTake rules.limits synced f.turn) }
+    requires { ForSome rules.now.picker K.can_pick }
+    ensures may { IfOk result (λ f. MayTake rules.now.settings.limits synced f.turn) }
     ensures foresees { IfOk result
-        (Foresees (rules_by K.picks rules picker.now) synced place event.now) }
+        (Foresees (rules_by K.picks rules.now) synced place event.now) }
 {
     let received = received_of(alloc, event)?;
     let phase = phase_after(place.phase, synced, &received);
@@ -139,7 +124,13 @@ fn foresee<K: SvidPicker>(
         }
     };
     let moment = moment_after(place.moment, &received);
-    let turn = turn_of(rules, picker.as_ref(), synced, place.moment, received);
+    let turn = turn_of(
+        rules.settings,
+        rules.picker.as_ref(),
+        synced,
+        place.moment,
+        received,
+    );
     let is_accepted = is_accepted(&turn);
     let place = Place {
         moment,
@@ -149,7 +140,7 @@ fn foresee<K: SvidPicker>(
     Ok(Foreseen {
         turn,
         place,
-        end: unless(is_accepted, end),
+        end: unless_accepted(is_accepted, end),
     })
 }
 
@@ -161,45 +152,37 @@ struct Taken {
 }
 
 /// Takes one more event: its step is published. After a refusal nothing is.
-fn take<P: Publisher, K: SvidPicker>(
+fn take<P: Publisher, K: SvidPicker + Drop>(
     alloc: Global,
     publisher: &mut P,
     snapshot: &mut Option<Snapshot>,
     place: &mut Place,
-    rules: SessionRules,
-    picker: &Option<K>,
+    rules: &X509Rules<K>,
     event: &Event,
 ) -> Result<Taken, Stop>
-    requires picker { ForSome picker.now K.can_pick }
+    requires picker { ForSome rules.now.picker K.can_pick }
     requires synced { IsTrue (is_some snapshot.old) → HasStep (P.steps publisher.old) }
     ensures target { P.target publisher.new ≡ P.target publisher.old }
     ensures refused { IfErr result (λ _. P.steps publisher.new ≡ P.steps publisher.old) }
     ensures takes { (run : List SessionOf)
-        → Published (P.steps publisher.old) (rules_by K.picks rules picker.now) run
-        → Going (rules_by K.picks rules picker.now) run (P.steps publisher.old) snapshot.old
+        → Published (P.steps publisher.old) (rules_by K.picks rules.now) run
+        → Going (rules_by K.picks rules.now) run (P.steps publisher.old) snapshot.old
         place.old.moment place.old.phase place.old.gave_accepted
-        → Takes (rules_by K.picks rules picker.now) run event.now result snapshot.new
+        → Takes (rules_by K.picks rules.now) run event.now result snapshot.new
         (P.steps publisher.new) place.new }
 {
     let Foreseen {
         turn,
         place: next,
         end,
-    } = foresee(alloc, rules, picker, snapshot.is_some(), *place, event)?;
-    let records = publish_turn(alloc, publisher, snapshot, rules.limits, turn)?;
+    } = foresee(alloc, rules, snapshot.is_some(), *place, event)?;
+    let records = publish_turn(alloc, publisher, snapshot, rules.settings.limits, turn)?;
     *place = next;
     Ok(Taken { records, end })
 }
 
-/// What is left of a session.
-#[derive(Drop)]
-pub struct SessionParts<P: Publisher + Drop, K: SvidPicker + Drop> {
-    pub publisher: P,
-    /// The events, oldest first.
-    pub events: Vec<Event>,
-    pub rules: SessionRules,
-    pub picker: Option<K>,
-}
+/// Asks a connector and its link for X.509 identities, and publishes what they yield.
+pub type Feeder<C, P, M, K> = SessionFeeder<C, X509Session<P, M, K>>;
 
 /// The events so far, with all that they publish and record. Once an event was refused it takes
 /// none.
@@ -208,8 +191,7 @@ pub struct X509Session<P: Publisher + Drop, M: MetricsRecorder + Drop, K: SvidPi
     alloc: Global,
     publisher: P,
     recorder: M,
-    picker: Option<K>,
-    rules: SessionRules,
+    rules: X509Rules<K>,
     events: Vec<Event>,
     snapshot: Option<Snapshot>,
     place: Place,
@@ -220,39 +202,40 @@ impl<P: Publisher + Drop, M: MetricsRecorder + Drop, K: SvidPicker + Drop> Model
     for X509Session<P, M, K> {
     ghost use Rattle.std.specs.Prelude.{◌≡◌, false, reverse};
     ghost use Rattle.std.specs.Option.{ForSome};
-    ghost use Rattle.spf_feeder.specs.Kept.{Core, core_of, Published, Going, rules_by};
+    ghost use Rattle.spf_feeder.specs.Kept.{Core, core_of, Published, Going};
+    ghost use Rattle.spf_feeder.specs.Governed.{rules_by};
+    ghost use Rattle.spf_feeder.specs.declared.x509_rules.X509Rules.{X509Rules};
+    ghost use Rattle.spf_api.specs.declared.response.ContextResponse.{ContextResponse};
     ghost use Rattle.spf_feeder.specs.Orderly.{IsOrderly};
 
-    ghost Value = { Core P M K };
+    ghost Value = { Core P M (X509Rules K) ContextResponse };
 
-    ghost view = { λ s. core_of s.publisher s.recorder s.rules s.picker s.events.items s.stuck };
+    ghost view = { λ s. core_of s.publisher s.recorder s.rules s.events.items s.stuck };
 
-    ghost invariant = { λ s. ForSome s.picker K.can_pick
-        × Published (P.steps s.publisher) (rules_by K.picks s.rules s.picker) s.events.items
-        × (s.stuck ≡ false → Going (rules_by K.picks s.rules s.picker) s.events.items
+    ghost invariant = { λ s. ForSome s.rules.picker K.can_pick
+        × Published (P.steps s.publisher) (rules_by K.picks s.rules) s.events.items
+        × (s.stuck ≡ false → Going (rules_by K.picks s.rules) s.events.items
         (P.steps s.publisher) s.snapshot s.place.moment s.place.phase s.place.gave_accepted)
-        × IsOrderly (rules_by K.picks s.rules s.picker) (reverse s.events.items) };
+        × IsOrderly (rules_by K.picks s.rules) (reverse s.events.items) };
 }
 
 impl<P: Publisher + Drop, M: MetricsRecorder + Drop, K: SvidPicker + Drop> X509Session<P, M, K> {
-    /// A session without events yet, whose publisher has no steps.
+    /// Returns a session without events yet, whose publisher has no steps.
     #[tactic(auto, unfolding(crate::specs::Orderly::IsOrderlyOf))]
-    pub(crate) fn new(
+    pub fn new(
         alloc: Global,
         publisher: P,
         recorder: M,
-        picker: Option<K>,
-        rules: SessionRules,
+        rules: X509Rules<K>,
     ) -> X509Session<P, M, K>
-        requires picker { ForSome picker K.can_pick }
+        requires picker { ForSome rules.picker K.can_pick }
         requires unused { IfSome (P.steps publisher) (λ steps. steps ≡ []) }
-        ensures { result ≡ core_of publisher recorder rules picker [] false }
+        ensures { result ≡ core_of publisher recorder rules [] false }
     {
         X509Session {
             alloc,
             publisher,
             recorder,
-            picker,
             rules,
             events: Vec::new(alloc),
             snapshot: None,
@@ -266,24 +249,17 @@ impl<P: Publisher + Drop, M: MetricsRecorder + Drop, K: SvidPicker + Drop> X509S
     }
 
     /// Returns the rules of the session.
-    pub fn rules(&self) -> SessionRules
-        ensures { result ≡ self.now.settings }
+    pub fn rules(&self) -> &X509Rules<K>
+        ensures { result.now ≡ self.now.rules }
     {
-        self.rules
-    }
-
-    /// Returns the picker of the SVID.
-    pub fn picker(&self) -> &Option<K>
-        ensures { result.now ≡ self.now.picker }
-    {
-        &self.picker
+        &self.rules
     }
 
     /// Returns the publisher, which has exactly the steps of the events.
     pub fn publisher(&self) -> &P
         ensures publisher { result.now ≡ self.now.publisher }
         ensures published { Published (P.steps self.now.publisher)
-            (rules_by K.picks self.now.settings self.now.picker) self.now.run }
+            (rules_by K.picks self.now.rules) self.now.run }
     {
         &self.publisher
     }
@@ -292,17 +268,15 @@ impl<P: Publisher + Drop, M: MetricsRecorder + Drop, K: SvidPicker + Drop> X509S
     /// publisher that it had until now.
     pub fn with_publisher<Q: Publisher + Drop>(self, publisher: Q) -> (X509Session<Q, M, K>, P)
         requires published { Published (Q.steps publisher)
-            (rules_by K.picks self.settings self.picker) self.run }
+            (rules_by K.picks self.rules) self.run }
         requires has_step { HasStep (Q.steps publisher) }
-        ensures core { result.0 ≡ core_of publisher self.recorder self.settings self.picker self.run
-            self.stuck }
+        ensures core { result.0 ≡ core_of publisher self.recorder self.rules self.run self.stuck }
         ensures publisher { result.1 ≡ self.publisher }
     {
         let X509Session {
             alloc,
             publisher: before,
             recorder,
-            picker,
             rules,
             events,
             snapshot,
@@ -313,7 +287,6 @@ impl<P: Publisher + Drop, M: MetricsRecorder + Drop, K: SvidPicker + Drop> X509S
             alloc,
             publisher,
             recorder,
-            picker,
             rules,
             events,
             snapshot,
@@ -324,20 +297,18 @@ impl<P: Publisher + Drop, M: MetricsRecorder + Drop, K: SvidPicker + Drop> X509S
     }
 
     /// Returns what is left of a session that goes no further.
-    pub fn into_parts(self) -> SessionParts<P, K>
+    pub fn into_parts(self) -> SessionParts<P, X509Rules<K>>
         ensures publisher { result.publisher ≡ self.publisher }
         ensures events { result.events.items ≡ self.run }
-        ensures rules { result.rules ≡ self.settings }
-        ensures picker { result.picker ≡ self.picker }
-        ensures can_pick { ForSome self.picker K.can_pick }
+        ensures rules { result.rules ≡ self.rules }
+        ensures can_pick { ForSome self.rules.picker K.can_pick }
         ensures published { Published (P.steps self.publisher)
-            (rules_by K.picks self.settings self.picker) self.run }
-        ensures orderly { IsOrderly (rules_by K.picks self.settings self.picker)
+            (rules_by K.picks self.rules) self.run }
+        ensures orderly { IsOrderly (rules_by K.picks self.rules)
             (reverse self.run) }
     {
         let X509Session {
             publisher,
-            picker,
             rules,
             events,
             ..
@@ -346,7 +317,6 @@ impl<P: Publisher + Drop, M: MetricsRecorder + Drop, K: SvidPicker + Drop> X509S
             publisher,
             events,
             rules,
-            picker,
         }
     }
 }
@@ -361,8 +331,8 @@ impl<P: Publisher + Drop, M: MetricsRecorder + Drop, K: SvidPicker + Drop> Sessi
     ghost use Rattle.spf_feed.specs.Run.{ask_of};
     ghost use Rattle.spf_feed.specs.Steps.{Material};
     ghost use Rattle.spf_feeder.specs.Kept.{AdvancesBy, Given, Published, given, progress};
-    ghost use Rattle.spf_feeder.specs.Kept.{rules_by};
-    ghost use Rattle.spf_feeder.specs.Kinds.{x509};
+    ghost use Rattle.spf_feeder.specs.Governed.{kind_by, rules_by};
+    ghost use Rattle.spf_feeder.specs.declared.x509_rules.X509Rules.{X509Rules};
     ghost use Rattle.spf_feeder.specs.Orderly.{does_answer, is_moment};
     ghost use Rattle.spf_feeder.specs.Laws as laws;
 
@@ -376,18 +346,18 @@ impl<P: Publisher + Drop, M: MetricsRecorder + Drop, K: SvidPicker + Drop> Sessi
 
     ghost records = { M.records };
 
-    ghost Given = { Given K };
+    ghost Given = { Given (X509Rules K) };
 
     ghost given = { given P.target };
 
-    ghost kind = { λ about. x509 (rules_by K.picks about.settings about.picker) };
+    ghost kind = { λ about. kind_by K.picks about.rules };
 
     ghost progress = { progress };
 
     ghost is_published = { λ s. Published (P.steps s.publisher)
-        (rules_by K.picks s.settings s.picker) s.run };
+        (rules_by K.picks s.rules) s.run };
 
-    ghost lawful = { λ about. laws.lawful (rules_by K.picks about.settings about.picker) };
+    ghost lawful = { λ about. laws.lawful (rules_by K.picks about.rules) };
 
     fn is_stuck(&self) -> bool {
         self.stuck
@@ -430,13 +400,13 @@ impl<P: Publisher + Drop, M: MetricsRecorder + Drop, K: SvidPicker + Drop> Sessi
     fn advance(&mut self, event: Event) -> Result<Option<AttemptEnd>, Stop>
         requires going { self.old.stuck ≡ false }
         requires fits { (is_moment event || does_answer (ask_of context_in
-            (rules_by K.picks self.old.settings self.old.picker) (reverse self.old.run)) event)
+            (rules_by K.picks self.old.rules) (reverse self.old.run)) event)
             ≡ true }
         ensures given { given P.target self.new ≡ given P.target self.old }
         ensures published { Published (P.steps self.new.publisher)
-            (rules_by K.picks self.new.settings self.new.picker) self.new.run }
+            (rules_by K.picks self.new.rules) self.new.run }
         ensures advances { AdvancesBy
-            (x509 (rules_by K.picks self.old.settings self.old.picker)) M.records
+            (kind_by K.picks self.old.rules) M.records
             (progress self.old) event result (progress self.new) }
     {
         self.stuck = true;
@@ -449,8 +419,7 @@ impl<P: Publisher + Drop, M: MetricsRecorder + Drop, K: SvidPicker + Drop> Sessi
             &mut self.publisher,
             &mut self.snapshot,
             &mut self.place,
-            self.rules,
-            &self.picker,
+            &self.rules,
             &event,
         ) {
             Ok(taken) => taken,

@@ -1,15 +1,16 @@
 -- What a run does whose source was built.
 use Rattle.std.proofs.Common.{◌≡◌, sym, ap, ◌∙◌, refl, subst, ℕ, Bool, true, false, List}
-use Rattle.std.proofs.Common.{reverse, Option, None, Some, Result, Ok, Err}
+use Rattle.std.proofs.Common.{map, reverse, Option, None, Some, Result, Ok, Err}
 use Rattle.std.specs.Prelude.{ℤ, IfSome, IfOk, is_ok}
 use mathlib.Core.List.{IsPrefix}
 use Rattle.spf_history.specs.Lists.{is_ended, steps_of}
 use Rattle.spf_io.specs.declared.memory.OutOfMemory.{OutOfMemory}
 use Rattle.spf_link.specs.Connecting.{Member}
 use Rattle.spf_x509.specs.Svid.{Svid}
-use Rattle.spf_feed.specs.declared.turn.SessionRules.{SessionRules}
+use Rattle.spf_feed.specs.Steps.{plain}
 use Rattle.spf_feeder.specs.Coming.{AllYielded}
-use Rattle.spf_feeder.specs.Kept.{rules_by}
+use Rattle.spf_feeder.specs.Governed.{rules_by}
+use Rattle.spf_feeder.specs.declared.x509_rules.X509Rules.{X509Rules}
 use Rattle.spiffe.specs.declared.builder.Settings.{Settings}
 use Rattle.spiffe.specs.Building.{IsAssigned, IsDefault}
 use Rattle.spiffe.specs.Records.{Assigned, IsLeftBy, IsOf, IsRecord, Left, Recorded}
@@ -24,26 +25,27 @@ use Rattle.spf_gate_live.specs.declared.live_error.LiveGateError.TheVariants as 
 
 yielded_by : {K : Type 0} (picks : K → List Svid → Option ℕ) (r : Recorded K)
     (a b : Option (List Member)) → a ≡ b
-    → IfSome a (λ m. AllYielded (rules_by picks r.settings r.picker) m (reverse r.run))
-    → IfSome b (λ m. AllYielded (rules_by picks r.settings r.picker) m (reverse r.run))
+    → IfSome a (λ m. AllYielded (rules_by picks r.rules) m (reverse r.run))
+    → IfSome b (λ m. AllYielded (rules_by picks r.rules) m (reverse r.run))
 yielded_by picks r a b same =
     subst (λ (o : Option (List Member)).
-    IfSome o (λ m. AllYielded (rules_by picks r.settings r.picker) m (reverse r.run))) same
+    IfSome o (λ m. AllYielded (rules_by picks r.rules) m (reverse r.run))) same
 
 -- the record of a job that was assigned by a builder with the defaults
 record_of : {S K : Type 0} (members : S → Option (List Member)) (picks : K → List Svid → Option ℕ)
     (set : Settings K) (connector : S) (clock clock' : Option (List (Option ℤ)))
     (job : Assigned S K) (published : Seen) (found : Recorded K) → IsDefault set
     → IsAssigned members picks set connector clock clock' job → IsRecord picks found
-    → IsOf members picks job found → found.steps ≡ steps_of published
+    → IsOf members picks job found → map plain found.steps ≡ steps_of published
     → is_ended published ≡ true → IsRecordOf (members connector) picks published found
-record_of members picks set connector clock clock' job published found is assigned kept of steps
-    ended =
+record_of {K = K} members picks set connector clock clock' job published found is assigned kept
+    of steps ended =
     record {
       kept = kept;
-      limits = ap (λ (s : SessionRules). s.limits) of.settings ∙ assigned.limits ∙ is.limits;
-      ready = ap (λ (s : SessionRules). s.ready) of.settings ∙ assigned.ready ∙ is.ready;
-      picker = of.picker ∙ assigned.picker ∙ is.picker;
+      limits = ap (λ (x : X509Rules K). x.settings.limits) of.rules ∙ assigned.rules.limits
+          ∙ is.limits;
+      ready = ap (λ (x : X509Rules K). x.settings.ready) of.rules ∙ assigned.rules.ready ∙ is.ready;
+      picker = ap (λ (x : X509Rules K). x.picker) of.rules ∙ assigned.rules.picker ∙ is.picker;
       yielded = yielded_by picks found (members job.first) (members connector) assigned.members_are
           of.yielded;
       steps_are = steps;
@@ -61,7 +63,7 @@ answered_so : {S K : Type 0} (members : S → Option (List Member))
     → (is_cut served ≡ false → Serves max_lines left left' seen last held held' served)
     → IsPrefix last published → IsLeftBy members picks job done
     → IfOk joined (λ r. done.recorded ≡ Some r) → IfOk joined (IsRecord picks)
-    → IfOk joined (λ r. (r.steps ≡ steps_of published) × (is_ended published ≡ true))
+    → IfOk joined (λ r. (map plain r.steps ≡ steps_of published) × (is_ended published ≡ true))
     → Runs (members connector) picks left left' held held' (end_of served (is_ok joined))
 answered_so members picks set connector clock clock' job left left' held held' seen last published
     (Ok count) done (Ok found) is assigned serves begins leaves recorded kept settled =
@@ -97,7 +99,7 @@ pub answered : {S K : Type 0} (members : S → Option (List Member))
     → (is_cut served ≡ false → Serves max_lines left left' seen last held held' served)
     → IsPrefix last published → IsLeftBy members picks started done
     → IfOk joined (λ r. done.recorded ≡ Some r) → IfOk joined (IsRecord picks)
-    → IfOk joined (λ r. (r.steps ≡ steps_of published) × (is_ended published ≡ true))
+    → IfOk joined (λ r. (map plain r.steps ≡ steps_of published) × (is_ended published ≡ true))
     → recorded ≡ is_ok joined → end ≡ end_of served recorded
     → Runs (members connector) picks left left' held held' end
 answered {S} {K} members picks set connector own clock clock' job started left left' held held'

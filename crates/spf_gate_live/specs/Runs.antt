@@ -1,5 +1,5 @@
 -- What a live run of the gate does, and why it fails.
-use Rattle.std.specs.Prelude.{◌≡◌, ℕ, false, true, List, reverse, Option, None, IfSome}
+use Rattle.std.specs.Prelude.{◌≡◌, ℕ, false, true, List, map, reverse, Option, None, IfSome}
 use Rattle.std.specs.Prelude.{Result, Ok, Err, IfErr}
 use mathlib.Core.List.{IsPrefix}
 use Rattle.spf_api.specs.declared.endpoint_error.EndpointError.{EndpointError}
@@ -10,11 +10,12 @@ use Rattle.spf_program.specs.Reports.{IsEndReported}
 use Rattle.spf_program.specs.Streams.{Side}
 use Rattle.spf_x509.specs.Svid.{Svid}
 use Rattle.spf_feed.specs.Limits.{default_limits}
+use Rattle.spf_feed.specs.Steps.{plain}
 use Rattle.spf_feed.specs.declared.ready.Ready.TheVariants as readiness
 use Rattle.spf_feed.specs.declared.state.X509SourceError.{X509SourceError}
 use Rattle.spf_feed.specs.declared.state.X509SourceError.TheVariants as source
 use Rattle.spf_feeder.specs.Coming.{AllYielded}
-use Rattle.spf_feeder.specs.Kept.{rules_by}
+use Rattle.spf_feeder.specs.Governed.{rules_by}
 use Rattle.spiffe.specs.declared.builder.Settings.{Settings}
 use Rattle.spiffe.specs.Building.{IsDefault, SyncFails}
 use Rattle.spiffe.specs.Records.{IsRecord, Recorded}
@@ -37,12 +38,12 @@ max_lines = 1_000_000
 pub record IsRecordOf {K : Type 0} (members : Option (List Member))
     (picks : K → List Svid → Option ℕ) (published : Seen) (r : Recorded K) : Type 0 where
   pub kept : IsRecord picks r
-  pub limits : r.settings.limits ≡ default_limits
-  pub ready : r.settings.ready ≡ readiness.Usable
-  pub picker : r.picker ≡ None
-  pub yielded : IfSome members (λ m. AllYielded (rules_by picks r.settings r.picker) m (reverse
+  pub limits : r.rules.settings.limits ≡ default_limits
+  pub ready : r.rules.settings.ready ≡ readiness.Usable
+  pub picker : r.rules.picker ≡ None
+  pub yielded : IfSome members (λ m. AllYielded (rules_by picks r.rules) m (reverse
       r.run))
-  pub steps_are : r.steps ≡ steps_of published
+  pub steps_are : map plain r.steps ≡ steps_of published
   pub ended : is_ended published ≡ true
 
 -- All asks were answered, each from what was read of a beginning of what was published.

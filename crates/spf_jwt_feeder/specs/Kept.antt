@@ -1,12 +1,11 @@
 -- What is kept of a run: its events, oldest first, what it published, and where it stands.
-use Rattle.std.specs.Prelude.{◌≡◌, ℕ, ℤ, Bool, IfSome, IsTrue, is_some, List, Option, Result}
-use Rattle.spf_api.specs.declared.response.BundlesResponse.{BundlesResponse}
+use Rattle.std.specs.Prelude.{◌≡◌, ℤ, Bool, IfSome, IsTrue, is_some, List, Option, Result}
 use Rattle.spf_view.specs.Standing.{Kept}
 use Rattle.spf_view.specs.Steps.{steps_of}
 use Rattle.spf_feed.specs.declared.phase.Phase.{Phase}
 use Rattle.spf_feed.specs.declared.step.Denial.{Denial}
 use Rattle.spf_feeder.specs.declared.session.Stop.{Stop}
-use Rattle.spf_feeder.specs.Kept.{Accepts, Denies, GoingBy, Passes, PlainTurn, Progress}
+use Rattle.spf_feeder.specs.Kept.{Accepts, Denies, GoingBy, Passes, PlainTurn}
 use Rattle.spf_feeder.specs.Kept.{PublishesBy, Terminates, accepts_in}
 use Rattle.spf_jwt.specs.Bundle.{set_eq}
 use Rattle.spf_jwt.specs.declared.limits.JwtResourceLimits.{JwtResourceLimits}
@@ -18,44 +17,10 @@ use Rattle.spf_jwt_feed.specs.declared.turn.Turn.TheVariants as turns
 use Rattle.spf_jwt_feed.specs.Items.{Event, Rules, subject}
 use Rattle.spf_jwt_feed.specs.Steps.{BundleSet, HasStep, PlainStep}
 use Rattle.spf_jwt_feed.specs.Turns.{listed}
-use Rattle.spf_jwt_feeder.specs.declared.session.JwtSessionRules.{JwtSessionRules}
 use Rattle.spf_jwt_feeder.specs.Kinds.{jwt}
 
 abbrev pub Published : Option (List PlainStep) → Rules → List Event → Type 0
 Published steps rules run = IfSome steps (λ s. s ≡ steps_of (subject rules) run)
-
--- what contracts see of the core of a feeder
-pub record Core (P M : Type 0) : Type 0 where
-  pub publisher : P
-  pub recorder : M
-  pub settings : JwtSessionRules
-  pub run : List Event
-  -- memory ran out, or a terminal event came: nothing more is taken
-  pub stuck : Bool
-
-abbrev pub core_of : {P M : Type 0} → P → M → JwtSessionRules → List Event → Bool → Core P M
-core_of publisher recorder settings run stuck = record {
-  publisher = publisher;
-  recorder = recorder;
-  settings = settings;
-  run = run;
-  stuck = stuck;
-}
-
-abbrev pub progress : {P M : Type 0} → Core P M → Progress M BundlesResponse
-progress core = record { recorder = core.recorder; run = core.run; stuck = core.stuck }
-
--- what no event changes: the rules, and where the steps are published
-pub record Given : Type 0 where
-  pub settings : JwtSessionRules
-  pub target : List ℕ
-
-abbrev pub given : {P M : Type 0} → (P → List ℕ) → Core P M → Given
-given target core = record { settings = core.settings; target = target core.publisher }
-
--- the rules of a session
-abbrev pub rules_of : JwtSessionRules → Rules
-rules_of settings = record { limits = settings.limits; deadline = settings.deadline }
 
 -- The last moment makes no difference to what is accepted, so it is not kept.
 abbrev pub Going : Rules → List Event → Option (List PlainStep) → Option (Kept BundleSet Denial)

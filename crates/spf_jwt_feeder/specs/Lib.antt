@@ -1,10 +1,10 @@
 pub mod Asking
 pub mod Coming
 pub mod Fed
+pub mod Governed
 pub mod Kept
 pub mod Kinds
 pub mod Laws
-pub mod Opened
 pub mod Orderly
 pub mod Pacing
 pub mod Taking

@@ -1,9 +1,9 @@
-//! The feeder of a live JWT source: sessions of JWT bundles, and how their feeder is opened.
+//! The feeder of a live JWT source: sessions of JWT bundles, and their rules.
 #![tactic(auto)]
 
-mod opening;
 mod received;
+mod rules;
 mod session;
 
-pub use opening::{JwtFeeder, JwtOpening, open_jwt_feeder};
-pub use session::{JwtSession, JwtSessionParts, JwtSessionRules};
+pub use rules::JwtRules;
+pub use session::{JwtFeeder, JwtSession};

@@ -1,21 +1,24 @@
 //! Sessions of JWT bundles: the events so far, what they published, and where they stand.
 
 ghost use Rattle.std.specs.Prelude.{◌≡◌, ◌∷◌, [], true, false, None, Some, IsTrue, IfOk, OnOk};
-ghost use Rattle.std.specs.Prelude.{IfErr, IfSome, List, reverse, is_some, if◌then◌else◌, ◌||◌};
-ghost use Rattle.std.specs.Arc.{arc_value};
+ghost use Rattle.std.specs.Prelude.{IfErr, IfSome, List, reverse, is_some, ◌||◌};
 ghost use Rattle.spf_jwt_feed.specs.Items.{Event as SessionOf};
 ghost use Rattle.spf_jwt_feed.specs.Following.{update_of};
 ghost use Rattle.spf_jwt_feed.specs.Steps.{HasStep};
 ghost use Rattle.spf_jwt_feed.specs.Turns.{MayTake, listed};
-ghost use Rattle.spf_jwt_feeder.specs.Kept.{Going, Published, PublishesTurn, accepts, core_of};
-ghost use Rattle.spf_jwt_feeder.specs.Kept.{rules_of};
+ghost use Rattle.spf_feeder.specs.Kept.{core_of};
+ghost use Rattle.spf_jwt_feeder.specs.Governed.{rules_of};
+ghost use Rattle.spf_jwt_feeder.specs.Kept.{Going, Published, PublishesTurn, accepts};
 ghost use Rattle.spf_jwt_feeder.specs.Taking.{Foresees, Takes};
 ghost use Rattle.spf_jwt_feeder.specs.Orderly.{IsOrderly};
 
 use crate::received::received_of;
+use crate::rules::JwtRules;
 use spf_api::{BundlesResponse, Response};
 use spf_feed::{Change, Phase};
-use spf_feeder::{Session, Stop, end_of, gave_after};
+use spf_feeder::{
+    Session, SessionFeeder, SessionParts, Stop, end_of, gave_after, shared, unless_accepted,
+};
 use spf_io::OutOfMemory;
 use spf_jwt::JwtResourceLimits;
 use spf_jwt_feed::{
@@ -28,14 +31,6 @@ use std::alloc::Global;
 use std::marker::Model;
 use std::mem::drop;
 use std::snapshot;
-use std::sync::Arc;
-
-/// The rules of a session, but for its limit of frames.
-#[derive(Clone, Copy, Debug, PartialEq, Eq)]
-pub struct JwtSessionRules {
-    pub limits: JwtResourceLimits,
-    pub deadline: Option<i64>,
-}
 
 /// The records of an accepted item, by what its step changed.
 fn records_of(change: Change) -> Records
@@ -48,12 +43,6 @@ fn records_of(change: Change) -> Records
         },
         Change::Opened | Change::Unchanged => Records::none(),
     }
-}
-
-fn shared<T: Drop>(alloc: Global, value: T) -> Result<Arc<T>, OutOfMemory>
-    ensures { IfOk result (λ a. arc_value a ≡ value) }
-{
-    Ok(Arc::new(alloc, value)?)
 }
 
 /// Publishes the step of a turn, where it has one, and returns the records of the turn.
@@ -97,13 +86,6 @@ fn is_accepted(turn: &Turn) -> bool
     matches!(turn, Turn::Accepted(_))
 }
 
-/// An accepted item ends no attempt.
-fn unless(is_accepted: bool, end: Option<AttemptEnd>) -> Option<AttemptEnd>
-    ensures { result ≡ (if is_accepted then None else end) }
-{
-    if is_accepted { None } else { end }
-}
-
 /// Where a session stands after its events, its snapshot aside.
 #[derive(Clone, Copy)]
 struct Place {
@@ -122,7 +104,7 @@ struct Foreseen {
 /// What an event is to do, where an item was accepted before it or not.
 fn foresee(
     alloc: Global,
-    rules: JwtSessionRules,
+    rules: JwtRules,
     synced: bool,
     place: Place,
     event: &JwtEvent,
@@ -148,7 +130,7 @@ fn foresee(
     Ok(Foreseen {
         turn,
         place,
-        end: unless(is_accepted, end),
+        end: unless_accepted(is_accepted, end),
     })
 }
 
@@ -165,7 +147,7 @@ fn take<P: JwtPublisher>(
     publisher: &mut P,
     snapshot: &mut Option<JwtSnapshot>,
     place: &mut Place,
-    rules: JwtSessionRules,
+    rules: JwtRules,
     event: &JwtEvent,
 ) -> Result<Taken, Stop>
     requires synced { IsTrue (is_some snapshot.old) → HasStep (P.steps publisher.old) }
@@ -188,14 +170,8 @@ fn take<P: JwtPublisher>(
     Ok(Taken { records, end })
 }
 
-/// What is left of a session.
-#[derive(Drop)]
-pub struct JwtSessionParts<P: JwtPublisher + Drop> {
-    pub publisher: P,
-    /// The events, oldest first.
-    pub events: Vec<JwtEvent>,
-    pub rules: JwtSessionRules,
-}
+/// Asks a connector and its link for JWT bundles, and publishes what they yield.
+pub type JwtFeeder<C, P, M> = SessionFeeder<C, JwtSession<P, M>>;
 
 /// The events so far, with all that they publish and record. Once an event was refused it takes
 /// none.
@@ -204,7 +180,7 @@ pub struct JwtSession<P: JwtPublisher + Drop, M: JwtMetricsRecorder + Drop> {
     alloc: Global,
     publisher: P,
     recorder: M,
-    rules: JwtSessionRules,
+    rules: JwtRules,
     events: Vec<JwtEvent>,
     snapshot: Option<JwtSnapshot>,
     place: Place,
@@ -213,10 +189,14 @@ pub struct JwtSession<P: JwtPublisher + Drop, M: JwtMetricsRecorder + Drop> {
 
 impl<P: JwtPublisher + Drop, M: JwtMetricsRecorder + Drop> Model for JwtSession<P, M> {
     ghost use Rattle.std.specs.Prelude.{◌≡◌, false, reverse};
-    ghost use Rattle.spf_jwt_feeder.specs.Kept.{Core, core_of, Published, Going, rules_of};
+    ghost use Rattle.spf_api.specs.declared.response.BundlesResponse.{BundlesResponse};
+    ghost use Rattle.spf_feeder.specs.Kept.{Core, core_of};
+    ghost use Rattle.spf_jwt_feeder.specs.declared.rules.JwtRules.{JwtRules};
+    ghost use Rattle.spf_jwt_feeder.specs.Governed.{rules_of};
+    ghost use Rattle.spf_jwt_feeder.specs.Kept.{Published, Going};
     ghost use Rattle.spf_jwt_feeder.specs.Orderly.{IsOrderly};
 
-    ghost Value = { Core P M };
+    ghost Value = { Core P M JwtRules BundlesResponse };
 
     ghost view = { λ s. core_of s.publisher s.recorder s.rules s.events.items s.stuck };
 
@@ -227,14 +207,9 @@ impl<P: JwtPublisher + Drop, M: JwtMetricsRecorder + Drop> Model for JwtSession<
 }
 
 impl<P: JwtPublisher + Drop, M: JwtMetricsRecorder + Drop> JwtSession<P, M> {
-    /// A session without events yet, whose publisher has no steps.
+    /// Returns a session without events yet, whose publisher has no steps.
     #[tactic(auto, unfolding(spf_feeder::specs::Orderly::IsOrderlyOf))]
-    pub(crate) fn new(
-        alloc: Global,
-        publisher: P,
-        recorder: M,
-        rules: JwtSessionRules,
-    ) -> JwtSession<P, M>
+    pub fn new(alloc: Global, publisher: P, recorder: M, rules: JwtRules) -> JwtSession<P, M>
         requires unused { IfSome (P.steps publisher) (λ steps. steps ≡ []) }
         ensures { result ≡ core_of publisher recorder rules [] false }
     {
@@ -254,8 +229,8 @@ impl<P: JwtPublisher + Drop, M: JwtMetricsRecorder + Drop> JwtSession<P, M> {
     }
 
     /// Returns the rules of the session.
-    pub fn rules(&self) -> JwtSessionRules
-        ensures { result ≡ self.now.settings }
+    pub fn rules(&self) -> JwtRules
+        ensures { result ≡ self.now.rules }
     {
         self.rules
     }
@@ -264,7 +239,7 @@ impl<P: JwtPublisher + Drop, M: JwtMetricsRecorder + Drop> JwtSession<P, M> {
     pub fn publisher(&self) -> &P
         ensures publisher { result.now ≡ self.now.publisher }
         ensures published { Published (P.steps self.now.publisher)
-            (rules_of self.now.settings) self.now.run }
+            (rules_of self.now.rules) self.now.run }
     {
         &self.publisher
     }
@@ -273,10 +248,9 @@ impl<P: JwtPublisher + Drop, M: JwtMetricsRecorder + Drop> JwtSession<P, M> {
     /// publisher that it had until now.
     pub fn with_publisher<Q: JwtPublisher + Drop>(self, publisher: Q) -> (JwtSession<Q, M>, P)
         requires published { Published (Q.steps publisher)
-            (rules_of self.settings) self.run }
+            (rules_of self.rules) self.run }
         requires has_step { HasStep (Q.steps publisher) }
-        ensures core { result.0 ≡ core_of publisher self.recorder self.settings self.run
-            self.stuck }
+        ensures core { result.0 ≡ core_of publisher self.recorder self.rules self.run self.stuck }
         ensures publisher { result.1 ≡ self.publisher }
     {
         let JwtSession {
@@ -303,13 +277,13 @@ impl<P: JwtPublisher + Drop, M: JwtMetricsRecorder + Drop> JwtSession<P, M> {
     }
 
     /// Returns what is left of a session that goes no further.
-    pub fn into_parts(self) -> JwtSessionParts<P>
+    pub fn into_parts(self) -> SessionParts<P, JwtRules>
         ensures publisher { result.publisher ≡ self.publisher }
         ensures events { result.events.items ≡ self.run }
-        ensures rules { result.rules ≡ self.settings }
+        ensures rules { result.rules ≡ self.rules }
         ensures published { Published (P.steps self.publisher)
-            (rules_of self.settings) self.run }
-        ensures orderly { IsOrderly (rules_of self.settings)
+            (rules_of self.rules) self.run }
+        ensures orderly { IsOrderly (rules_of self.rules)
             (reverse self.run) }
     {
         let JwtSession {
@@ -318,7 +292,7 @@ impl<P: JwtPublisher + Drop, M: JwtMetricsRecorder + Drop> JwtSession<P, M> {
             events,
             ..
         } = self;
-        JwtSessionParts {
+        SessionParts {
             publisher,
             events,
             rules,
@@ -331,13 +305,14 @@ impl<P: JwtPublisher + Drop, M: JwtMetricsRecorder + Drop> Session for JwtSessio
 
     ghost use Rattle.spf_jwt.specs.declared.limits.JwtResourceLimits.{JwtResourceLimits};
     ghost use Rattle.spf_jwt_feed.specs.declared.record.JwtMetricsRecord.{JwtMetricsRecord};
-    ghost use Rattle.spf_feeder.specs.Kept.{AdvancesBy};
+    ghost use Rattle.spf_feeder.specs.Kept.{AdvancesBy, Given, given, progress};
     ghost use Rattle.spf_feeder.specs.Orderly.{does_answer, is_moment};
     ghost use Rattle.spf_jwt_feed.specs.Items.{item_in};
     ghost use Rattle.spf_jwt_feed.specs.Run.{ask_of};
     ghost use Rattle.spf_jwt_feed.specs.Steps.{BundleSet};
-    ghost use Rattle.spf_jwt_feeder.specs.Kept.{Given, Published, given, progress, rules_of};
-    ghost use Rattle.spf_jwt_feeder.specs.Kinds.{jwt};
+    ghost use Rattle.spf_jwt_feeder.specs.declared.rules.JwtRules.{JwtRules};
+    ghost use Rattle.spf_jwt_feeder.specs.Governed.{kind_of, rules_of};
+    ghost use Rattle.spf_jwt_feeder.specs.Kept.{Published};
     ghost use Rattle.spf_jwt_feeder.specs.Laws as laws;
 
     ghost Material = { BundleSet };
@@ -350,17 +325,17 @@ impl<P: JwtPublisher + Drop, M: JwtMetricsRecorder + Drop> Session for JwtSessio
 
     ghost records = { M.records };
 
-    ghost Given = { Given };
+    ghost Given = { Given JwtRules };
 
     ghost given = { given P.target };
 
-    ghost kind = { λ about. jwt (rules_of about.settings) };
+    ghost kind = { λ about. kind_of about.rules };
 
     ghost progress = { progress };
 
-    ghost is_published = { λ s. Published (P.steps s.publisher) (rules_of s.settings) s.run };
+    ghost is_published = { λ s. Published (P.steps s.publisher) (rules_of s.rules) s.run };
 
-    ghost lawful = { λ about. laws.lawful (rules_of about.settings) };
+    ghost lawful = { λ about. laws.lawful (rules_of about.rules) };
 
     fn is_stuck(&self) -> bool {
         self.stuck
@@ -403,11 +378,11 @@ impl<P: JwtPublisher + Drop, M: JwtMetricsRecorder + Drop> Session for JwtSessio
     fn advance(&mut self, event: JwtEvent) -> Result<Option<AttemptEnd>, Stop>
         requires going { self.old.stuck ≡ false }
         requires fits { (is_moment event || does_answer (ask_of item_in
-            (rules_of self.old.settings) (reverse self.old.run)) event) ≡ true }
+            (rules_of self.old.rules) (reverse self.old.run)) event) ≡ true }
         ensures given { given P.target self.new ≡ given P.target self.old }
-        ensures published { Published (P.steps self.new.publisher) (rules_of self.new.settings)
+        ensures published { Published (P.steps self.new.publisher) (rules_of self.new.rules)
             self.new.run }
-        ensures advances { AdvancesBy (jwt (rules_of self.old.settings)) M.records
+        ensures advances { AdvancesBy (kind_of self.old.rules) M.records
             (progress self.old) event result (progress self.new) }
     {
         self.stuck = true;

@@ -1,4 +1,1 @@
 pub mod Failing
-pub mod Joining
-pub mod Recording
-pub mod Unyielded

@@ -1,31 +1,28 @@
 -- What a builder makes of a source, and why it fails.
-use Rattle.std.specs.Prelude.{◌≡◌, ◌⊎◌, ℕ, ℤ, List, [], Option, None, Some, Result, Ok, Err}
-use Rattle.std.specs.Prelude.{reverse, if◌then◌else◌}
+use Rattle.std.specs.Prelude.{◌≡◌, ◌⊎◌, ℕ, ℤ, List, Option, None, Some, Result, Ok, Err}
+use Rattle.std.specs.Prelude.{if◌then◌else◌}
 use Rattle.std.specs.Duration.{as_nanos}
 use Rattle.std.specs.Option.{option_map}
 use Rattle.spf_api.specs.declared.endpoint_error.EndpointError.{EndpointError}
 use Rattle.spf_api.specs.declared.error.WorkloadApiError.TheVariants as api
 use Rattle.spf_io.specs.Outside.{Rose}
 use Rattle.spf_endpoint.specs.Endpoint.{is_memory}
-use Rattle.spf_history.specs.Lists.{steps_of as board_steps}
 use Rattle.spf_link.specs.Connecting.{Member}
 use Rattle.spf_pace.specs.Bounds.{IsDefault as HasDefaultBounds}
-use Rattle.spf_view.specs.Steps.{steps_of}
 use Rattle.spf_feed.specs.declared.turn.Terminal.{Terminal}
 use Rattle.spf_feed.specs.declared.turn.Terminal.TheVariants as terminal
 use Rattle.spf_feeder.specs.declared.session.Stop.{Stop}
 use Rattle.spf_feeder.specs.declared.session.Stop.TheVariants as stops
-use Rattle.spf_feeder.specs.Opened.{HasDeadline}
+use Rattle.spf_feeder.specs.Opened.{HasDeadline, StopsOpening}
 use Rattle.spf_jwt.specs.Limits.{default_limits}
 use Rattle.spf_jwt_feed.specs.declared.state.JwtSourceError.{JwtSourceError}
 use Rattle.spf_jwt_feed.specs.declared.state.JwtSourceError.TheVariants as errors
-use Rattle.spf_jwt_feed.specs.Items.{subject}
 use Rattle.spf_jwt_board.specs.Passes.{PassView}
-use Rattle.spf_jwt_feeder.specs.Kept.{rules_of}
-use Rattle.spf_jwt_feeder.specs.Opened.{StopsOpening}
-use Rattle.spf_jwt_feeder.specs.Orderly.{IsSynced}
-use Rattle.spf_feeder.specs.Times.{GivesMoments}
+use Rattle.spf_jwt_feeder.specs.declared.rules.JwtRules.{JwtRules}
+use Rattle.spf_jwt_feeder.specs.Governed.{kind_of}
+use Rattle.spf_jwt_feeder.specs.Kinds.{jwt}
 use Rattle.spf_pass.specs.Sources.{Source}
+use Rattle.spf_supervisor.specs.Building.{IsAssignedBy, IsBuiltBy}
 use Rattle.spf_jwt_source.specs.declared.builder.JwtSettings.{JwtSettings}
 use Rattle.spf_jwt_source.specs.Records.{Assigned}
 
@@ -48,17 +45,20 @@ stopped_as (stops.Terminal terminal.InitialSyncTimeout) = errors.InitialSyncTime
 stopped_as (stops.Terminal terminal.Closed) = errors.OutOfMemory
 stopped_as stops.OutOfMemory = errors.OutOfMemory
 
--- the initial synchronisation may stop with this terminal event
-abbrev pub Stops : JwtSettings → Terminal → Type 0
-Stops set end =
-    StopsOpening set.limits set.timeout (stops.Terminal end)
+-- the rules are those of the builder, and the deadline is that of some first moment
+pub record IsSetBy (set : JwtSettings) (rules : JwtRules) : Type 0 where
+  pub limits : rules.limits ≡ set.limits
+  pub deadline : HasDeadline set.timeout rules.deadline
 
--- why a connector is not ready: its endpoint is invalid, or memory ran out
-abbrev pub EndpointFails : Result (Unit {0}) EndpointError → JwtSourceError → Type 0
-EndpointFails valid (errors.Source e) =
-    (x : EndpointError) × (valid ≡ Err x) × (e ≡ api.Endpoint x)
-EndpointFails valid errors.OutOfMemory = Unit {0}
-EndpointFails valid _ = ⊥
+-- the initial synchronisation may stop so
+abbrev pub StopsBy : JwtSettings → Stop → Type 0
+StopsBy set stop =
+    StopsOpening (λ deadline. jwt (record { limits = set.limits; deadline = deadline })) set.timeout
+    stop
+
+-- the same with a terminal event
+abbrev pub Stops : JwtSettings → Terminal → Type 0
+Stops set end = StopsBy set (stops.Terminal end)
 
 -- Why an initial synchronisation gives an error: the endpoint is invalid, a terminal event came by
 -- the connector or the clock before anything was accepted, or memory ran out.
@@ -86,29 +86,15 @@ abbrev pub BuildFails : JwtSettings
 BuildFails set valid before now started starts errors.NoSupervisor = Rose started starts
 BuildFails set valid before now started starts e = PrepareFails set valid before now e
 
--- What an initial synchronisation leaves to a supervisor: the rules are those of the builder, the
--- connector has its meaning, the run is synchronised, and its moments are those that the clock
--- gave.
-pub record IsAssigned {S : Type 0} (members : S → Option (List Member))
-    (set : JwtSettings) (connector : S) (clock clock' : Option (List (Option ℤ)))
-    (job : Assigned S) : Type 0 where
-  pub limits : job.settings.limits ≡ set.limits
-  pub deadline : HasDeadline set.timeout job.settings.deadline
-  pub bounds : job.bounds ≡ set.bounds
-  pub members_are : members job.first ≡ members connector
-  pub synced : IsSynced (rules_of job.settings) (reverse job.run)
-  pub clock_is : GivesMoments clock clock' [] job.run
+-- what an initial synchronisation leaves to a supervisor
+abbrev pub IsAssigned : {S : Type 0} → (S → Option (List Member)) → JwtSettings → S
+    → Option (List (Option ℤ)) → Option (List (Option ℤ)) → Assigned S → Type 0
+IsAssigned members set connector clock clock' job =
+    IsAssignedBy members kind_of (IsSetBy set) set.bounds connector clock clock' job
 
--- A source, its first pass, what closes it, and the job of its supervisor: the pass has seen the
--- steps of the initial synchronisation, and all are of one board and one closed cell.
-pub record IsBuilt {S : Type 0} (source : Source) (pass : PassView) (closing : ℕ)
-    (job : Assigned S) : Type 0 where
-  pub pass_board : pass.book ≡ source.board
-  pub board : job.board ≡ source.board
-  pub cell : job.cell ≡ source.cell
-  pub closing_cell : closing ≡ source.cell
-  pub seen : board_steps pass.seen
-      ≡ steps_of (subject (rules_of job.settings)) job.run
+-- a source, its first pass, what closes it, and the job of its supervisor
+abbrev pub IsBuilt : {S : Type 0} → Source → PassView → ℕ → Assigned S → Type 0
+IsBuilt source pass closing job = IsBuiltBy kind_of source pass closing job
 
 -- ---- by a builder on which nothing was set
 

@@ -1,18 +1,22 @@
-//! The handle of a supervisor that was started.
+//! The handle of a supervisor that was started, and its record.
 
 use crate::job::{JwtDone, JwtJob};
-use crate::record::JwtSupervised;
 use rand_core::Rng;
 use spf_io::OutOfMemory;
 use spf_jwt_board::{Jwt, JwtPass};
 use spf_jwt_feed::JwtMetricsRecorder;
+use spf_jwt_feeder::JwtRules;
 use spf_link::Connector;
-use spf_supervisor::Supervises;
+use spf_supervisor::{Supervised, Supervises};
 use spf_system::Pause;
 use std::sync::Wait;
 
 /// What the handle of a supervisor needs besides the handle of its started job.
 pub type JwtPendingHandle = spf_supervisor::PendingHandle<Jwt>;
+
+/// What came to a supervisor, from the first event of the initial synchronisation on, and what it
+/// published.
+pub type JwtSupervised = Supervised<JwtRules>;
 
 /// The handle of a started supervisor. It stays with the thread that built the source. Dropping it
 /// leaves the supervisor running.
@@ -29,6 +33,8 @@ where
 {
     type Record = JwtSupervised;
 
+    ghost use Rattle.std.specs.Prelude.{map};
+    ghost use Rattle.spf_jwt_feed.specs.Steps.{plain};
     ghost use Rattle.spf_jwt_source.specs.Records.{IsOf, IsRecord};
 
     ghost board = { λ job. job.board };
@@ -37,7 +43,7 @@ where
 
     ghost is_record = { IsRecord };
 
-    ghost steps = { λ r. r.steps };
+    ghost steps = { λ r. map plain r.steps };
 
     fn into_record(done: JwtDone<R>, pass: &mut JwtPass) -> Result<JwtSupervised, OutOfMemory> {
         done.into_record(pass)

@@ -1,26 +1,27 @@
 //! What the thread of a supervisor does.
 
-ghost use Rattle.std.specs.Prelude.{◌≡◌, false, true, IfOk, IfSome, None, Some, reverse};
+ghost use Rattle.std.specs.Prelude.{◌≡◌, false, true, IfOk, IfSome, None, Some, map, reverse};
 ghost use mathlib.Core.List.{IsPrefix};
 ghost use Rattle.spf_close.specs.declared.maker.Maker.TheVariants as makers;
-ghost use Rattle.spf_jwt_feeder.specs.Coming.{AllYielded};
-ghost use Rattle.spf_jwt_feeder.specs.Kept.{rules_of};
-ghost use Rattle.spf_jwt_feeder.specs.Orderly.{IsSynced};
-ghost use Rattle.spf_jwt_feeder.specs.Pacing.{KeepsPace};
+ghost use Rattle.spf_feeder.specs.Coming.{AllYieldedOf};
+ghost use Rattle.spf_feeder.specs.Orderly.{IsSyncedOf};
+ghost use Rattle.spf_feeder.specs.Pacing.{KeepsPaceOf};
+ghost use Rattle.spf_jwt_feed.specs.Steps.{plain};
+ghost use Rattle.spf_jwt_feeder.specs.Governed.{kind_of};
 ghost use Rattle.spf_history.specs.Lists.{is_ended, steps_of};
 ghost use Rattle.spf_jwt_source.specs.Records.{IsLeftBy, IsRecord, assigned, task_of};
 ghost use Rattle.spf_supervisor.specs.Connectors.{unyielded};
 
+use crate::handle::JwtSupervised;
 use crate::publishing::BoardPublisher;
-use crate::record::JwtSupervised;
 use rand_core::Rng;
 use spf_close::{Bell, Closed, Closer, Watch};
-use spf_feeder::supervise;
+use spf_feeder::{SessionParts, supervise};
 use spf_io::OutOfMemory;
 use spf_job::Job;
 use spf_jwt_board::{JwtEnded, JwtPass, settle};
 use spf_jwt_feed::JwtMetricsRecorder;
-use spf_jwt_feeder::{JwtFeeder, JwtSessionParts};
+use spf_jwt_feeder::JwtFeeder;
 use spf_link::Connector;
 use spf_pace::Pace;
 use spf_system::Pause;
@@ -35,8 +36,9 @@ pub struct JwtDone<R: Wait + Drop> {
 }
 
 impl<R: Wait + Drop> Model for JwtDone<R> {
-    ghost use Rattle.std.specs.Prelude.{◌≡◌, IfSome};
+    ghost use Rattle.std.specs.Prelude.{◌≡◌, IfSome, map};
     ghost use Rattle.spf_history.specs.Lists.{steps_of};
+    ghost use Rattle.spf_jwt_feed.specs.Steps.{plain};
     ghost use Rattle.spf_jwt_source.specs.Records.{IsRecord, Left, left_of};
 
     ghost Value = { Left };
@@ -44,7 +46,7 @@ impl<R: Wait + Drop> Model for JwtDone<R> {
     ghost view = { λ d. left_of d.ended d.supervised };
 
     ghost invariant = { λ d. IfSome d.supervised (λ r.
-        (r.steps ≡ steps_of d.ended.list) × IsRecord r) };
+        (map plain r.steps ≡ steps_of d.ended.list) × IsRecord r) };
 }
 
 impl<R: Wait + Drop> JwtDone<R> {
@@ -54,7 +56,7 @@ impl<R: Wait + Drop> JwtDone<R> {
         requires { pass.old.book ≡ self.past.book }
         ensures record { IfOk result (λ r. self.recorded ≡ Some r) }
         ensures kept { IfOk result IsRecord }
-        ensures settled { IfOk result (λ r. (r.steps ≡ steps_of pass.new.seen)
+        ensures settled { IfOk result (λ r. (map plain r.steps ≡ steps_of pass.new.seen)
             × (is_ended pass.new.seen ≡ true)) }
         ensures book { pass.new.book ≡ pass.old.book }
         ensures seen { IsPrefix pass.old.seen pass.new.seen }
@@ -97,21 +99,19 @@ where
     R: Wait + Drop,
 {
     ghost use Rattle.std.specs.Prelude.{◌≡◌, false, reverse};
-    ghost use Rattle.spf_jwt_feeder.specs.Kept.{rules_of};
-    ghost use Rattle.spf_jwt_feeder.specs.Orderly.{IsSynced};
-    ghost use Rattle.spf_jwt_feeder.specs.Pacing.{KeepsPace};
+    ghost use Rattle.spf_feeder.specs.Orderly.{IsSyncedOf};
+    ghost use Rattle.spf_feeder.specs.Pacing.{KeepsPaceOf};
+    ghost use Rattle.spf_jwt_feeder.specs.Governed.{kind_of};
     ghost use Rattle.spf_jwt_source.specs.Records.{Assigned, assigned};
 
     ghost Value = { Assigned C };
 
     ghost view = { λ j. assigned j.feeder.core.publisher.book j.watch j.feeder.core.run
-        j.feeder.core.settings j.pace.bounds j.feeder.first };
+        j.feeder.core.rules j.pace.bounds j.feeder.first };
 
     ghost invariant = { λ j. (j.feeder.core.stuck ≡ false)
-        × IsSynced (rules_of j.feeder.core.settings)
-        (reverse j.feeder.core.run)
-        × KeepsPace (rules_of j.feeder.core.settings)
-        j.feeder.core.run j.pace };
+        × IsSyncedOf (kind_of j.feeder.core.rules) (reverse j.feeder.core.run)
+        × KeepsPaceOf (kind_of j.feeder.core.rules) j.feeder.core.run j.pace };
 }
 
 /// What is left where a caller closed the source.
@@ -126,19 +126,16 @@ where
     M: JwtMetricsRecorder + Drop,
     R: Wait + Drop,
     requires going { feeder.core.stuck ≡ false }
-    requires synced { IsSynced (rules_of feeder.core.settings)
-        (reverse feeder.core.run) }
-    requires paces { KeepsPace (rules_of feeder.core.settings)
-        feeder.core.run pace }
+    requires synced { IsSyncedOf (kind_of feeder.core.rules) (reverse feeder.core.run) }
+    requires paces { KeepsPaceOf (kind_of feeder.core.rules) feeder.core.run pace }
     requires maker { closed.maker ≡ makers.Caller }
     ensures board { result.past.book ≡ feeder.core.publisher.book }
     ensures recorded { IfSome result.recorded (λ r. (r.run ≡ feeder.core.run)
-        × (r.settings ≡ feeder.core.settings)
-        × (r.pace ≡ pace) × (r.closed ≡ closed)) }
-    ensures yielded { IfSome (C.members feeder.first) (λ m. AllYielded
-        (rules_of feeder.core.settings) m (reverse feeder.core.run)) }
+        × (r.rules ≡ feeder.core.rules) × (r.pace ≡ pace) × (r.closed ≡ closed)) }
+    ensures yielded { IfSome (C.members feeder.first) (λ m. AllYieldedOf
+        (kind_of feeder.core.rules) m (reverse feeder.core.run)) }
 {
-    let JwtSessionParts {
+    let SessionParts {
         publisher,
         events,
         rules,
@@ -161,7 +158,7 @@ where
     ensures board { result.past.book ≡ feeder.core.publisher.book }
     ensures recorded { result.recorded ≡ None }
 {
-    let JwtSessionParts { publisher, .. } = feeder.into_session().into_parts();
+    let SessionParts { publisher, .. } = feeder.into_session().into_parts();
     let (ended, _steps) = publisher.finish();
     JwtDone {
         ended,

@@ -7,15 +7,13 @@ mod handle;
 mod job;
 mod opening;
 mod publishing;
-mod record;
 mod sockets;
 mod source;
 mod task;
 
 pub use builder::{JwtSettings, JwtSourceBuilder};
-pub use handle::{JwtPendingHandle, JwtSupervisorHandle};
+pub use handle::{JwtPendingHandle, JwtSupervised, JwtSupervisorHandle};
 pub use job::{JwtDone, JwtJob};
-pub use record::JwtSupervised;
 pub use source::{JwtSource, JwtSourceUpdates};
 pub use spf_supervisor::SupervisorEnd;
 pub use task::JwtTask;

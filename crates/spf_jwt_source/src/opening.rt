@@ -1,18 +1,17 @@
 //! The parts of building a source.
 
-ghost use Rattle.std.specs.Prelude.{◌≡◌, [], false, Err, IfErr, IfOk, None, Ok, OnOk, Some};
-ghost use Rattle.std.specs.Prelude.{map, reverse, ◌∷◌};
+ghost use Rattle.std.specs.Prelude.{◌≡◌, ◌∷◌, [], false, map, Err, IfErr, IfOk, None, Ok, Some};
+ghost use Rattle.std.specs.Prelude.{reverse};
 ghost use Rattle.spf_view.specs.Steps.{steps_of};
 ghost use Rattle.spf_history.specs.Lists.{steps_of as board_steps};
-ghost use Rattle.spf_jwt_feed.specs.Items.{subject};
 ghost use Rattle.spf_jwt_feed.specs.Steps.{MayFollow, plain};
-ghost use Rattle.spf_jwt_feeder.specs.Kept.{rules_of};
-ghost use Rattle.spf_feeder.specs.Opened.{HasDeadline};
-ghost use Rattle.spf_jwt_feeder.specs.Orderly.{IsOneStep, IsSynced};
-ghost use Rattle.spf_jwt_feeder.specs.Pacing.{KeepsPace};
-ghost use Rattle.spf_feeder.specs.Times.{GivesMoments};
+ghost use Rattle.spf_feeder.specs.Opened.{IsOpened};
+ghost use Rattle.spf_feeder.specs.Orderly.{IsFirstStep, IsSyncedOf};
+ghost use Rattle.spf_feeder.specs.Pacing.{KeepsPaceOf};
+ghost use Rattle.spf_jwt_feeder.specs.Governed.{kind_of};
+ghost use Rattle.spf_jwt_feeder.specs.Orderly.{IsOneStep};
 ghost use Rattle.spf_close.specs.declared.maker.Maker.TheVariants as makers;
-ghost use Rattle.spf_jwt_source.specs.Building.{EndpointFails, IsBuilt, SyncFails, refused_as};
+ghost use Rattle.spf_jwt_source.specs.Building.{IsBuilt, IsSetBy, SyncFails, refused_as};
 ghost use Rattle.spf_jwt_source.specs.Building.{stopped_as};
 ghost use Rattle.spf_jwt_source.specs.Reads.{HasPlaceCause};
 
@@ -24,14 +23,15 @@ use rand_core::Rng;
 use spf_api::{EndpointError, WorkloadApiError};
 use spf_close::{Bell, Cells, Closing, JobCells, SourceCells};
 use spf_feed::Terminal;
-use spf_feeder::Stop;
+use spf_feeder::{Stop, deadline_of, first_moment, open_session};
 use spf_io::OutOfMemory;
 use spf_jwt_board::{Front, Jwt, JwtDesk, JwtPass, JwtPlaces, SharedStep, open};
 use spf_jwt_feed::{JwtMetricsRecorder, JwtSourceError, JwtStep, MemJwtPublisher};
-use spf_jwt_feeder::{JwtFeeder, JwtOpening, open_jwt_feeder};
+use spf_jwt_feeder::{JwtFeeder, JwtRules, JwtSession};
 use spf_link::Connector;
 use spf_pace::Pace;
 use spf_pass::placed;
+use spf_supervisor::make_ready;
 use spf_system::{Clock, Pause, StopFlag};
 use std::alloc::Global;
 use std::mem::drop;
@@ -59,24 +59,6 @@ fn stopped(stop: Stop) -> JwtSourceError
     }
 }
 
-/// Validates the connector, and lets it and the pause heed the stop flag.
-fn make_ready<C: Connector, W: Pause>(
-    connector: &mut C,
-    pause: &mut W,
-    stop: &StopFlag,
-) -> Result<(), JwtSourceError>
-    ensures members { C.members connector.new ≡ C.members connector.old }
-    ensures endpoint { OnOk result (C.validates connector.old ≡ Ok tt) }
-    ensures failed { IfErr result (EndpointFails (C.validates connector.old)) }
-{
-    if let Err(e) = connector.validate() {
-        return Err(refused_endpoint(e));
-    }
-    connector.heed(stop.try_clone()?);
-    pause.heed(stop.try_clone()?);
-    Ok(())
-}
-
 /// Validates the connector, lets it and the pause heed the stop flag, and synchronises. A single
 /// wait takes at most the timeout meanwhile.
 pub(crate) fn synchronised<C, M, T, W, N, R>(
@@ -98,19 +80,12 @@ where
     W: Pause,
     N: Rng,
     R: Wait,
-    ensures limits { IfOk result (λ r. r.0.core.settings.limits ≡ settings.limits) }
-    ensures deadline { IfOk result (λ r. HasDeadline settings.timeout r.0.core.settings.deadline) }
+    ensures rules { IfOk result (λ r. IsSetBy settings r.0.core.rules) }
     ensures bounds { IfOk result (λ r. r.1.bounds ≡ settings.bounds) }
     ensures members { IfOk result (λ r. C.members r.0.first ≡ C.members connector) }
     ensures going { IfOk result (λ r. r.0.core.stuck ≡ false) }
-    ensures synced { IfOk result (λ r. IsSynced
-        (rules_of r.0.core.settings) (reverse r.0.core.run)) }
-    ensures once { IfOk result (λ r. IsOneStep (steps_of (subject
-        (rules_of r.0.core.settings)) r.0.core.run)) }
-    ensures paces { IfOk result (λ r. KeepsPace
-        (rules_of r.0.core.settings) r.0.core.run r.1) }
-    ensures clock { IfOk result (λ r. GivesMoments (T.moments clock.old) (T.moments clock.new) []
-        r.0.core.run) }
+    ensures opened { IfOk result (λ r. IsOpened (kind_of r.0.core.rules) (T.moments clock.old)
+        (T.moments clock.new) r.0.core.run r.1) }
     ensures endpoint { IfOk result (λ _. C.validates connector ≡ Ok tt) }
     ensures failed { IfErr result (SyncFails settings (C.validates connector)) }
 {
@@ -118,21 +93,22 @@ where
     if let Err(e) = make_ready(&mut connector, pause, stop) {
         drop(connector);
         drop(recorder);
-        return Err(e);
+        return Err(refused_endpoint(e));
     }
-    let opening = JwtOpening {
-        limits: settings.limits,
-        bounds: settings.bounds,
-        timeout: settings.timeout,
-    };
     stop.limit(settings.timeout);
-    let opened = open_jwt_feeder(
+    let first = first_moment(rt, clock, pause, settings.bounds);
+    let rules = JwtRules {
+        limits: settings.limits,
+        deadline: deadline_of(first, settings.timeout),
+    };
+    let session = JwtSession::new(alloc, MemJwtPublisher::new(alloc), recorder, rules);
+    let opened = open_session(
         rt,
         alloc,
         connector,
-        MemJwtPublisher::new(alloc),
-        recorder,
-        opening,
+        session,
+        first,
+        settings.bounds,
         random,
         clock,
         pause,
@@ -193,16 +169,15 @@ where
     C::Link: Drop,
     M: JwtMetricsRecorder + Drop,
     R: Wait + Drop,
-    requires once { IsOneStep (steps_of (subject
-        (rules_of feeder.core.settings)) feeder.core.run) }
-    ensures settings { IfOk result (λ r. r.0.core.settings ≡ feeder.core.settings) }
+    requires once { IsFirstStep (kind_of feeder.core.rules) feeder.core.run }
+    ensures rules { IfOk result (λ r. r.0.core.rules ≡ feeder.core.rules) }
     ensures run { IfOk result (λ r. r.0.core.run ≡ feeder.core.run) }
     ensures stuck { IfOk result (λ r. r.0.core.stuck ≡ feeder.core.stuck) }
     ensures first { IfOk result (λ r. r.0.first ≡ feeder.first) }
     ensures board { IfOk result (λ r. (r.0.core.publisher.book ≡ r.1.book)
         × (r.2.book ≡ r.1.book)) }
-    ensures seen { IfOk result (λ r. board_steps r.2.seen ≡ steps_of (subject
-        (rules_of feeder.core.settings)) feeder.core.run) }
+    ensures seen { IfOk result (λ r. board_steps r.2.seen
+        ≡ steps_of (kind_of feeder.core.rules).subject feeder.core.run) }
 {
     let mut steps = Vec::new(alloc);
     let (desk, pass) = match opened(rt, alloc, feeder.session().publisher(), &mut steps) {
@@ -276,13 +251,11 @@ where
     requires one { (cells.source.caller.cell ≡ cells.job.watch)
         × (cells.closing ≡ cells.job.watch) }
     requires going { feeder.core.stuck ≡ false }
-    requires synced { IsSynced (rules_of feeder.core.settings)
-        (reverse feeder.core.run) }
-    requires once { IsOneStep (steps_of (subject
-        (rules_of feeder.core.settings)) feeder.core.run) }
-    requires paces { KeepsPace (rules_of feeder.core.settings) feeder.core.run pace }
+    requires synced { IsSyncedOf (kind_of feeder.core.rules) (reverse feeder.core.run) }
+    requires once { IsFirstStep (kind_of feeder.core.rules) feeder.core.run }
+    requires paces { KeepsPaceOf (kind_of feeder.core.rules) feeder.core.run pace }
     ensures built { IfOk result (λ r. IsBuilt r.0 r.1 r.2 r.3) }
-    ensures job { IfOk result (λ r. (r.3.settings ≡ feeder.core.settings)
+    ensures job { IfOk result (λ r. (r.3.rules ≡ feeder.core.rules)
         × (r.3.run ≡ feeder.core.run)
         × (r.3.bounds ≡ pace.bounds) × (r.3.first ≡ feeder.first)) }
     ensures cause { HasPlaceCause (L.refusals places.old) (L.refusals places.new) result }

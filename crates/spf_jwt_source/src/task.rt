@@ -8,7 +8,7 @@ use rand_core::Rng;
 use spf_close::Watch;
 use spf_jwt_board::{Front, Jwt};
 use spf_jwt_feed::{JwtEvent, JwtMetricsRecorder};
-use spf_jwt_feeder::JwtSessionRules;
+use spf_jwt_feeder::JwtRules;
 use spf_link::Connector;
 use spf_pace::Pace;
 use spf_system::Pause;
@@ -24,7 +24,7 @@ pub struct JwtTask {
     front: Snapshot<Front<Jwt>>,
     watch: Snapshot<Watch>,
     events: Snapshot<Vec<JwtEvent>>,
-    rules: Snapshot<JwtSessionRules>,
+    rules: Snapshot<JwtRules>,
     pace: Snapshot<Pace>,
 }
 

@@ -1,5 +1,5 @@
 -- A source is followed, closed and joined.
-use Rattle.std.proofs.Common.{◌≡◌, refl, subst, ℕ, true, List, Option, None, Some, Result, Ok}
+use Rattle.std.proofs.Common.{◌≡◌, refl, subst, ℕ, true, List, Option, None, Some, Result, Ok, map}
 use Rattle.std.proofs.Common.{Err}
 use Rattle.std.specs.Prelude.{IfSome, IfOk}
 use mathlib.Core.List.{IsPrefix}
@@ -7,9 +7,12 @@ use Rattle.spf_history.specs.Lists.{is_ended, steps_of}
 use Rattle.spf_io.specs.declared.memory.OutOfMemory.{OutOfMemory}
 use Rattle.spf_link.specs.Connecting.{Member}
 use Rattle.spf_x509.specs.Svid.{Svid}
+use Rattle.spf_feed.specs.Steps.{plain}
 use Rattle.spiffe.specs.declared.builder.Settings.{Settings}
 use Rattle.spiffe.specs.Building.{IsAssigned}
 use Rattle.spiffe.specs.Records.{Assigned, IsLeftBy, IsOf, IsRecord, Left, Recorded}
+use Rattle.spf_feeder.specs.Governed.{kind_by}
+use Rattle.spf_supervisor.proofs.Unyielded.{assigned_as}
 use Rattle.spf_options.specs.Live.{LiveSetting}
 use Rattle.spf_live.specs.Printing.{Moments, PrintsTo}
 use Rattle.spf_x509_board.specs.Passes.{Seen}
@@ -27,27 +30,10 @@ unyielded_of : {S K : Type 0} (members : S → Option (List Member)) (picks : K 
     → IsOf (λ connector. None) picks job r
 unyielded_of members picks job r of = record {
   goes_on = of.goes_on;
-  settings = of.settings;
-  picker = of.picker;
+  rules = of.rules;
   bounds = of.bounds;
   yielded = tt;
   cell = of.cell;
-}
-
-unyielded_assigned : {S K : Type 0} (members : S → Option (List Member))
-    (picks : K → List Svid → Option ℕ) (set : Settings K) (connector : S)
-    (clock clock' : Moments) (job : Assigned S K)
-    → IsAssigned members picks set connector clock clock' job
-    → IsAssigned (λ connector. None) picks set connector clock clock' job
-unyielded_assigned members picks set connector clock clock' job is = record {
-  limits = is.limits;
-  ready = is.ready;
-  deadline = is.deadline;
-  picker = is.picker;
-  bounds = is.bounds;
-  members_are = refl;
-  synced = is.synced;
-  clock_is = is.clock_is;
 }
 
 -- all lines are printed, and there is a record
@@ -59,7 +45,7 @@ pub followed_by : {S K : Type 0} (members : S → Option (List Member))
     → PrintsTo seen count clock clock' held held' r → IsPrefix seen last
     → IsLeftBy members picks job left → IfOk record' (λ x. left.recorded ≡ Some x)
     → IfOk record' (IsRecord picks)
-    → IfOk record' (λ x. (x.steps ≡ steps_of last) × (is_ended last ≡ true))
+    → IfOk record' (λ x. (map plain x.steps ≡ steps_of last) × (is_ended last ≡ true))
     → Follows members picks job count clock clock' held held' (Ok tt)
 followed_by {S} {K} members picks job count clock clock' held held' r done seen last record' found
     left is is' prints grows from recorded kept settled =
@@ -69,7 +55,7 @@ followed_by {S} {K} members picks job count clock clock' held held' r done seen 
     IfOk x (λ y. left.recorded ≡ Some y)) is' recorded in
     let keeps = subst (λ (x : Result (Recorded K) OutOfMemory). IfOk x (IsRecord picks)) is' kept in
     let ends = subst (λ (x : Result (Recorded K) OutOfMemory).
-    IfOk x (λ y. (y.steps ≡ steps_of last) × (is_ended last ≡ true))) is' settled in
+    IfOk x (λ y. (map plain y.steps ≡ steps_of last) × (is_ended last ≡ true))) is' settled in
     let of = subst (λ (x : Option (Recorded K)). IfSome x (IsOf members picks job)) has
     from.record_is in record {
       first = so.0;
@@ -87,7 +73,7 @@ pub followed : {S K : Type 0} (members : S → Option (List Member))
     → PrintsTo seen count clock clock' held held' r → IsPrefix seen last
     → IsLeftBy members picks job left → IfOk record' (λ x. left.recorded ≡ Some x)
     → IfOk record' (IsRecord picks)
-    → IfOk record' (λ x. (x.steps ≡ steps_of last) × (is_ended last ≡ true))
+    → IfOk record' (λ x. (map plain x.steps ≡ steps_of last) × (is_ended last ≡ true))
     → Follows (λ connector. None) picks job count clock clock' held held' (Ok tt)
 followed {S} {K} members picks job count clock clock' held held' r done seen last record' found
     left is is' prints grows from recorded kept settled =
@@ -114,7 +100,7 @@ runs_unyielded {S} {K} members picks setting set connector clock between clock' 
     let of_job = subst (λ (j : Assigned S K).
     Follows (λ connector. None) picks j count between clock' held held' r) same follows in
     runs_by (λ connector. None) picks setting set connector clock between clock' held held' job r is
-    (unyielded_assigned members picks set connector clock between job assigned)
+    (assigned_as members (kind_by picks) _ _ connector clock between job job refl assigned)
     (subst (λ (n : ℕ). Follows (λ connector. None) picks job n between clock' held held' r) lines
     of_job)
 

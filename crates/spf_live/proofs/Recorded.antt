@@ -1,5 +1,5 @@
 -- The record of a run.
-use Rattle.std.proofs.Common.{◌≡◌, ap, ◌∙◌, refl, subst, ℕ, false, List, [], ◌∷◌}
+use Rattle.std.proofs.Common.{◌≡◌, ap, ◌∙◌, refl, subst, ℕ, false, List, [], ◌∷◌, map}
 use Rattle.std.proofs.Common.{◌++◌, reverse, Option, None, Some, Result, Ok, Err}
 use Rattle.std.specs.Prelude.{ℤ, IfSome, IfOk}
 use Rattle.std.specs.Option.{option_map}
@@ -8,10 +8,11 @@ use Rattle.spf_history.specs.Lists.{steps_of}
 use Rattle.spf_link.specs.Connecting.{Member}
 use Rattle.spf_x509.specs.Svid.{Svid}
 use Rattle.spf_feed.specs.Items.{Event}
+use Rattle.spf_feed.specs.Steps.{plain}
 use Rattle.spf_feed.specs.declared.event.SessionEvent.TheVariants as events
-use Rattle.spf_feed.specs.declared.turn.SessionRules.{SessionRules}
 use Rattle.spf_feeder.specs.Coming.{AllYielded}
-use Rattle.spf_feeder.specs.Kept.{rules_by}
+use Rattle.spf_feeder.specs.Governed.{rules_by}
+use Rattle.spf_feeder.specs.declared.x509_rules.X509Rules.{X509Rules}
 use Rattle.spf_feeder.specs.Orderly.{GoesOn, has_moment}
 use Rattle.spf_feeder.specs.Times.{GivesMoments, moments_in}
 use Rattle.spf_feeder.proofs.TimeLemmas.{moments_append}
@@ -51,25 +52,27 @@ gives_on (Some a) (Some b) old new on gives =
 
 yielded_by : {K : Type 0} (picks : K → List Svid → Option ℕ) (r : Recorded K)
     (a b : Option (List Member)) → a ≡ b
-    → IfSome a (λ m. AllYielded (rules_by picks r.settings r.picker) m (reverse r.run))
-    → IfSome b (λ m. AllYielded (rules_by picks r.settings r.picker) m (reverse r.run))
+    → IfSome a (λ m. AllYielded (rules_by picks r.rules) m (reverse r.run))
+    → IfSome b (λ m. AllYielded (rules_by picks r.rules) m (reverse r.run))
 yielded_by picks r a b same =
     subst (λ (o : Option (List Member)).
-    IfSome o (λ m. AllYielded (rules_by picks r.settings r.picker) m (reverse r.run))) same
+    IfSome o (λ m. AllYielded (rules_by picks r.rules) m (reverse r.run))) same
 
 record_of : {S K : Type 0} (members : S → Option (List Member)) (picks : K → List Svid → Option ℕ)
     (setting : LiveSetting) (set : Settings K) (connector : S) (clock between : Moments)
     (job : Assigned S K) (last : Seen) (found : Recorded K) → IsSetTo picks setting set
     → IsAssigned members picks set connector clock between job → IsRecord picks found
-    → IsOf members picks job found → found.steps ≡ steps_of last
+    → IsOf members picks job found → map plain found.steps ≡ steps_of last
     → IsRecordOf (members connector) picks setting clock between last found
-record_of members picks setting set connector clock between job last found is assigned kept of
-    steps =
+record_of {K = K} members picks setting set connector clock between job last found is assigned
+    kept of steps =
     record {
       kept = kept;
-      limits = ap (λ (s : SessionRules). s.limits) of.settings ∙ assigned.limits ∙ is.limits;
-      ready = ap (λ (s : SessionRules). s.ready) of.settings ∙ assigned.ready ∙ is.ready;
-      picker = ap (option_map picks) (of.picker ∙ assigned.picker) ∙ is.picker;
+      limits = ap (λ (x : X509Rules K). x.settings.limits) of.rules ∙ assigned.rules.limits
+          ∙ is.limits;
+      ready = ap (λ (x : X509Rules K). x.settings.ready) of.rules ∙ assigned.rules.ready ∙ is.ready;
+      picker = ap (λ (x : X509Rules K). option_map picks x.picker) of.rules
+          ∙ ap (option_map picks) assigned.rules.picker ∙ is.picker;
       moments = gives_on clock between job.run found.run of.goes_on assigned.clock_is;
       yielded = yielded_by picks found (members job.first) (members connector) assigned.members_are
           of.yielded;
@@ -81,7 +84,7 @@ recorded_of : {S K : Type 0} (members : S → Option (List Member)) (picks : K �
     (job : Assigned S K) (last : Seen) (r : Result (Unit {0}) LiveError) → IsSetTo picks setting set
     → IsAssigned members picks set connector clock between job
     → IfOk r (λ _. (found : Recorded K) × IsRecord picks found
-    × IsOf members picks job found × (found.steps ≡ steps_of last))
+    × IsOf members picks job found × (map plain found.steps ≡ steps_of last))
     → IfOk r (λ _. (found : Recorded K)
     × IsRecordOf (members connector) picks setting clock between last found)
 recorded_of members picks setting set connector clock between job last (Err e) is assigned f = tt

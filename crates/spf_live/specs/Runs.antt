@@ -1,5 +1,5 @@
 -- What a live run does, and why it fails.
-use Rattle.std.specs.Prelude.{◌≡◌, ℕ, ◌*◌, List, [], reverse, Option, None}
+use Rattle.std.specs.Prelude.{◌≡◌, ℕ, ◌*◌, List, [], map, reverse, Option, None}
 use Rattle.std.specs.Prelude.{Some, IfSome, Result, Err, IfOk, IfErr}
 use Rattle.std.specs.Duration.{as_nanos}
 use Rattle.std.specs.Option.{option_map}
@@ -9,9 +9,10 @@ use Rattle.spf_history.specs.Lists.{steps_of}
 use Rattle.spf_link.specs.Connecting.{Member}
 use Rattle.spf_x509.specs.Svid.{Svid}
 use Rattle.spf_feed.specs.Pick.{first_with_hint}
+use Rattle.spf_feed.specs.Steps.{plain}
 use Rattle.spf_feed.specs.declared.state.X509SourceError.TheVariants as source
 use Rattle.spf_feeder.specs.Coming.{AllYielded}
-use Rattle.spf_feeder.specs.Kept.{rules_by}
+use Rattle.spf_feeder.specs.Governed.{rules_by}
 use Rattle.spf_feeder.specs.Times.{GivesMoments}
 use Rattle.spiffe.specs.declared.builder.Settings.{Settings}
 use Rattle.spiffe.specs.Building.{SyncFails}
@@ -36,7 +37,7 @@ pub record Follows {S K : Type 0} (members : S → Option (List Member))
   pub last : Seen
   pub prints : Prints first last count clock clock' held held' r
   pub recorded : IfOk r (λ _. (found : Recorded K) × IsRecord picks found
-      × IsOf members picks job found × (found.steps ≡ steps_of last))
+      × IsOf members picks job found × (map plain found.steps ≡ steps_of last))
 
 -- A record of a run by these arguments, whose steps are those of what is seen last: its events are
 -- those that the connector yielded, and its moments those that the clock gave before the lines.
@@ -44,13 +45,13 @@ pub record IsRecordOf {K : Type 0} (members : Option (List Member))
     (picks : K → List Svid → Option ℕ) (setting : LiveSetting) (clock between : Moments)
     (last : Seen) (r : Recorded K) : Type 0 where
   pub kept : IsRecord picks r
-  pub limits : r.settings.limits ≡ setting.limits
-  pub ready : r.settings.ready ≡ setting.ready
-  pub picker : option_map picks r.picker ≡ option_map first_with_hint setting.hint
+  pub limits : r.rules.settings.limits ≡ setting.limits
+  pub ready : r.rules.settings.ready ≡ setting.ready
+  pub picker : option_map picks r.rules.picker ≡ option_map first_with_hint setting.hint
   pub moments : GivesMoments clock between [] r.run
-  pub yielded : IfSome members (λ m. AllYielded (rules_by picks r.settings r.picker) m (reverse
+  pub yielded : IfSome members (λ m. AllYielded (rules_by picks r.rules) m (reverse
       r.run))
-  pub steps_are : r.steps ≡ steps_of last
+  pub steps_are : map plain r.steps ≡ steps_of last
 
 -- Lines are printed, by the clock after the initial synchronisation. Where all went well there is a
 -- record of the run.

@@ -1,3 +1,5 @@
 pub mod Boards
+pub mod Building
 pub mod Connectors
+pub mod Records
 pub mod Shutdowns

@@ -1,6 +1,6 @@
 -- What a builder makes of a source, and why it fails.
-use Rattle.std.specs.Prelude.{◌≡◌, ◌⊎◌, ℕ, ℤ, List, [], Option, None, Some, Result, Ok, Err}
-use Rattle.std.specs.Prelude.{reverse, if◌then◌else◌}
+use Rattle.std.specs.Prelude.{◌≡◌, ◌⊎◌, ℕ, ℤ, List, Option, None, Some, Result, Ok, Err}
+use Rattle.std.specs.Prelude.{if◌then◌else◌}
 use Rattle.std.specs.Duration.{as_nanos}
 use Rattle.std.specs.Option.{option_map}
 use Rattle.spf_api.specs.declared.endpoint_error.EndpointError.{EndpointError}
@@ -9,26 +9,25 @@ use Rattle.spf_io.specs.Outside.{Rose}
 use Rattle.spf_endpoint.specs.Endpoint.{is_memory}
 use Rattle.spf_link.specs.Connecting.{Member}
 use Rattle.spf_pace.specs.Bounds.{IsDefault as HasDefaultBounds}
-use Rattle.spf_view.specs.Steps.{steps_of}
 use Rattle.spf_x509.specs.Svid.{Svid}
 use Rattle.spf_x509_board.specs.Passes.{PassView}
-use Rattle.spf_history.specs.Lists.{steps_of as board_steps}
 use Rattle.spf_feed.specs.Limits.{default_limits}
 use Rattle.spf_feed.specs.declared.ready.Ready.TheVariants as readiness
 use Rattle.spf_feed.specs.declared.state.X509SourceError.{X509SourceError}
 use Rattle.spf_feed.specs.declared.state.X509SourceError.TheVariants as errors
 use Rattle.spf_feed.specs.declared.turn.Terminal.{Terminal}
 use Rattle.spf_feed.specs.declared.turn.Terminal.TheVariants as terminal
-use Rattle.spf_feed.specs.Items.{subject}
 use Rattle.spf_feeder.specs.declared.session.Stop.{Stop}
 use Rattle.spf_feeder.specs.declared.session.Stop.TheVariants as stops
-use Rattle.spf_feeder.specs.Kept.{rules_by}
+use Rattle.spf_feed.specs.Items.{rules_with}
+use Rattle.spf_feeder.specs.declared.x509_rules.X509Rules.{X509Rules}
+use Rattle.spf_feeder.specs.Governed.{kind_by}
+use Rattle.spf_feeder.specs.Kinds.{x509}
 use Rattle.spf_feeder.specs.Opened.{HasDeadline, StopsOpening}
-use Rattle.spf_feeder.specs.Orderly.{IsSynced}
-use Rattle.spf_feeder.specs.Times.{GivesMoments}
 use Rattle.spiffe.specs.declared.builder.Settings.{Settings}
 use Rattle.spiffe.specs.Records.{Assigned}
 use Rattle.spf_pass.specs.Sources.{Source}
+use Rattle.spf_supervisor.specs.Building.{IsAssignedBy, IsBuiltBy}
 
 -- the settings of a builder on which nothing was set
 pub record IsDefault {K : Type 0} (set : Settings K) : Type 0 where
@@ -51,17 +50,23 @@ stopped_as (stops.Terminal terminal.InitialSyncTimeout) = errors.InitialSyncTime
 stopped_as (stops.Terminal terminal.Closed) = errors.OutOfMemory
 stopped_as stops.OutOfMemory = errors.OutOfMemory
 
--- the initial synchronisation may stop with this terminal event
-abbrev pub Stops : {K : Type 0} → (K → List Svid → Option ℕ) → Settings K → Terminal → Type 0
-Stops picks set end =
-    StopsOpening picks set.limits set.timeout set.ready set.picker (stops.Terminal end)
+-- the rules are those of the builder, and the deadline is that of some first moment
+pub record IsSetBy {K : Type 0} (set : Settings K) (rules : X509Rules K) : Type 0 where
+  pub limits : rules.settings.limits ≡ set.limits
+  pub ready : rules.settings.ready ≡ set.ready
+  pub deadline : HasDeadline set.timeout rules.settings.deadline
+  pub picker : rules.picker ≡ set.picker
 
--- why a connector is not ready: its endpoint is invalid, or memory ran out
-abbrev pub EndpointFails : Result (Unit {0}) EndpointError → X509SourceError → Type 0
-EndpointFails valid (errors.Source e) =
-    (x : EndpointError) × (valid ≡ Err x) × (e ≡ api.Endpoint x)
-EndpointFails valid errors.OutOfMemory = Unit {0}
-EndpointFails valid _ = ⊥
+-- the initial synchronisation may stop so
+abbrev pub StopsBy : {K : Type 0} → (K → List Svid → Option ℕ) → Settings K → Stop → Type 0
+StopsBy picks set stop =
+    StopsOpening
+    (λ deadline. x509 (rules_with set.limits deadline set.ready (option_map picks set.picker)))
+    set.timeout stop
+
+-- the same with a terminal event
+abbrev pub Stops : {K : Type 0} → (K → List Svid → Option ℕ) → Settings K → Terminal → Type 0
+Stops picks set end = StopsBy picks set (stops.Terminal end)
 
 -- Why an initial synchronisation gives an error: the endpoint is invalid, a terminal event came by
 -- the connector or the clock before anything was accepted, or memory ran out.
@@ -89,31 +94,16 @@ abbrev pub BuildFails : {K : Type 0} → (K → List Svid → Option ℕ) → Se
 BuildFails picks set valid before now started starts errors.NoSupervisor = Rose started starts
 BuildFails picks set valid before now started starts e = PrepareFails picks set valid before now e
 
--- What an initial synchronisation leaves to a supervisor: the rules are those of the builder, the
--- connector has its meaning, the run is synchronised, and its moments are those that the clock
--- gave.
-pub record IsAssigned {S K : Type 0} (members : S → Option (List Member))
-    (picks : K → List Svid → Option ℕ) (set : Settings K) (connector : S)
-    (clock clock' : Option (List (Option ℤ))) (job : Assigned S K) : Type 0 where
-  pub limits : job.settings.limits ≡ set.limits
-  pub ready : job.settings.ready ≡ set.ready
-  pub deadline : HasDeadline set.timeout job.settings.deadline
-  pub picker : job.picker ≡ set.picker
-  pub bounds : job.bounds ≡ set.bounds
-  pub members_are : members job.first ≡ members connector
-  pub synced : IsSynced (rules_by picks job.settings job.picker) (reverse job.run)
-  pub clock_is : GivesMoments clock clock' [] job.run
+-- what an initial synchronisation leaves to a supervisor
+abbrev pub IsAssigned : {S K : Type 0} → (S → Option (List Member)) → (K → List Svid → Option ℕ)
+    → Settings K → S → Option (List (Option ℤ)) → Option (List (Option ℤ)) → Assigned S K → Type 0
+IsAssigned members picks set connector clock clock' job =
+    IsAssignedBy members (kind_by picks) (IsSetBy set) set.bounds connector clock clock' job
 
--- A source, its first pass, what closes it, and the job of its supervisor: the pass has seen the
--- steps of the initial synchronisation, and all are of one board and one closed cell.
-pub record IsBuilt {S K : Type 0} (picks : K → List Svid → Option ℕ) (source : Source)
-    (pass : PassView) (closing : ℕ) (job : Assigned S K) : Type 0 where
-  pub pass_board : pass.book ≡ source.board
-  pub board : job.board ≡ source.board
-  pub cell : job.cell ≡ source.cell
-  pub closing_cell : closing ≡ source.cell
-  pub seen : board_steps pass.seen
-      ≡ steps_of (subject (rules_by picks job.settings job.picker)) job.run
+-- a source, its first pass, what closes it, and the job of its supervisor
+abbrev pub IsBuilt : {S K : Type 0} → (K → List Svid → Option ℕ) → Source → PassView → ℕ
+    → Assigned S K → Type 0
+IsBuilt picks source pass closing job = IsBuiltBy (kind_by picks) source pass closing job
 
 -- ---- by a builder on which nothing was set
 

@@ -1,9 +1,9 @@
-//! The handle of a supervisor that was started.
+//! The handle of a supervisor that was started, and its record.
 
 use crate::job::{X509Done, X509Job};
-use crate::record::Supervised;
 use rand_core::Rng;
 use spf_feed::{MetricsRecorder, SvidPicker};
+use spf_feeder::X509Rules;
 use spf_io::OutOfMemory;
 use spf_link::Connector;
 use spf_supervisor::Supervises;
@@ -13,6 +13,10 @@ use std::sync::Wait;
 
 /// What the handle of a supervisor needs besides the handle of its started job.
 pub type PendingHandle = spf_supervisor::PendingHandle<X509>;
+
+/// What came to a supervisor, from the first event of the initial synchronisation on, and what it
+/// published.
+pub type Supervised<K> = spf_supervisor::Supervised<X509Rules<K>>;
 
 /// The handle of a started supervisor. It stays with the thread that built the source. Dropping it
 /// leaves the supervisor running.
@@ -30,6 +34,8 @@ where
 {
     type Record = Supervised<K>;
 
+    ghost use Rattle.std.specs.Prelude.{map};
+    ghost use Rattle.spf_feed.specs.Steps.{plain};
     ghost use Rattle.spiffe.specs.Records.{IsOf, IsRecord};
 
     ghost board = { λ job. job.board };
@@ -38,7 +44,7 @@ where
 
     ghost is_record = { IsRecord K.picks };
 
-    ghost steps = { λ r. r.steps };
+    ghost steps = { λ r. map plain r.steps };
 
     fn into_record(done: X509Done<K, R>, pass: &mut Pass) -> Result<Supervised<K>, OutOfMemory> {
         done.into_record(pass)

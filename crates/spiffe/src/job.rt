@@ -1,17 +1,18 @@
 //! What the thread of a supervisor does.
 
-ghost use Rattle.std.specs.Prelude.{◌≡◌, false, true, IfOk, IfSome, None, Some, reverse};
+ghost use Rattle.std.specs.Prelude.{◌≡◌, false, true, IfOk, IfSome, None, Some, map, reverse};
 ghost use mathlib.Core.List.{IsPrefix};
 ghost use Rattle.spf_close.specs.declared.maker.Maker.TheVariants as makers;
-ghost use Rattle.spf_feeder.specs.Coming.{AllYielded};
-ghost use Rattle.spf_feeder.specs.Kept.{rules_by};
-ghost use Rattle.spf_feeder.specs.Orderly.{IsSynced};
-ghost use Rattle.spf_feeder.specs.Pacing.{KeepsPace};
+ghost use Rattle.spf_feed.specs.Steps.{plain};
+ghost use Rattle.spf_feeder.specs.Coming.{AllYieldedOf};
+ghost use Rattle.spf_feeder.specs.Governed.{kind_by};
+ghost use Rattle.spf_feeder.specs.Orderly.{IsSyncedOf};
+ghost use Rattle.spf_feeder.specs.Pacing.{KeepsPaceOf};
 ghost use Rattle.spf_history.specs.Lists.{is_ended, steps_of};
 ghost use Rattle.spiffe.specs.Records.{IsLeftBy, IsRecord, assigned, task_of, unyielded};
 
+use crate::handle::Supervised;
 use crate::publishing::BoardPublisher;
-use crate::record::Supervised;
 use rand_core::Rng;
 use spf_close::{Bell, Closed, Closer, Watch};
 use spf_feed::{MetricsRecorder, SvidPicker};
@@ -34,7 +35,8 @@ pub struct X509Done<K: SvidPicker + Drop, R: Wait + Drop> {
 }
 
 impl<K: SvidPicker + Drop, R: Wait + Drop> Model for X509Done<K, R> {
-    ghost use Rattle.std.specs.Prelude.{◌≡◌, IfSome};
+    ghost use Rattle.std.specs.Prelude.{◌≡◌, IfSome, map};
+    ghost use Rattle.spf_feed.specs.Steps.{plain};
     ghost use Rattle.spf_history.specs.Lists.{steps_of};
     ghost use Rattle.spiffe.specs.Records.{IsRecord, Left, left_of};
 
@@ -43,7 +45,7 @@ impl<K: SvidPicker + Drop, R: Wait + Drop> Model for X509Done<K, R> {
     ghost view = { λ d. left_of d.ended d.supervised };
 
     ghost invariant = { λ d. IfSome d.supervised (λ r.
-        (r.steps ≡ steps_of d.ended.list) × IsRecord K.picks r) };
+        (map plain r.steps ≡ steps_of d.ended.list) × IsRecord K.picks r) };
 }
 
 impl<K: SvidPicker + Drop, R: Wait + Drop> X509Done<K, R> {
@@ -53,7 +55,7 @@ impl<K: SvidPicker + Drop, R: Wait + Drop> X509Done<K, R> {
         requires { pass.old.book ≡ self.past.book }
         ensures record { IfOk result (λ r. self.recorded ≡ Some r) }
         ensures kept { IfOk result (IsRecord K.picks) }
-        ensures settled { IfOk result (λ r. (r.steps ≡ steps_of pass.new.seen)
+        ensures settled { IfOk result (λ r. (map plain r.steps ≡ steps_of pass.new.seen)
             × (is_ended pass.new.seen ≡ true)) }
         ensures book { pass.new.book ≡ pass.old.book }
         ensures seen { IsPrefix pass.old.seen pass.new.seen }
@@ -98,21 +100,19 @@ where
     R: Wait + Drop,
 {
     ghost use Rattle.std.specs.Prelude.{◌≡◌, false, reverse};
-    ghost use Rattle.spf_feeder.specs.Kept.{rules_by};
-    ghost use Rattle.spf_feeder.specs.Orderly.{IsSynced};
-    ghost use Rattle.spf_feeder.specs.Pacing.{KeepsPace};
+    ghost use Rattle.spf_feeder.specs.Governed.{kind_by};
+    ghost use Rattle.spf_feeder.specs.Orderly.{IsSyncedOf};
+    ghost use Rattle.spf_feeder.specs.Pacing.{KeepsPaceOf};
     ghost use Rattle.spiffe.specs.Records.{Assigned, assigned};
 
     ghost Value = { Assigned C K };
 
     ghost view = { λ j. assigned j.feeder.core.publisher.book j.watch j.feeder.core.run
-        j.feeder.core.settings j.feeder.core.picker j.pace.bounds j.feeder.first };
+        j.feeder.core.rules j.pace.bounds j.feeder.first };
 
     ghost invariant = { λ j. (j.feeder.core.stuck ≡ false)
-        × IsSynced (rules_by K.picks j.feeder.core.settings j.feeder.core.picker)
-        (reverse j.feeder.core.run)
-        × KeepsPace (rules_by K.picks j.feeder.core.settings j.feeder.core.picker)
-        j.feeder.core.run j.pace };
+        × IsSyncedOf (kind_by K.picks j.feeder.core.rules) (reverse j.feeder.core.run)
+        × KeepsPaceOf (kind_by K.picks j.feeder.core.rules) j.feeder.core.run j.pace };
 }
 
 /// What is left where a caller closed the source.
@@ -128,26 +128,22 @@ where
     M: MetricsRecorder + Drop,
     R: Wait + Drop,
     requires going { feeder.core.stuck ≡ false }
-    requires synced { IsSynced (rules_by K.picks feeder.core.settings feeder.core.picker)
-        (reverse feeder.core.run) }
-    requires paces { KeepsPace (rules_by K.picks feeder.core.settings feeder.core.picker)
-        feeder.core.run pace }
+    requires synced { IsSyncedOf (kind_by K.picks feeder.core.rules) (reverse feeder.core.run) }
+    requires paces { KeepsPaceOf (kind_by K.picks feeder.core.rules) feeder.core.run pace }
     requires maker { closed.maker ≡ makers.Caller }
     ensures board { result.past.book ≡ feeder.core.publisher.book }
     ensures recorded { IfSome result.recorded (λ r. (r.run ≡ feeder.core.run)
-        × (r.settings ≡ feeder.core.settings) × (r.picker ≡ feeder.core.picker)
-        × (r.pace ≡ pace) × (r.closed ≡ closed)) }
-    ensures yielded { IfSome (C.members feeder.first) (λ m. AllYielded
-        (rules_by K.picks feeder.core.settings feeder.core.picker) m (reverse feeder.core.run)) }
+        × (r.rules ≡ feeder.core.rules) × (r.pace ≡ pace) × (r.closed ≡ closed)) }
+    ensures yielded { IfSome (C.members feeder.first) (λ m. AllYieldedOf
+        (kind_by K.picks feeder.core.rules) m (reverse feeder.core.run)) }
 {
     let SessionParts {
         publisher,
         events,
         rules,
-        picker,
     } = feeder.into_session().into_parts();
     let (ended, steps) = publisher.finish();
-    let record = Supervised::new(events, steps, rules, picker, pace, closed);
+    let record = Supervised::new(events, steps, rules, pace, closed);
     X509Done {
         ended,
         supervised: Some(record),

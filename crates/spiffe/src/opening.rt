@@ -1,20 +1,17 @@
 //! The parts of building a source.
 
-ghost use Rattle.std.specs.Prelude.{◌≡◌, [], false, Err, IfErr, IfOk, None, Ok, OnOk, Some};
-ghost use Rattle.std.specs.Prelude.{map, reverse, ◌∷◌};
+ghost use Rattle.std.specs.Prelude.{◌≡◌, ◌∷◌, [], false, map, Err, IfErr, IfOk, None, Ok, Some};
+ghost use Rattle.std.specs.Prelude.{reverse};
 ghost use Rattle.std.specs.Option.{ForSome};
 ghost use Rattle.spf_view.specs.Steps.{steps_of};
 ghost use Rattle.spf_history.specs.Lists.{steps_of as board_steps};
-ghost use Rattle.spf_feed.specs.Items.{subject};
 ghost use Rattle.spf_feed.specs.Steps.{MayFollow, plain};
-ghost use Rattle.spf_feeder.specs.Kept.{rules_by};
-ghost use Rattle.spf_feeder.specs.Opened.{HasDeadline};
-ghost use Rattle.spf_feeder.specs.Orderly.{IsOneStep, IsSynced};
-ghost use Rattle.spf_feeder.specs.Pacing.{KeepsPace};
-ghost use Rattle.spf_feeder.specs.Times.{GivesMoments};
+ghost use Rattle.spf_feeder.specs.Governed.{kind_by};
+ghost use Rattle.spf_feeder.specs.Opened.{IsOpened};
+ghost use Rattle.spf_feeder.specs.Orderly.{IsFirstStep, IsOneStep, IsSyncedOf};
+ghost use Rattle.spf_feeder.specs.Pacing.{KeepsPaceOf};
 ghost use Rattle.spf_close.specs.declared.maker.Maker.TheVariants as makers;
-ghost use Rattle.spiffe.specs.Building.{EndpointFails, IsBuilt, SyncFails, refused_as};
-ghost use Rattle.spiffe.specs.Building.{stopped_as};
+ghost use Rattle.spiffe.specs.Building.{IsBuilt, IsSetBy, SyncFails, refused_as, stopped_as};
 ghost use Rattle.spiffe.specs.Reads.{HasPlaceCause};
 
 use crate::builder::Settings;
@@ -25,13 +22,15 @@ use rand_core::Rng;
 use spf_api::{EndpointError, WorkloadApiError};
 use spf_close::{Bell, Cells, Closing, JobCells, SourceCells};
 use spf_feed::{
-    MemPublisher, MetricsRecorder, Prepared, Step, SvidPicker, Terminal, X509SourceError,
+    MemPublisher, MetricsRecorder, Prepared, SessionRules, Step, SvidPicker, Terminal,
+    X509SourceError,
 };
-use spf_feeder::{Feeder, Opening, Stop, open_feeder};
+use spf_feeder::{Feeder, Stop, X509Rules, X509Session, deadline_of, first_moment, open_session};
 use spf_io::OutOfMemory;
 use spf_link::Connector;
 use spf_pace::Pace;
 use spf_pass::placed;
+use spf_supervisor::make_ready;
 use spf_system::{Clock, Pause, StopFlag};
 use spf_x509_board::{Desk, Front, Pass, Places, X509, open};
 use std::alloc::Global;
@@ -60,24 +59,6 @@ fn stopped(stop: Stop) -> X509SourceError
     }
 }
 
-/// Validates the connector, and lets it and the pause heed the stop flag.
-fn make_ready<C: Connector, W: Pause>(
-    connector: &mut C,
-    pause: &mut W,
-    stop: &StopFlag,
-) -> Result<(), X509SourceError>
-    ensures members { C.members connector.new ≡ C.members connector.old }
-    ensures endpoint { OnOk result (C.validates connector.old ≡ Ok tt) }
-    ensures failed { IfErr result (EndpointFails (C.validates connector.old)) }
-{
-    if let Err(e) = connector.validate() {
-        return Err(refused_endpoint(e));
-    }
-    connector.heed(stop.try_clone()?);
-    pause.heed(stop.try_clone()?);
-    Ok(())
-}
-
 /// Validates the connector, lets it and the pause heed the stop flag, and synchronises. A single
 /// wait takes at most the timeout meanwhile.
 pub(crate) fn synchronised<C, P, M, T, W, N, R>(
@@ -101,21 +82,12 @@ where
     N: Rng,
     R: Wait,
     requires picker { ForSome settings.picker P.can_pick }
-    ensures limits { IfOk result (λ r. r.0.core.settings.limits ≡ settings.limits) }
-    ensures ready { IfOk result (λ r. r.0.core.settings.ready ≡ settings.ready) }
-    ensures deadline { IfOk result (λ r. HasDeadline settings.timeout r.0.core.settings.deadline) }
-    ensures picker { IfOk result (λ r. r.0.core.picker ≡ settings.picker) }
+    ensures rules { IfOk result (λ r. IsSetBy settings r.0.core.rules) }
     ensures bounds { IfOk result (λ r. r.1.bounds ≡ settings.bounds) }
     ensures members { IfOk result (λ r. C.members r.0.first ≡ C.members connector) }
     ensures going { IfOk result (λ r. r.0.core.stuck ≡ false) }
-    ensures synced { IfOk result (λ r. IsSynced
-        (rules_by P.picks r.0.core.settings r.0.core.picker) (reverse r.0.core.run)) }
-    ensures once { IfOk result (λ r. IsOneStep (steps_of (subject
-        (rules_by P.picks r.0.core.settings r.0.core.picker)) r.0.core.run)) }
-    ensures paces { IfOk result (λ r. KeepsPace
-        (rules_by P.picks r.0.core.settings r.0.core.picker) r.0.core.run r.1) }
-    ensures clock { IfOk result (λ r. GivesMoments (T.moments clock.old) (T.moments clock.new) []
-        r.0.core.run) }
+    ensures opened { IfOk result (λ r. IsOpened (kind_by P.picks r.0.core.rules)
+        (T.moments clock.old) (T.moments clock.new) r.0.core.run r.1) }
     ensures endpoint { IfOk result (λ _. C.validates connector ≡ Ok tt) }
     ensures failed { IfErr result (SyncFails P.picks settings (C.validates connector)) }
 {
@@ -124,23 +96,26 @@ where
         drop(connector);
         drop(recorder);
         drop(settings);
-        return Err(e);
+        return Err(refused_endpoint(e));
     }
-    let opening = Opening {
-        limits: settings.limits,
-        ready: settings.ready,
-        bounds: settings.bounds,
-        timeout: settings.timeout,
-    };
     stop.limit(settings.timeout);
-    let opened = open_feeder(
+    let first = first_moment(rt, clock, pause, settings.bounds);
+    let rules = X509Rules {
+        settings: SessionRules {
+            limits: settings.limits,
+            deadline: deadline_of(first, settings.timeout),
+            ready: settings.ready,
+        },
+        picker: settings.picker,
+    };
+    let session = X509Session::new(alloc, MemPublisher::new(alloc), recorder, rules);
+    let opened = open_session(
         rt,
         alloc,
         connector,
-        MemPublisher::new(alloc),
-        recorder,
-        settings.picker,
-        opening,
+        session,
+        first,
+        settings.bounds,
         random,
         clock,
         pause,
@@ -203,17 +178,15 @@ where
     P: SvidPicker + Drop,
     M: MetricsRecorder + Drop,
     R: Wait + Drop,
-    requires once { IsOneStep (steps_of (subject
-        (rules_by P.picks feeder.core.settings feeder.core.picker)) feeder.core.run) }
-    ensures settings { IfOk result (λ r. r.0.core.settings ≡ feeder.core.settings) }
-    ensures picker { IfOk result (λ r. r.0.core.picker ≡ feeder.core.picker) }
+    requires once { IsFirstStep (kind_by P.picks feeder.core.rules) feeder.core.run }
+    ensures rules { IfOk result (λ r. r.0.core.rules ≡ feeder.core.rules) }
     ensures run { IfOk result (λ r. r.0.core.run ≡ feeder.core.run) }
     ensures stuck { IfOk result (λ r. r.0.core.stuck ≡ feeder.core.stuck) }
     ensures first { IfOk result (λ r. r.0.first ≡ feeder.first) }
     ensures board { IfOk result (λ r. (r.0.core.publisher.book ≡ r.1.book)
         × (r.2.book ≡ r.1.book)) }
-    ensures seen { IfOk result (λ r. board_steps r.2.seen ≡ steps_of (subject
-        (rules_by P.picks feeder.core.settings feeder.core.picker)) feeder.core.run) }
+    ensures seen { IfOk result (λ r. board_steps r.2.seen
+        ≡ steps_of (kind_by P.picks feeder.core.rules).subject feeder.core.run) }
 {
     let mut steps = Vec::new(alloc);
     let (desk, pass) = match opened(rt, alloc, feeder.session().publisher(), &mut steps) {
@@ -288,15 +261,12 @@ where
     requires one { (cells.source.caller.cell ≡ cells.job.watch)
         × (cells.closing ≡ cells.job.watch) }
     requires going { feeder.core.stuck ≡ false }
-    requires synced { IsSynced (rules_by P.picks feeder.core.settings feeder.core.picker)
-        (reverse feeder.core.run) }
-    requires once { IsOneStep (steps_of (subject
-        (rules_by P.picks feeder.core.settings feeder.core.picker)) feeder.core.run) }
-    requires paces { KeepsPace (rules_by P.picks feeder.core.settings feeder.core.picker)
-        feeder.core.run pace }
+    requires synced { IsSyncedOf (kind_by P.picks feeder.core.rules) (reverse feeder.core.run) }
+    requires once { IsFirstStep (kind_by P.picks feeder.core.rules) feeder.core.run }
+    requires paces { KeepsPaceOf (kind_by P.picks feeder.core.rules) feeder.core.run pace }
     ensures built { IfOk result (λ r. IsBuilt P.picks r.0 r.1 r.2 r.3) }
-    ensures job { IfOk result (λ r. (r.3.settings ≡ feeder.core.settings)
-        × (r.3.picker ≡ feeder.core.picker) × (r.3.run ≡ feeder.core.run)
+    ensures job { IfOk result (λ r. (r.3.rules ≡ feeder.core.rules)
+        × (r.3.run ≡ feeder.core.run)
         × (r.3.bounds ≡ pace.bounds) × (r.3.first ≡ feeder.first)) }
     ensures cause { HasPlaceCause (L.refusals places.old) (L.refusals places.new) result }
 {

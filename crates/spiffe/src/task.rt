@@ -6,7 +6,8 @@ ghost use Rattle.spiffe.specs.Records.{task_of};
 use crate::job::{X509Done, X509Job};
 use rand_core::Rng;
 use spf_close::Watch;
-use spf_feed::{Event, MetricsRecorder, SessionRules, SvidPicker};
+use spf_feed::{Event, MetricsRecorder, SvidPicker};
+use spf_feeder::X509Rules;
 use spf_link::Connector;
 use spf_pace::Pace;
 use spf_system::Pause;
@@ -23,8 +24,7 @@ pub struct Task<K: SvidPicker + Drop> {
     front: Snapshot<Front<X509>>,
     watch: Snapshot<Watch>,
     events: Snapshot<Vec<Event>>,
-    rules: Snapshot<SessionRules>,
-    picker: Snapshot<Option<K>>,
+    rules: Snapshot<X509Rules<K>>,
     pace: Snapshot<Pace>,
 }
 
@@ -34,7 +34,7 @@ impl<K: SvidPicker + Drop> Model for Task<K> {
     ghost Value = { Assigned (Unit {0}) K };
 
     ghost view = { λ t. assigned t.front.value.book t.watch.value t.events.value.items
-        t.rules.value t.picker.value t.pace.value.bounds tt };
+        t.rules.value t.pace.value.bounds tt };
 }
 
 impl<K: SvidPicker + Drop, R: Wait + Drop> Promise<X509Done<K, R>> for Task<K> {
@@ -58,13 +58,11 @@ where
         ensures { result ≡ task_of self.now }
     {
         let front = self.feeder.session().publisher().front();
-        let rules = self.feeder.session().rules();
         Task {
             front: Snapshot::of(&front),
             watch: Snapshot::of(&self.watch),
             events: self.feeder.noted_events(),
-            rules: Snapshot::of(&rules),
-            picker: Snapshot::of(self.feeder.session().picker()),
+            rules: Snapshot::of(self.feeder.session().rules()),
             pace: Snapshot::of(&self.pace),
         }
     }

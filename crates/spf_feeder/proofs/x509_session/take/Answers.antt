@@ -3,13 +3,13 @@ use Rattle.spf_feed.specs.Items.{Rules}
 use Rattle.spf_feed.specs.declared.record.MetricsRecord.TheVariants as x509_records
 use Rattle.spf_feed.specs.Steps.{same_material}
 use Rattle.spf_feed.specs.Turns.{listed}
-use Rattle.spf_feeder.specs.Kept.{rules_by}
+use Rattle.spf_feeder.specs.Governed.{rules_by}
 use Rattle.spf_feeder.proofs.RunLemmas.{advanced_by, refused_by, unpublished}
 use Rattle.spf_feeder.proofs.x509_session.take.Goals as goal
 
 pub returns-clause-takes : goal.returns-clause-takes
 returns-clause-takes g c = λ run published going.
-    let rule : Rules = rules_by g.K.SvidPicker.picks c.args.rules c.args.picker.now in
+    let rule : Rules = rules_by g.K.SvidPicker.picks c.args.rules.now in
     advanced_by rule run c.args.event.now c.is_some.result c.args.place.now _ c.args.snapshot.now
     c.publish_turn.new.snapshot _ _ c.in_ok-records.records c.is_some.ensures
     c.in_ok-turn.ensures.foresees c.in_ok-records.ensures.published c.in_ok-records.ensures.synced
@@ -22,7 +22,7 @@ returns-in_err-turn-clause-takes g c = λ run published going.
 
 pub returns-in_err-records-clause-takes : goal.returns-in_err-records-clause-takes
 returns-in_err-records-clause-takes g c = λ run published going.
-    let rule : Rules = rules_by g.K.SvidPicker.picks c.args.rules c.args.picker.now in
+    let rule : Rules = rules_by g.K.SvidPicker.picks c.args.rules.now in
     let p = err_from_is_err_and c.from_residual-in_err-records.result
     c.from_residual-in_err-records.ensures.1 in
     rw (p.1, p.2)
@@ -35,5 +35,5 @@ returns-in_err-records-clause-refused g c =
     let p = err_from_is_err_and c.from_residual-in_err-records.result
     c.from_residual-in_err-records.ensures.1 in
     rw p.1
-    (unpublished same_material x509_records.Update listed c.args.rules.limits _ c.args.snapshot.now
+    (unpublished same_material x509_records.Update listed c.args.rules.now.settings.limits _ c.args.snapshot.now
     c.publish_turn.new.snapshot _ _ _ c.in_err-records.ensures.published)

@@ -2,7 +2,7 @@ use Rattle.std.proofs.Common.{subst}
 use Rattle.spf_feeder.proofs.RunLemmas.{leaves_by}
 use Rattle.spf_jwt_feed.specs.Items.{Rules}
 use Rattle.spf_jwt_feed.specs.Received.{received_ask}
-use Rattle.spf_jwt_feeder.specs.Kept.{rules_of}
+use Rattle.spf_jwt_feeder.specs.Governed.{rules_of}
 use Rattle.spf_jwt_feeder.proofs.RunLemmas.{TurnOf}
 use Rattle.spf_jwt_feeder.proofs.session.foresee.Goals as goal
 
@@ -15,5 +15,5 @@ returns-clause-foresees c =
       leaves = leaves_by c.args.event.now c.in_ok-received.received _
           (received_ask c.args.place.phase c.args.synced) _ _ _ _ _ c.in-Ok.end _ received
           c.phase_after-phase.ensures c.is_accepted-is_accepted.ensures c.gave_after.ensures
-          c.in-Ok.ensures c.unless.ensures;
+          c.in-Ok.ensures c.unless_accepted.ensures;
     }

@@ -3,7 +3,7 @@ use Rattle.spf_jwt_feed.specs.Items.{Rules}
 use Rattle.spf_jwt.specs.Bundle.{set_eq}
 use Rattle.spf_jwt_feed.specs.declared.record.JwtMetricsRecord.TheVariants as jwt_records
 use Rattle.spf_jwt_feed.specs.Turns.{listed}
-use Rattle.spf_jwt_feeder.specs.Kept.{rules_of}
+use Rattle.spf_jwt_feeder.specs.Governed.{rules_of}
 use Rattle.spf_feeder.proofs.RunLemmas.{unpublished}
 use Rattle.spf_jwt_feeder.proofs.RunLemmas.{advanced_by, refused_by}
 use Rattle.spf_jwt_feeder.proofs.session.take.Goals as goal

@@ -3,7 +3,8 @@ use Rattle.std.proofs.Common.{true, reverse}
 use Rattle.std.specs.Prelude.{◌||◌}
 use Rattle.spf_feed.specs.Items.{Event, Rules, context_in, subject}
 use Rattle.spf_feed.specs.Run.{ask_of, stream}
-use Rattle.spf_feeder.specs.Kept.{Published, progress, rules_by}
+use Rattle.spf_feeder.specs.Kept.{Published, progress}
+use Rattle.spf_feeder.specs.Governed.{rules_by}
 use Rattle.spf_feeder.specs.Kinds.{x509}
 use Rattle.spf_feeder.specs.Orderly.{IsOrderly, IsOrderlyOf, does_answer, is_moment}
 use Rattle.spf_feeder.proofs.OrderLemmas.{orderly_more}
@@ -14,16 +15,16 @@ use Rattle.spf_feeder.proofs.x509_session.X509SessionSession.advance.Goals as go
 pub returns-in-Err-clause-published : goal.returns-in-Err-clause-published
 returns-in-Err-clause-published g c =
     let before = c.self.inside in
-    let rule : Rules = rules_by g.K.SvidPicker.picks before.rules before.picker in
+    let rule : Rules = rules_by g.K.SvidPicker.picks before.rules in
     published_still (subject rule) before.events.items _ _ _ c.reserve.ensures.items
     c.in-Err.ensures.refused c.self.invariant.1
 
 pub returns-in-Err-clause-advances : goal.returns-in-Err-clause-advances
 returns-in-Err-clause-advances g c =
     let before = c.self.inside in
-    let rule : Rules = rules_by g.K.SvidPicker.picks before.rules before.picker in
+    let rule : Rules = rules_by g.K.SvidPicker.picks before.rules in
     let going = ap (λ core. core.stuck) c.self.view_is ∙ c.requires.going in
-    stopped_of (λ core. x509 (rules_by g.K.SvidPicker.picks core.settings core.picker))
+    stopped_of (λ core. x509 (rules_by g.K.SvidPicker.picks core.rules))
     progress g.M.MetricsRecorder.records _ _ _ _ _ c.self.view_is
     (c.in-Err.ensures.takes before.events.items c.self.invariant.1
     (c.self.invariant.2 going)) c.reserve.ensures.items refl
@@ -31,7 +32,7 @@ returns-in-Err-clause-advances g c =
 pub invariant_of-self-in-Err : goal.invariant_of-self-in-Err
 invariant_of-self-in-Err g c =
     let before = c.self.inside in
-    let rule : Rules = rules_by g.K.SvidPicker.picks before.rules before.picker in (
+    let rule : Rules = rules_by g.K.SvidPicker.picks before.rules in (
       c.self.invariant.0,
       published_still (subject rule) before.events.items _ _ _ c.reserve.ensures.items
           c.in-Err.ensures.refused c.self.invariant.1,
@@ -43,7 +44,7 @@ invariant_of-self-in-Err g c =
 pub returns-in_err-record_all-clause-published : goal.returns-in_err-record_all-clause-published
 returns-in_err-record_all-clause-published g c =
     let before = c.self.inside in
-    let rule : Rules = rules_by g.K.SvidPicker.picks before.rules before.picker in
+    let rule : Rules = rules_by g.K.SvidPicker.picks before.rules in
     let items : c.push_reserved.new.self.items ≡ before.events.items ++ c.args.event ∷ [] =
     pushed before.events.items _ _ c.args.event c.push_reserved.ensures.items
     c.reserve.ensures.items in
@@ -57,7 +58,7 @@ pub invariant_of-self-in_err-record_all : goal.invariant_of-self-in_err-record_a
 unfolding IsOrderlyOf
 invariant_of-self-in_err-record_all g c =
     let before = c.self.inside in
-    let rule : Rules = rules_by g.K.SvidPicker.picks before.rules before.picker in
+    let rule : Rules = rules_by g.K.SvidPicker.picks before.rules in
     let items : c.push_reserved.new.self.items ≡ before.events.items ++ c.args.event ∷ [] =
     pushed before.events.items _ _ c.args.event c.push_reserved.ensures.items
     c.reserve.ensures.items in
@@ -73,7 +74,7 @@ invariant_of-self-in_err-record_all g c =
           c.args.event
           (subst (λ core.
           (is_moment c.args.event || does_answer (ask_of context_in
-          (rules_by g.K.SvidPicker.picks core.settings core.picker) (reverse core.run))
+          (rules_by g.K.SvidPicker.picks core.rules) (reverse core.run))
           c.args.event) ≡ true) (sym c.self.view_is) c.requires.fits)
           done.none c.self.invariant.3),
     )
@@ -81,7 +82,7 @@ invariant_of-self-in_err-record_all g c =
 pub returns-clause-published : goal.returns-clause-published
 returns-clause-published g c =
     let before = c.self.inside in
-    let rule : Rules = rules_by g.K.SvidPicker.picks before.rules before.picker in
+    let rule : Rules = rules_by g.K.SvidPicker.picks before.rules in
     let items : c.push_reserved.new.self.items ≡ before.events.items ++ c.args.event ∷ [] =
     pushed before.events.items _ _ c.args.event c.push_reserved.ensures.items
     c.reserve.ensures.items in
@@ -95,7 +96,7 @@ pub invariant_of-self-2 : goal.invariant_of-self-2
 unfolding IsOrderlyOf
 invariant_of-self-2 g c =
     let before = c.self.inside in
-    let rule : Rules = rules_by g.K.SvidPicker.picks before.rules before.picker in
+    let rule : Rules = rules_by g.K.SvidPicker.picks before.rules in
     let items : c.push_reserved.new.self.items ≡ before.events.items ++ c.args.event ∷ [] =
     pushed before.events.items _ _ c.args.event c.push_reserved.ensures.items
     c.reserve.ensures.items in
@@ -111,7 +112,7 @@ invariant_of-self-2 g c =
           c.args.event
           (subst (λ core.
           (is_moment c.args.event || does_answer (ask_of context_in
-          (rules_by g.K.SvidPicker.picks core.settings core.picker) (reverse core.run))
+          (rules_by g.K.SvidPicker.picks core.rules) (reverse core.run))
           c.args.event) ≡ true) (sym c.self.view_is) c.requires.fits)
           done.none c.self.invariant.3),
     )
@@ -119,12 +120,12 @@ invariant_of-self-2 g c =
 pub returns-clause-advances : goal.returns-clause-advances
 returns-clause-advances g c =
     let before = c.self.inside in
-    let rule : Rules = rules_by g.K.SvidPicker.picks before.rules before.picker in
+    let rule : Rules = rules_by g.K.SvidPicker.picks before.rules in
     let items : c.push_reserved.new.self.items ≡ before.events.items ++ c.args.event ∷ [] =
     pushed before.events.items _ _ c.args.event c.push_reserved.ensures.items
     c.reserve.ensures.items in
     let going = ap (λ core. core.stuck) c.self.view_is ∙ c.requires.going in
-    advanced_of (λ core. x509 (rules_by g.K.SvidPicker.picks core.settings core.picker))
+    advanced_of (λ core. x509 (rules_by g.K.SvidPicker.picks core.rules))
     progress g.M.MetricsRecorder.records _ _ _ _ _ _ _ _ c.self.view_is
     (c.in-Ok.ensures.takes before.events.items c.self.invariant.1
     (c.self.invariant.2 going)) items refl c.in_ok-record_all.ensures

@@ -5,7 +5,9 @@ use Rattle.spf_jwt_feed.specs.Items.{Event, Rules, item_in, subject}
 use Rattle.spf_jwt_feed.specs.Run.{ask_of, stream}
 use Rattle.spf_feeder.specs.Orderly.{IsOrderlyOf, does_answer, is_moment}
 use Rattle.spf_feeder.proofs.OrderLemmas.{orderly_more}
-use Rattle.spf_jwt_feeder.specs.Kept.{Published, progress, rules_of}
+use Rattle.spf_feeder.specs.Kept.{progress}
+use Rattle.spf_jwt_feeder.specs.Governed.{rules_of}
+use Rattle.spf_jwt_feeder.specs.Kept.{Published}
 use Rattle.spf_jwt_feeder.specs.Kinds.{jwt}
 use Rattle.spf_jwt_feeder.specs.Orderly.{IsOrderly}
 use Rattle.spf_feeder.proofs.RunLemmas.{advanced_of, published_still, pushed, stopped_of}
@@ -24,7 +26,7 @@ returns-in-Err-clause-advances g c =
     let before = c.self.inside in
     let rule : Rules = rules_of before.rules in
     let going = ap (λ core. core.stuck) c.self.view_is ∙ c.requires.going in
-    stopped_of (λ core. jwt (rules_of core.settings)) progress g.M.JwtMetricsRecorder.records _ _
+    stopped_of (λ core. jwt (rules_of core.rules)) progress g.M.JwtMetricsRecorder.records _ _
     _ _ _ c.self.view_is
     (c.in-Err.ensures.takes before.events.items c.self.invariant.0
     (c.self.invariant.1 going)) c.reserve.ensures.items refl
@@ -72,7 +74,7 @@ invariant_of-self-in_err-record_all g c =
           c.args.event
           (subst (λ core.
           (is_moment c.args.event || does_answer (ask_of item_in
-          (rules_of core.settings) (reverse core.run))
+          (rules_of core.rules) (reverse core.run))
           c.args.event) ≡ true) (sym c.self.view_is) c.requires.fits)
           done.none c.self.invariant.2),
     )
@@ -109,7 +111,7 @@ invariant_of-self-2 g c =
           c.args.event
           (subst (λ core.
           (is_moment c.args.event || does_answer (ask_of item_in
-          (rules_of core.settings) (reverse core.run))
+          (rules_of core.rules) (reverse core.run))
           c.args.event) ≡ true) (sym c.self.view_is) c.requires.fits)
           done.none c.self.invariant.2),
     )
@@ -122,7 +124,7 @@ returns-clause-advances g c =
     pushed before.events.items _ _ c.args.event c.push_reserved.ensures.items
     c.reserve.ensures.items in
     let going = ap (λ core. core.stuck) c.self.view_is ∙ c.requires.going in
-    advanced_of (λ core. jwt (rules_of core.settings)) progress g.M.JwtMetricsRecorder.records _ _
+    advanced_of (λ core. jwt (rules_of core.rules)) progress g.M.JwtMetricsRecorder.records _ _
     _ _ _ _ _ _ c.self.view_is
     (c.in-Ok.ensures.takes before.events.items c.self.invariant.0
     (c.self.invariant.1 going)) items refl c.in_ok-record_all.ensures

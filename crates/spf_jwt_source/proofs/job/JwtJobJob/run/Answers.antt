@@ -1,26 +1,34 @@
 use Rattle.std.proofs.Common.{Option, ap, ◌∙◌, sym, subst, reverse}
 use Rattle.std.specs.Prelude.{IfSome}
-use Rattle.spf_jwt_feed.specs.Items.{Rules}
-use Rattle.spf_jwt_feeder.specs.Kept.{Given, rules_of}
-use Rattle.spf_jwt_feeder.specs.Kinds.{jwt}
+use Rattle.spf_jwt_feeder.specs.Governed.{kind_of, rules_of}
+use Rattle.spf_feeder.specs.Kept.{Given}
 use Rattle.spf_jwt_feeder.specs.Laws.{lawful}
-use Rattle.spf_feeder.specs.Orderly.{GoesOn}
-use Rattle.spf_jwt_feeder.specs.Orderly.{IsSynced}
+use Rattle.spf_feeder.specs.Orderly.{GoesOn, IsSyncedOf}
+use Rattle.spf_feeder.specs.Pacing.{KeepsPaceOf}
+use Rattle.spf_jwt_feeder.specs.declared.rules.JwtRules.{JwtRules}
 use Rattle.spf_feeder.proofs.FeedLemmas.{synced_after}
 use Rattle.spf_supervisor.proofs.Leaving.{same_board}
+use Rattle.spf_supervisor.proofs.Recording.{recorded_of_job}
 use Rattle.spf_jwt_source.specs.Records.{Assigned, IsOf, Left, Recorded}
-use Rattle.spf_jwt_source.proofs.Recording.{recorded_of_job}
 use Rattle.spf_jwt_source.proofs.job.JwtJobJob.run.Goals.{in-Some, in-None}
 use Rattle.spf_jwt_source.proofs.job.JwtJobJob.run.Goals as goal
 
 pub recorded-done-requires-clause-synced : goal.recorded-done-requires-clause-synced
 recorded-done-requires-clause-synced g c =
     let core = c.self.inside.feeder.core in
-    let rule : Rules = rules_of core.settings in
     let went = c.supervise-closed.ensures in
     let run = c.supervise-closed.new.feeder.core.run in
-    subst (λ (about : Given). IsSynced (rules_of about.settings) (reverse run)) (sym went.given)
-    (synced_after (jwt rule) (lawful rule) core.run run went.goes_on c.self.invariant.1)
+    subst (λ (about : Given JwtRules).
+    IsSyncedOf (kind_of about.rules) (reverse run)) (sym went.given)
+    (synced_after (kind_of core.rules) (lawful (rules_of core.rules)) core.run run
+    went.goes_on c.self.invariant.1)
+
+pub recorded-done-requires-clause-paces : goal.recorded-done-requires-clause-paces
+recorded-done-requires-clause-paces g c =
+    let run = c.supervise-closed.new.feeder.core.run in
+    subst (λ (about : Given JwtRules).
+    KeepsPaceOf (kind_of about.rules) run c.supervise-closed.new.pace)
+    (sym c.supervise-closed.ensures.given) c.in-Some.ensures.closed.3
 
 pub returns-clause-left : goal.returns-clause-left
 returns-clause-left g c =
@@ -28,29 +36,34 @@ returns-clause-left g c =
     let same = c.self.view_is in
     let went = c.supervise-closed.ensures in
     let feeder = c.supervise-closed.new.feeder in
-    let board = same_board _ _ (ap (λ (about : Given). about.target) went.given)
+    let board = same_board _ _
+    (ap (λ (about : Given JwtRules). about.target) went.given)
     ∙ ap (λ (j : Assigned g.row.C.Denot). j.board) same in
     elim c.match-closed.branch [
       | in-Some w ↦ record {
-        board = ap (λ (d : Left). d.past.book) w.done-is ∙ w.recorded-done.ensures.board ∙ board;
-        record_is = subst (λ (d : Left). IfSome d.recorded (IsOf g.C.Connector.members job))
+        board = ap (λ (d : Left). d.past.book) w.done-is
+            ∙ w.recorded-done.ensures.board ∙ board;
+        record_is = subst (λ (d : Left).
+            IfSome d.recorded (IsOf g.C.Connector.members job))
             (sym w.done-is)
-            (recorded_of_job g.C.Connector.members job feeder.first feeder.core.run
-            feeder.core.settings c.supervise-closed.new.pace w.in-Some.closed
-            w.recorded-done.result.recorded w.recorded-done.ensures.recorded
+            (recorded_of_job g.C.Connector.members kind_of job
+            feeder.first feeder.core.run feeder.core.rules c.supervise-closed.new.pace
+            w.in-Some.closed w.recorded-done.result.recorded w.recorded-done.ensures.recorded
             w.recorded-done.ensures.yielded
             (went.first ∙ ap (λ (j : Assigned g.row.C.Denot). j.first) same)
             (subst (λ run. GoesOn run feeder.core.run)
             (ap (λ (j : Assigned g.row.C.Denot). j.run) same) went.goes_on)
-            (ap (λ (about : Given). about.settings) went.given
-            ∙ ap (λ (j : Assigned g.row.C.Denot). j.settings) same)
+            (ap (λ (about : Given JwtRules). about.rules) went.given
+            ∙ ap (λ (j : Assigned g.row.C.Denot). j.rules) same)
             (went.bounds ∙ ap (λ (j : Assigned g.row.C.Denot). j.bounds) same)
-            (w.in-Some.ensures.closed.0 ∙ ap (λ (j : Assigned g.row.C.Denot). j.cell) same));
+            (w.in-Some.ensures.closed.0
+            ∙ ap (λ (j : Assigned g.row.C.Denot). j.cell) same));
       }
       | in-None w ↦ record {
-        board = ap (λ (d : Left). d.past.book) w.done-is ∙ w.unrecorded-done.ensures.board
-            ∙ board;
-        record_is = subst (λ (o : Option Recorded). IfSome o (IsOf g.C.Connector.members job))
+        board = ap (λ (d : Left). d.past.book) w.done-is
+            ∙ w.unrecorded-done.ensures.board ∙ board;
+        record_is = subst (λ (o : Option Recorded).
+            IfSome o (IsOf g.C.Connector.members job))
             (sym (ap (λ (d : Left). d.recorded) w.done-is
             ∙ w.unrecorded-done.ensures.recorded))
             tt;

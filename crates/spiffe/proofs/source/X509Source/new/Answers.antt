@@ -1,5 +1,5 @@
-use Rattle.std.proofs.Common.{◌∙◌, ap}
-use Rattle.spiffe.proofs.Unyielded.{assigned_as, built_as}
+use Rattle.std.proofs.Common.{ap, ◌∙◌}
+use Rattle.spf_supervisor.proofs.Unyielded.{assigned_as, built_as}
 use Rattle.spiffe.proofs.source.X509Source.new.Goals as goal
 
 pub returns-in-Ok-clause-built : goal.returns-in-Ok-clause-built
@@ -8,8 +8,11 @@ returns-in-Ok-clause-built g c =
     c.in_ok-source.ensures.built
 
 pub returns-in-Ok-clause-assigned : goal.returns-in-Ok-clause-assigned
-returns-in-Ok-clause-assigned g c =
-    assigned_as _ _ _ _ _ _ _ _ _ (c.started.ensures.0 ∙ c.in-Ok.ensures.1)
-    c.builder.ensures.settings
-    (ap (λ x. x.environment) c.builder.ensures.connector ∙ c.new-connector.ensures.environment)
-    c.in_ok-source.ensures.assigned
+returns-in-Ok-clause-assigned g c = (
+  _,
+  _,
+  c.builder.ensures.settings,
+  ap (λ x. x.environment) c.builder.ensures.connector ∙ c.new-connector.ensures.environment,
+  assigned_as _ _ _ _ _ _ _ _ _ (c.started.ensures.0 ∙ c.in-Ok.ensures.1)
+      c.in_ok-source.ensures.assigned,
+)
