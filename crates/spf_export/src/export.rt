@@ -1,12 +1,17 @@
 //! Writing the files of an identity.
 
+ghost use Rattle.std.specs.Prelude.{◌≡◌, ◌++◌, IfOk, OnOk};
+ghost use Rattle.spf_export.specs.Pem.{authorities_in, authorities_of};
+ghost use Rattle.spf_export.specs.Pem.{certificates_text};
+
 use crate::export_error::ExportError;
 use crate::out_file::{prepare, remove_from, replace, sync_folder};
-use crate::pem::{block, put_block};
+use crate::pem::{put_block, single_block};
 use spf_disk::{AuthorityList, Generation, OpenError, read_generation};
 use spf_folder::FolderDisk;
+use spf_io::Bytes;
 use spf_x509::{Certificate, X509Svid};
-use std::alloc::Global;
+use std::alloc::{AllocError, Global};
 
 const CHAIN: &str = "svid.pem";
 
@@ -83,45 +88,71 @@ fn prepare_bundle(
     trust_domain: &str,
 ) -> Result<(), ExportError> {
     let text = bundle_text(rt.alloc(), generation.authorities.as_slice(), trust_domain)?;
-    prepare(rt, out, BUNDLE, PUBLIC, text.as_str())
+    prepare(rt, out, BUNDLE, PUBLIC, text.as_slice())
 }
 
 fn prepare_key(rt: &HostRuntime, out: &str, key: &[u8]) -> Result<(), ExportError> {
-    let text = block(rt.alloc(), "PRIVATE KEY", key)?;
-    prepare(rt, out, KEY, OWNER_ONLY, text.as_str())
+    let text = single_block(rt.alloc(), "PRIVATE KEY", key)?;
+    prepare(rt, out, KEY, OWNER_ONLY, text.as_slice())
 }
 
 fn prepare_chain(rt: &HostRuntime, out: &str, chain: &[Certificate]) -> Result<(), ExportError> {
     let text = chain_text(rt.alloc(), chain)?;
-    prepare(rt, out, CHAIN, PUBLIC, text.as_str())
+    prepare(rt, out, CHAIN, PUBLIC, text.as_slice())
 }
 
-fn chain_text(alloc: Global, chain: &[Certificate]) -> Result<String, ExportError> {
-    let mut out = String::new(alloc);
+/// The certificates of a chain, one block each.
+fn chain_text(alloc: Global, chain: &[Certificate]) -> Result<Vec<u8>, AllocError>
+    ensures { IfOk result (λ v. v.items ≡ certificates_text chain.now) }
+{
+    let mut out = Vec::new(alloc);
     for certificate in chain {
-        put_block(&mut out, "CERTIFICATE", certificate.as_bytes())?;
+        put_block(alloc, &mut out, "CERTIFICATE", certificate.as_bytes())?;
     }
     Ok(out)
 }
 
-/// The authorities of the trust domain.
+/// The authorities of the trust domain, one block each.
 fn bundle_text(
     alloc: Global,
     lists: &[AuthorityList],
     trust_domain: &str,
-) -> Result<String, ExportError> {
-    let mut out = String::new(alloc);
+) -> Result<Vec<u8>, AllocError>
+    ensures { IfOk result (λ v. v.items ≡ certificates_text
+        (authorities_of trust_domain.now lists.now)) }
+{
+    let mut out = Vec::new(alloc);
     for list in lists {
-        if list.name.as_str() == trust_domain {
-            put_authorities(&mut out, list)?;
-        }
+        put_list(alloc, &mut out, list, trust_domain)?;
     }
     Ok(out)
 }
 
-fn put_authorities(out: &mut String, list: &AuthorityList) -> Result<(), ExportError> {
-    for certificate in list.certificates.as_slice() {
-        put_block(out, "CERTIFICATE", certificate.as_slice())?;
+/// Appends the authorities of a list, if it is that of the trust domain.
+fn put_list(
+    alloc: Global,
+    out: &mut Vec<u8>,
+    list: &AuthorityList,
+    trust_domain: &str,
+) -> Result<(), AllocError>
+    ensures { OnOk result (out.new.items ≡ out.old.items ++ certificates_text
+        (authorities_in trust_domain.now list.now)) }
+{
+    if list.name.as_str() == trust_domain {
+        put_authorities(alloc, out, list.certificates.as_slice())?;
+    }
+    Ok(())
+}
+
+fn put_authorities(
+    alloc: Global,
+    out: &mut Vec<u8>,
+    authorities: &[Bytes],
+) -> Result<(), AllocError>
+    ensures { OnOk result (out.new.items ≡ out.old.items ++ certificates_text authorities.now) }
+{
+    for authority in authorities {
+        put_block(alloc, out, "CERTIFICATE", authority.as_slice())?;
     }
     Ok(())
 }

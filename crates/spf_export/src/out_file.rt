@@ -21,12 +21,12 @@ pub(crate) fn prepare(
     folder: &str,
     name: &str,
     mode: u32,
-    contents: &str,
+    contents: &[u8],
 ) -> Result<(), ExportError> {
     let path = temporary_path(rt, folder, name)?;
     remove(rt, path.as_str())?;
     let mut file = make(rt, path.as_str(), mode)?;
-    file.write_all(contents.as_bytes())?;
+    file.write_all(contents)?;
     Ok(file.sync_all()?)
 }
 
