@@ -7,9 +7,11 @@ mod id_parts;
 pub mod laws;
 mod path;
 mod separator;
+mod shared;
 mod spiffe_id;
 mod trust_domain;
 
 pub use error::SpiffeIdError;
+pub use shared::Shared;
 pub use spiffe_id::{SpiffeId, uri_has_spiffe_scheme};
 pub use trust_domain::TrustDomain;

@@ -7,15 +7,16 @@ use crate::domain::check_domain;
 use crate::error::SpiffeIdError;
 use crate::id_parts::parts;
 use crate::separator::cut;
+use crate::shared::Shared;
 use spf_io::{OutOfMemory, Text};
 use std::alloc::Global;
 use std::fmt;
 use std::marker::Model;
 
-/// The name of a trust domain, which contracts see as its bytes.
+/// The name of a trust domain, which contracts see as its bytes. Copies share it.
 #[derive(Debug, PartialEq, Eq, PartialOrd, Ord, Hash, Drop)]
 pub struct TrustDomain {
-    name: Text,
+    name: Shared<Text>,
 }
 
 impl Model for TrustDomain {
@@ -104,7 +105,7 @@ impl TrustDomain {
         }
         check_domain(text.as_bytes())?;
         Ok(TrustDomain {
-            name: Text::new(text),
+            name: Shared::new(alloc, Text::new(text))?,
         })
     }
 
@@ -112,21 +113,22 @@ impl TrustDomain {
     pub(crate) fn copy_of(alloc: Global, name: &str) -> Result<TrustDomain, OutOfMemory>
         ensures { IfOk result (λ t. t ≡ name.now) }
     {
-        let name = Text::copy_of(alloc, name)?;
+        let name = Shared::new(alloc, Text::copy_of(alloc, name)?)?;
         Ok(TrustDomain { name })
     }
 
     pub fn as_str(&self) -> &str
         ensures { result.now ≡ self.now }
     {
-        self.name.as_str()
+        self.name.get().as_str()
     }
 
-    /// Returns a copy of the trust domain.
-    pub fn try_clone(&self, alloc: Global) -> Result<TrustDomain, OutOfMemory>
+    /// Returns a copy of the trust domain, which shares its name. The allocator is not used.
+    pub fn try_clone(&self, _alloc: Global) -> Result<TrustDomain, OutOfMemory>
         ensures { IfOk result (λ t. t ≡ self.now) }
     {
-        TrustDomain::copy_of(alloc, self.name.as_str())
+        let name = self.name.try_clone()?;
+        Ok(TrustDomain { name })
     }
 }
 
@@ -136,6 +138,6 @@ impl fmt::Display for TrustDomain {
     ghost output = { λ t. Some t };
 
     fn fmt<W: fmt::Write>(&self, f: &mut fmt::Formatter<W>) -> fmt::Result {
-        fmt::Display::fmt(self.name.as_str(), f)
+        fmt::Display::fmt(self.as_str(), f)
     }
 }

@@ -13,7 +13,6 @@ mod extension;
 pub mod laws;
 mod order;
 mod private_key;
-mod shared;
 mod source;
 mod svid;
 mod svid_error;

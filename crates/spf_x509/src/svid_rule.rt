@@ -12,10 +12,9 @@ use crate::certificate::{extension_contents, is_named, subject_id};
 use crate::chain::ChainPart;
 use crate::error::CertificateError;
 use crate::extension::X509ExtensionId;
-use crate::shared::Shared;
 use crate::svid_error::X509SvidError;
 use spf_der::{CertScan, KeyUsageBits, read_basic_constraints, read_key_usage};
-use spf_id::SpiffeId;
+use spf_id::{Shared, SpiffeId};
 use spf_io::{OutOfMemory, Text};
 use std::alloc::Global;
 

@@ -6,12 +6,13 @@ use spf_io::OutOfMemory;
 use std::alloc::Global;
 use std::cmp::Ordering;
 use std::fmt;
+use std::hash::{Hash, Hasher};
 use std::marker::Model;
 use std::sync::Arc;
 
 /// A value that clones share, which contracts see as the value. It compares as the value does.
 #[derive(Drop)]
-pub(crate) struct Shared<T> {
+pub struct Shared<T> {
     value: Arc<T>,
 }
 
@@ -27,7 +28,7 @@ impl<T> Model for Shared<T> {
 
 impl<T> Shared<T> {
     /// The value, which is dropped where memory runs out.
-    pub(crate) fn new(alloc: Global, value: T) -> Result<Shared<T>, OutOfMemory>
+    pub fn new(alloc: Global, value: T) -> Result<Shared<T>, OutOfMemory>
     where
         T: Drop,
         ensures { IfOk result (λ s. s ≡ value) }
@@ -36,14 +37,14 @@ impl<T> Shared<T> {
         Ok(Shared { value })
     }
 
-    pub(crate) fn get(&self) -> &T
+    pub fn get(&self) -> &T
         ensures { result.now ≡ self.now }
     {
         &self.value
     }
 
     /// A further owner of the value.
-    pub(crate) fn try_clone(&self) -> Result<Shared<T>, OutOfMemory>
+    pub fn try_clone(&self) -> Result<Shared<T>, OutOfMemory>
         ensures { IfOk result (λ s. s ≡ self.now) }
     {
         let value = Arc::try_clone(&self.value)?;
@@ -86,6 +87,19 @@ impl<T: Ord> Ord for Shared<T> {
 
     fn cmp(&self, other: &Shared<T>) -> Ordering {
         self.get().cmp(other.get())
+    }
+}
+
+impl<T: Hash> Hash for Shared<T> {
+    ghost use Rattle.std.specs.Cmp.Rules.{hashing};
+    ghost use Rattle.std.proofs.Common.{rules};
+
+    ghost hash_input = { T.hash_input };
+
+    ghost respects_eq = { Prim.search (hashing, rules) };
+
+    fn hash<H: Hasher>(&self, state: &mut H) {
+        self.get().hash(state);
     }
 }
 
