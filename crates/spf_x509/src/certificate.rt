@@ -1,10 +1,13 @@
 //! A certificate, kept as its DER, and the SPIFFE ID that it names.
 
-ghost use Rattle.std.specs.Prelude.{◌≡◌, IfOk, IsTrue, Ok, Some, codes};
+ghost use Rattle.std.specs.Prelude.{◌≡◌, ◌∷◌, [], IfOk, IfSome, IsTrue, Ok, Some, codes};
+ghost use Rattle.std.specs.Str.{IsAscii};
 ghost use Rattle.spf_der.specs.Grammar.{CertText};
+ghost use Rattle.spf_der.specs.Names.{san_uris_of};
 ghost use Rattle.spf_der.specs.Part.{Parts};
 ghost use Rattle.spf_der.specs.Read.{never, unique_rule};
 ghost use Rattle.spf_der.specs.Value.{seen};
+ghost use Rattle.spf_id.specs.Id.{id_text};
 ghost use Rattle.spf_io.specs.Rule.{Gives};
 ghost use Rattle.spf_x509.specs.Certificate.{IsCertificate, certificate_of, extension_rule, oid_of};
 ghost use Rattle.spf_x509.specs.Certificate.{san_rule, spiffe_id_rule, uri_rule, uris_rule};
@@ -240,6 +243,29 @@ fn are_text_of(mut uris: SanUris<'_>, id: &SpiffeId) -> bool
     }
 }
 
+/// The one URI that the names are, where an octet tells its length.
+fn only_uri(contents: &[u8]) -> Option<&[u8]>
+    ensures { IfSome result
+        (λ uri. IsAscii uri.now → san_uris_of contents.now ≡ Some (uri.now ∷ [])) }
+{
+    match contents {
+        [0x30, names, 0x86, length, uri @ ..]
+            if *names < 128 && *names as usize == uri.len() + 2 && *length as usize == uri.len() =>
+            { Some(uri) }
+        _ => None,
+    }
+}
+
+/// Whether the names are one URI, the text of the ID.
+fn is_only_name(contents: &[u8], id: &SpiffeId) -> bool
+    ensures { IsTrue result → san_uris_of contents.now ≡ Some (id_text id.now ∷ []) }
+{
+    match only_uri(contents) {
+        Some(uri) => uri == id.as_str().as_bytes() && uri.is_ascii(),
+        None => false,
+    }
+}
+
 /// Whether the names of a certificate are found to be that ID. It allocates nothing.
 #[tactic(auto, unfolding(crate::specs::Certificate::san_rule))]
 pub(crate) fn is_named(certificate: &CertScan<'_>, id: &SpiffeId) -> bool
@@ -249,6 +275,9 @@ pub(crate) fn is_named(certificate: &CertScan<'_>, id: &SpiffeId) -> bool
     else {
         return false;
     };
+    if is_only_name(contents, id) {
+        return is_text_of(id.as_str(), id);
+    }
     match read_san_uri_views(contents) {
         None => false,
         Some(uris) => are_text_of(uris, id),

@@ -282,13 +282,13 @@ impl X509Svid {
         ensures { IsTrue result
             ↔ (svid_of chain.now key.now (option_map (λ t. t.now) hint.entry) ≡ Ok self.now) }
     {
-        if key != self.private_key.get().as_bytes() {
+        if !is_concatenation(self.cert_chain.as_slice(), chain) {
             return false;
         }
         if !is_same_hint(hint, self.hint()) {
             return false;
         }
-        is_concatenation(self.cert_chain.as_slice(), chain)
+        key == self.private_key.get().as_bytes()
     }
 
     pub fn spiffe_id(&self) -> &SpiffeId

@@ -1,5 +1,4 @@
-use Rattle.std.proofs.Common.{◌≡◌, ℕ, ◌<◌, ◌∙◌, Bool, true, false, not, List, refl, sym, subst, ap}
-use Rattle.std.proofs.Common.{arith}
+use Rattle.std.proofs.Common.{ℕ, ◌<◌, ◌∙◌, List, refl, sym, subst, ap, arith}
 use Rattle.std.specs.Option.{option_map}
 use Rattle.std.specs.Borrow.{Bor}
 use Rattle.std.proofs.lemmas.List.Elements.{All-from_get_or}
@@ -10,12 +9,8 @@ use Rattle.spf_x509.specs.Svid.{Svid}
 use Rattle.spf_x509.proofs.Cuts.{svid_exact}
 use Rattle.spf_x509.proofs.svid.X509Svid.is_parsed_from.Goals as goal
 
-holds : (b : Bool) → false ≡ not b → b ≡ true
-holds true h = refl
-holds false h = absurd (cc)
-
-pub returns-then-ne : goal.returns-then-ne
-returns-then-ne c =
+pub returns-then-not-is_concatenation : goal.returns-then-not-is_concatenation
+returns-then-not-is_concatenation c =
     let octets =
     All-from_get_or (λ (b : ℕ). b < 256) c.args.chain.now 0
     (λ i lt. omega (arith, c.type_inv.chain i)) in
@@ -23,9 +18,10 @@ returns-then-ne c =
     let exact =
     svid_exact c.args.chain.now c.args.key.now hint c.args.self.now octets
     (subst IsSvid c.self.view_is c.self.invariant.1) in
-    let key = c.as_bytes.ensures.value ∙ c.get.ensures ∙ ap (λ (s : Svid). s.key) c.self.view_is in (
+    let chain = c.as_slice.ensures ∙ ap (λ (s : Svid). s.chain) c.self.view_is in (
       λ yes. absurd (cc (yes)),
-      λ is. absurd (cc (rw ((bytes_exact _ _).1 ((exact.1 is).0 ∙ sym key)) at c.if-ne.ensures)),
+      λ is. c.if-not-is_concatenation.ensures.1
+          (subst (CertsOf c.args.chain.now) (sym chain) (exact.1 is).2),
     )
 
 pub returns-then-not-is_same_hint : goal.returns-then-not-is_same_hint
@@ -50,15 +46,12 @@ returns c =
     let exact =
     svid_exact c.args.chain.now c.args.key.now hint c.args.self.now octets
     (subst IsSvid c.self.view_is c.self.invariant.1) in
-    let key : c.args.key.now ≡ c.args.self.now.key =
-    (bytes_exact _ _).0 (holds _ c.if-ne.ensures) ∙ c.as_bytes.ensures.value ∙ c.get.ensures
-    ∙ ap (λ (s : Svid). s.key) c.self.view_is in
+    let key = c.as_bytes.ensures.value ∙ c.get.ensures ∙ ap (λ (s : Svid). s.key) c.self.view_is in
     let chain = c.as_slice.ensures ∙ ap (λ (s : Svid). s.chain) c.self.view_is in (
       λ yes. exact.0 (
-        key,
+        (bytes_exact _ _).0 (sym c.eq.ensures ∙ yes) ∙ key,
         c.if-not-is_same_hint.ensures.0 refl ∙ c.hint.ensures,
-        subst (CertsOf c.args.chain.now) chain (c.is_concatenation.ensures.0 yes),
+        subst (CertsOf c.args.chain.now) chain (c.if-not-is_concatenation.ensures.0 refl),
       ),
-      λ is. c.is_concatenation.ensures.1
-          (subst (CertsOf c.args.chain.now) (sym chain) (exact.1 is).2),
+      λ is. c.eq.ensures ∙ (bytes_exact _ _).1 ((exact.1 is).0 ∙ sym key),
     )
