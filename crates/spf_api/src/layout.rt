@@ -1,9 +1,11 @@
 //! Numbers, byte fields and text fields of a payload. A
 //! reader returns the value, and the bytes that follow it.
 
-ghost use Rattle.std.specs.Prelude.{◌≡◌, ◌<◌, ◌^◌, ◌++◌, length, IfOk, OnOk};
+ghost use Rattle.std.specs.Prelude.{◌≡◌, ◌<◌, ◌^◌, ◌++◌, length, IfOk, OnOk, None, Some};
+ghost use Rattle.std.specs.Prelude.{if◌then◌else◌};
 ghost use Rattle.std.specs.Int.{w32, to_be_bytes};
 ghost use Rattle.std.specs.Option.{option_map};
+ghost use Rattle.std.specs.Str.{is_utf8};
 ghost use Rattle.spf_api.specs.Layout.{HasLength32, IsText, field_text};
 ghost use Rattle.spf_api.specs.Reading.{number_at, byte_field_at, text_field_at};
 
@@ -34,17 +36,30 @@ pub fn read_byte_field(bytes: &[u8]) -> Option<(&[u8], &[u8])>
     Some(rest.split_at(length))
 }
 
+/// The text that the octets are, where they are UTF-8.
+fn text_of(octets: &[u8]) -> Option<&str>
+    ensures { option_map (λ t. t.now) result
+        ≡ (if is_utf8 octets.now then Some octets.now else None) }
+{
+    if octets.is_ascii() {
+        // Octets below 128 are UTF-8.
+        return Some(unsafe { str::from_utf8_unchecked(octets) });
+    }
+    match str::from_utf8(octets) {
+        Ok(text) => Some(text),
+        Err(_) => None,
+    }
+}
+
 /// Returns the text field at the start of the bytes,
 /// which is a byte field in UTF-8, and what follows it.
 #[tactic(auto, unfolding(crate::specs::Reading::text_field_at))]
 pub fn read_text_field(bytes: &[u8]) -> Option<(&str, &[u8])>
     ensures { option_map (λ x. (x.0.now, x.1.now)) result ≡ text_field_at bytes.now }
 {
-    let (text, rest) = read_byte_field(bytes)?;
-    match str::from_utf8(text) {
-        Ok(text) => Some((text, rest)),
-        Err(_) => None,
-    }
+    let (octets, rest) = read_byte_field(bytes)?;
+    let text = text_of(octets)?;
+    Some((text, rest))
 }
 
 /// Reads a text field, and copies it.

@@ -154,7 +154,7 @@ fn shared_svids(
         (read_as (brought_to bundles.old)
         (each pair_of (map svid_entry_of entries.now))) }
 {
-    let mut svids = Vec::new(alloc);
+    let mut svids = Vec::with_capacity(alloc, entries.len())?;
     for entry in entries {
         let svid = shared_material(alloc, entry, svids.as_slice(), bundles, held)?;
         svids.push(svid)?;

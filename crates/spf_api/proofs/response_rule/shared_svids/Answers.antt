@@ -20,7 +20,7 @@ loop-entry-init c =
       brought = record {
         materials = [];
         read = refl;
-        are = ap (map arc_value) c.new-svids.ensures.items;
+        are = ap (map arc_value) c.in_ok-svids.ensures.items;
       };
       stand = refl;
     }
@@ -47,7 +47,8 @@ loop-entry-preserved c =
 
 pub returns-in_err-svid : goal.returns-in_err-svid
 returns-in_err-svid c =
-    let p = err_from_is_err_and c.from_residual.result c.from_residual.ensures.1 in
+    let residual = c.from_residual-in_err-svid in
+    let p = err_from_is_err_and residual.result residual.ensures.1 in
     let e = c.in_err-svid.field-0.0 in
     let xs = c.args.entries.now in
     let i = c.loop-entry.entry-index in
