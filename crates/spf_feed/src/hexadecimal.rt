@@ -10,11 +10,7 @@ fn digit(number: u8) -> u8
     requires { number < 16 }
     ensures { result ≡ slice_index lower_digits number }
 {
-    if number < 10 {
-        number + b'0'
-    } else {
-        number + 87
-    }
+    number + b'0' + if number < 10 { 0 } else { 39 }
 }
 
 /// Two digits for each octet. The compiler turns it into steps of several octets.
