@@ -46,5 +46,6 @@ only_uri_read (x ∷ []) long a c short names size ascii = absurd (omega arith)
 only_uri_read (x ∷ y ∷ []) long a c short names size ascii = absurd (omega arith)
 only_uri_read (x ∷ y ∷ z ∷ []) long a c short names size ascii = absurd (omega arith)
 only_uri_read (x ∷ y ∷ z ∷ w ∷ uri) long a c short names size ascii =
-    let all : take (length (x ∷ y ∷ z ∷ w ∷ uri) - 4) uri ≡ uri = take_rest (x ∷ y ∷ z ∷ w ∷ uri) 4 in
+    let all : take (length (x ∷ y ∷ z ∷ w ∷ uri) - 4) uri ≡ uri =
+    take_rest (x ∷ y ∷ z ∷ w ∷ uri) 4 in
     rw (a, c, all) (one y w uri short (rw all at names) (rw all at size) (rw all at ascii))
