@@ -32,7 +32,7 @@ fn pair(tens: u8, ones: u8) -> Option<u8>
     ensures exact { result ≡ pair_of tens ones }
     ensures bound { IfSome result (λ n. n < 100) }
 {
-    if tens.is_ascii_digit() && ones.is_ascii_digit() {
+    if tens.is_ascii_digit() & ones.is_ascii_digit() {
         Some((tens - b'0') * 10 + (ones - b'0'))
     } else {
         None

@@ -67,8 +67,7 @@ fn four(bytes: &[u8]) -> Option<usize>
 }
 
 /// A length of 128 or more, after its first octet, which says how many octets follow.
-#[cold]
-#[inline(never)]
+#[inline(always)]
 #[tactic(auto, unfolding(crate::specs::Value::long_length_at))]
 fn long_length(first: u8, rest: &[u8]) -> Option<usize>
     ensures { MeetsRest (first - 128) result (long_length_at first rest.now) rest.now }
