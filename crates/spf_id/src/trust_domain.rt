@@ -95,6 +95,22 @@ impl TrustDomain {
         TrustDomain::new(alloc, text)
     }
 
+    /// The same as `new`, where a trust domain may be given that most often is the same: the result
+    /// then shares its name.
+    pub fn new_sharing(
+        alloc: Global,
+        text: &str,
+        known: Option<&TrustDomain>,
+    ) -> Result<TrustDomain, SpiffeIdError>
+        ensures { Gives is_memory (λ t. t) result (name_rule text.now) }
+    {
+        let name = name_in(text)?;
+        match known {
+            Some(known) if known.as_str() == name => Ok(known.try_clone(alloc)?),
+            _ => Ok(TrustDomain::copy_of(alloc, name)?),
+        }
+    }
+
     /// The same as `new`, keeping the text where it is the name.
     #[tactic(auto, unfolding(crate::specs::Rule::name_rule))]
     pub fn try_from_owned(alloc: Global, text: String) -> Result<TrustDomain, SpiffeIdError>
