@@ -38,6 +38,14 @@ insert_plain (e ∷ es) k v =
     step (slice_cmp nat_cmp k e.0) e es k v (insert_entry (slice_cmp nat_cmp) es k v)
     (with_entry (map plain_entry es) k (arc_value v)) (insert_plain es k v)
 
+-- so is putting it in
+pub with_plain : (es : List Shared) (k : List ℕ) (v : Arc Bundle Global)
+    → map plain_entry (with_entry es k v) ≡ with_entry (map plain_entry es) k (arc_value v)
+with_plain [] k v = refl
+with_plain (e ∷ es) k v =
+    step (slice_cmp nat_cmp k e.0) e es k v (with_entry es k v)
+    (with_entry (map plain_entry es) k (arc_value v)) (with_plain es k v)
+
 found : (b : Bool) (v : Arc Bundle Global) (others : Option (Arc Bundle Global))
     (seen : Option Bundle)
     → option_map arc_value others ≡ seen

@@ -7,7 +7,7 @@ use Rattle.std.specs.Ordering.{match_ordering, nat_cmp, is_eq}
 use Rattle.std.specs.Cmp.Lexicographic.{slice_cmp, texts_ties}
 use Rattle.std.specs.Str.{bytes_eq}
 use Rattle.spf_io.proofs.Exact.{bytes_exact}
-use Rattle.spf_x509.specs.Bundle.{with_entry, find_entry}
+use Rattle.spf_x509.specs.Bundle.{Bundle, KeepsOthers, with_entry, find_entry}
 
 same_bytes : (k : List ℕ) → bytes_eq k k ≡ true
 same_bytes k = (bytes_exact k k).1 refl
@@ -45,7 +45,8 @@ others_step Less j k e es others v apart tied is = rw apart refl
 others_step Equal j k e es others v apart tied is = rw (tied refl) refl
 others_step Greater j k e es others v apart tied is = rw is refl
 
-tie : (k l : List ℕ) → slice_cmp nat_cmp k l ≡ Equal → k ≡ l
+-- trust domains that compare as equal are the same
+pub tie : (k l : List ℕ) → slice_cmp nat_cmp k l ≡ Equal → k ≡ l
 tie k l equal = (bytes_exact k l).0 (texts_ties k l ∙ ap is_eq equal)
 
 -- what is found under another trust domain stays
@@ -56,3 +57,14 @@ others_stay (e ∷ es) k v j apart =
     others_step (slice_cmp nat_cmp k e.0) j k e es (with_entry es k v) v (other_bytes j k apart)
     (λ equal. other_bytes j e.0 (λ (is : j ≡ e.0). apart (is ∙ sym (tie k e.0 equal))))
     (others_stay es k v j apart)
+
+-- a bundle that was put in is found under its trust domain
+pub found_after : (old new : List (List ℕ × Bundle)) (k domain : List ℕ) (b : Bundle)
+    → k ≡ domain → new ≡ with_entry old k b → find_entry domain new ≡ Some b
+found_after old new k domain b key is = rw (is, ← key) (found_there old k b)
+
+-- and the others stay
+pub others_after : (old new : List (List ℕ × Bundle)) (k domain : List ℕ) (b : Bundle)
+    → k ≡ domain → new ≡ with_entry old k b → KeepsOthers domain old new
+others_after old new k domain b key is other apart =
+    rw is (others_stay old k b other (λ (same : other ≡ k). apart (same ∙ key)))

@@ -24,7 +24,8 @@ name_cmp = slice_cmp nat_cmp
 abbrev pub Rises : {V : Type 0} → List (List ℕ × V) → Type 0
 Rises es = IsStrictlySortedBy name_cmp (keys_of es)
 
-member : {V : Type 0} (P : List ℕ → Type 0) (front : List (List ℕ × V)) (f : List ℕ × V)
+-- what holds of each trust domain holds of this one
+pub member : {V : Type 0} (P : List ℕ → Type 0) (front : List (List ℕ × V)) (f : List ℕ × V)
     (rest : List (List ℕ × V))
     → AllByRecursion P (keys_of (front ++ f ∷ rest)) → P f.0
 member P [] f rest all = all.0
@@ -63,22 +64,19 @@ same_keys [] = refl
 same_keys (e ∷ es) = ap (λ (ks : List (List ℕ)). e.0 ∷ ks) (same_keys es)
 
 -- entries in order that are put in are those entries
-pub again : (es : List Shared) → Rises es
-    → with_entries [] (map plain_entry es) ≡ map plain_entry es
-again es rises = let P : List (List ℕ) → Type 0 = λ ks. IsStrictlySortedBy name_cmp ks in
-    all_at_end [] (map plain_entry es) (subst P (same_keys es) rises)
+pub again : (es : List (List ℕ × Bundle)) → Rises es → with_entries [] es ≡ es
+again es rises = all_at_end [] es rises
 
 -- one more entry is added
-pub one_put : (es left after : List Shared) (k same_k : List ℕ) (v same_v : Arc Bundle Global)
-    (total : List (List ℕ × Bundle))
-    → left ≡ (k, v) ∷ after → same_k ≡ k → arc_value same_v ≡ arc_value v
-    → with_entries (map plain_entry es) (map plain_entry left) ≡ total
-    → with_entries (map plain_entry (insert_entry name_cmp es same_k same_v))
-    (map plain_entry after) ≡ total
-one_put es left after k same_k v same_v total is key value going =
-    let put : map plain_entry (insert_entry name_cmp es same_k same_v)
-    ≡ with_entry (map plain_entry es) k (arc_value v) =
-    insert_plain es same_k same_v ∙ (λ i. with_entry (map plain_entry es) (key i) (value i)) in
-    ap (λ (s : List (List ℕ × Bundle)). with_entries s (map plain_entry after)) put
-    ∙ sym (ap (λ (xs : List Shared). with_entries (map plain_entry es) (map plain_entry xs)) is)
+pub one_put : (es : List Shared) (left after : List (List ℕ × Bundle)) (k same_k : List ℕ)
+    (b : Bundle) (v : Arc Bundle Global) (total : List (List ℕ × Bundle))
+    → left ≡ (k, b) ∷ after → same_k ≡ k → arc_value v ≡ b
+    → with_entries (map plain_entry es) left ≡ total
+    → with_entries (map plain_entry (insert_entry name_cmp es same_k v)) after ≡ total
+one_put es left after k same_k b v total is key value going =
+    let put : map plain_entry (insert_entry name_cmp es same_k v)
+    ≡ with_entry (map plain_entry es) k b =
+    insert_plain es same_k v ∙ (λ i. with_entry (map plain_entry es) (key i) (value i)) in
+    ap (λ (s : List (List ℕ × Bundle)). with_entries s after) put
+    ∙ sym (ap (λ (xs : List (List ℕ × Bundle)). with_entries (map plain_entry es) xs) is)
     ∙ going

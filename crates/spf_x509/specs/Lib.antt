@@ -9,7 +9,9 @@ pub mod Bag
 pub mod Order
 pub mod Lead
 pub mod Certificate
+pub mod Certificates
 pub mod Key
 pub mod Rule
 pub mod Chain
+pub mod BundleMap
 pub mod BundleRule

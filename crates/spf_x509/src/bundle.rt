@@ -8,7 +8,8 @@ ghost use Rattle.spf_x509.specs.Chain.{authorities_rule, authority_at};
 ghost use Rattle.spf_x509.specs.Errors.{is_memory_bundle, is_memory_certificate};
 ghost use Rattle.spf_x509.specs.BundleRule.{added_to, bundle_of};
 
-use crate::certificate::{Certificate, copies};
+use crate::certificate::Certificate;
+use crate::certificates::Certificates;
 use crate::chain::{cut_certificate, is_concatenation};
 use crate::error::{CertificateError, X509BundleError};
 use spf_id::TrustDomain;
@@ -21,7 +22,8 @@ use std::marker::Model;
 #[derive(Debug, Drop)]
 pub struct X509Bundle {
     trust_domain: TrustDomain,
-    authorities: Vec<Certificate>,
+    authorities: Certificates,
+    alloc: Global,
 }
 
 impl Model for X509Bundle {
@@ -29,7 +31,7 @@ impl Model for X509Bundle {
 
     ghost Value = { Bundle };
 
-    ghost view = { λ b. record { domain = b.trust_domain; authorities = b.authorities.items } };
+    ghost view = { λ b. record { domain = b.trust_domain; authorities = b.authorities } };
 }
 
 impl X509Bundle {
@@ -39,7 +41,8 @@ impl X509Bundle {
     {
         X509Bundle {
             trust_domain,
-            authorities: Vec::new(alloc),
+            authorities: Certificates::new(),
+            alloc,
         }
     }
 
@@ -56,6 +59,7 @@ impl X509Bundle {
         Ok(X509Bundle {
             trust_domain,
             authorities,
+            alloc,
         })
     }
 
@@ -72,6 +76,7 @@ impl X509Bundle {
         Ok(X509Bundle {
             trust_domain,
             authorities,
+            alloc,
         })
     }
 
@@ -86,9 +91,8 @@ impl X509Bundle {
         ensures gives { Gives is_memory_bundle (λ _. self.new) result
             (added_to self.old (certificate_of der.now)) }
     {
-        let alloc = *self.authorities.allocator();
-        let certificate = Certificate::try_from(alloc, der)?;
-        self.authorities.push(certificate)?;
+        let certificate = Certificate::try_from(self.alloc, der)?;
+        self.authorities.push(self.alloc, certificate)?;
         Ok(())
     }
 
@@ -98,7 +102,8 @@ impl X509Bundle {
     {
         Ok(X509Bundle {
             trust_domain: self.trust_domain.try_clone(alloc)?,
-            authorities: copies(alloc, self.authorities.as_slice())?,
+            authorities: self.authorities.try_clone(alloc)?,
+            alloc,
         })
     }
 
@@ -125,17 +130,14 @@ impl X509Bundle {
 }
 
 /// The certificates that the texts are, in order.
-fn certificates_from(
-    alloc: Global,
-    authorities: &[Bytes],
-) -> Result<Vec<Certificate>, CertificateError>
-    ensures { Gives is_memory_certificate (λ v. v.items) result
+fn certificates_from(alloc: Global, authorities: &[Bytes]) -> Result<Certificates, CertificateError>
+    ensures { Gives is_memory_certificate (λ c. c) result
         (each certificate_of authorities.now) }
 {
-    let mut certificates = Vec::new(alloc);
+    let mut certificates = Certificates::with_capacity(alloc, authorities.len())?;
     for authority in authorities {
         let certificate = Certificate::try_from(alloc, authority.as_slice())?;
-        certificates.push(certificate)?;
+        certificates.push(alloc, certificate)?;
     }
     Ok(certificates)
 }
@@ -153,14 +155,14 @@ fn cut_authority(alloc: Global, der: &[u8]) -> Result<(Certificate, &[u8]), Cert
 }
 
 /// Copies of the certificates whose concatenation the bytes are.
-fn cut_authorities(alloc: Global, der: &[u8]) -> Result<Vec<Certificate>, CertificateError>
-    ensures { Gives is_memory_certificate (λ v. v.items) result (authorities_rule der.now) }
+fn cut_authorities(alloc: Global, der: &[u8]) -> Result<Certificates, CertificateError>
+    ensures { Gives is_memory_certificate (λ c. c) result (authorities_rule der.now) }
 {
-    let mut authorities = Vec::new(alloc);
+    let mut authorities = Certificates::new();
     let mut rest = der;
     while !rest.is_empty() {
         let (authority, after) = cut_authority(alloc, rest)?;
-        authorities.push(authority)?;
+        authorities.push(alloc, authority)?;
         rest = after;
     }
     Ok(authorities)

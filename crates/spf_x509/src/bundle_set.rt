@@ -8,11 +8,11 @@ ghost use Rattle.spf_x509.specs.Bundle.{with_bundles, with_entry};
 ghost use Rattle.spf_x509.specs.BundleRule.{IsIn};
 
 use crate::bundle::X509Bundle;
+use crate::bundle_map::{BundleMap, BundleMapIter};
 use crate::source::BundleSource;
 use spf_id::TrustDomain;
 use spf_io::OutOfMemory;
 use std::alloc::Global;
-use std::collections::{BTreeMap, btree_map};
 use std::marker::Model;
 use std::sync::Arc;
 
@@ -20,17 +20,17 @@ use std::sync::Arc;
 /// Contracts see the pairs in the order of the trust domains.
 #[derive(Debug, Drop)]
 pub struct X509BundleSet {
-    bundles: BTreeMap<TrustDomain, Arc<X509Bundle>>,
+    bundles: BundleMap,
     alloc: Global,
 }
 
 impl Model for X509BundleSet {
-    ghost use Rattle.std.specs.Prelude.{List, ℕ, map};
-    ghost use Rattle.spf_x509.specs.Bundle.{Bundle, plain_entry};
+    ghost use Rattle.std.specs.Prelude.{List, ℕ};
+    ghost use Rattle.spf_x509.specs.Bundle.{Bundle};
 
     ghost Value = { List (List ℕ × Bundle) };
 
-    ghost view = { λ s. map plain_entry s.bundles.entries };
+    ghost view = { λ s. s.bundles };
 }
 
 impl X509BundleSet {
@@ -38,7 +38,7 @@ impl X509BundleSet {
         ensures { result ≡ [] }
     {
         X509BundleSet {
-            bundles: BTreeMap::new(alloc),
+            bundles: BundleMap::new(alloc),
             alloc,
         }
     }
@@ -64,8 +64,7 @@ impl X509BundleSet {
         ensures err { OnErr result (self.new ≡ self.old) }
     {
         let trust_domain = bundle.trust_domain().try_clone(self.alloc)?;
-        self.bundles.insert(trust_domain, bundle)?;
-        Ok(())
+        self.bundles.insert(self.alloc, trust_domain, bundle)
     }
 
     /// Returns whether the bundle of that trust domain and those bytes stands in the set already.
@@ -73,12 +72,8 @@ impl X509BundleSet {
     pub fn holds_parsed(&self, trust_domain: &TrustDomain, der: &[u8]) -> bool
         ensures { IsTrue result → IsIn self.now trust_domain.now der.now }
     {
-        match self.get_ref(trust_domain) {
-            Some(bundle) => {
-                // The order of the pairs is what iterating says.
-                let _pairs = self.iter();
-                bundle.is_parsed_from(trust_domain, der)
-            }
+        match self.bundles.get(trust_domain) {
+            Some(bundle) => bundle.is_parsed_from(trust_domain, der),
             None => false,
         }
     }
@@ -107,10 +102,7 @@ impl X509BundleSet {
     pub fn try_clone(&self, alloc: Global) -> Result<X509BundleSet, OutOfMemory>
         ensures { IfOk result (λ s. s ≡ self.now) }
     {
-        let mut bundles = BTreeMap::new(alloc);
-        for (trust_domain, bundle) in self.bundles.iter() {
-            bundles.insert(trust_domain.try_clone(alloc)?, Arc::try_clone(bundle)?)?;
-        }
+        let bundles = self.bundles.try_clone(alloc)?;
         Ok(X509BundleSet { bundles, alloc })
     }
 
@@ -137,6 +129,7 @@ impl X509BundleSet {
     }
 
     /// Returns the pairs of trust domain and bundle, in the order of the trust domains.
+    #[inline]
     pub fn iter(&self) -> X509BundleIter<'_>
         ensures pairs { result ≡ self.now }
         ensures order { IsInDomainOrder self.now }
@@ -182,16 +175,16 @@ impl BundleSource for X509BundleSet {
 /// The pairs of a bundle set that are still to come, which contracts see as their list.
 #[derive(Debug, Drop)]
 pub struct X509BundleIter<'a> {
-    inner: btree_map::Iter<'a, TrustDomain, Arc<X509Bundle>>,
+    inner: BundleMapIter<'a>,
 }
 
 impl<'a> Model for X509BundleIter<'a> {
-    ghost use Rattle.std.specs.Prelude.{List, ℕ, map};
-    ghost use Rattle.spf_x509.specs.Bundle.{Bundle, plain_entry};
+    ghost use Rattle.std.specs.Prelude.{List, ℕ};
+    ghost use Rattle.spf_x509.specs.Bundle.{Bundle};
 
     ghost Value = { List (List ℕ × Bundle) };
 
-    ghost view = { λ i. map plain_entry i.inner };
+    ghost view = { λ i. i.inner };
 }
 
 impl<'a> Iterator for X509BundleIter<'a> {
@@ -204,6 +197,7 @@ impl<'a> Iterator for X509BundleIter<'a> {
 
     ghost remaining = { item_count (λ s. s) };
 
+    #[inline]
     fn next(&mut self) -> Option<(&'a TrustDomain, &'a Arc<X509Bundle>)> {
         self.inner.next()
     }

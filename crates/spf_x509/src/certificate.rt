@@ -106,17 +106,6 @@ impl Certificate {
     }
 }
 
-/// Copies of the certificates.
-pub(crate) fn copies(alloc: Global, chain: &[Certificate]) -> Result<Vec<Certificate>, OutOfMemory>
-    ensures { IfOk result (λ v. v.items ≡ chain.now) }
-{
-    let mut certificates = Vec::with_capacity(alloc, chain.len())?;
-    for certificate in chain {
-        certificates.push(certificate.try_clone(alloc)?)?;
-    }
-    Ok(certificates)
-}
-
 /// Returns the one SPIFFE ID of the certificate that the bytes are, whole.
 #[tactic(auto, unfolding(crate::specs::Certificate::spiffe_id_rule))]
 pub fn spiffe_id_from_der(alloc: Global, der: &[u8]) -> Result<SpiffeId, CertificateError>

@@ -8,6 +8,7 @@ ghost use Rattle.spf_x509.specs.Chain.{certificate_text_at, chain_rule};
 ghost use Rattle.spf_x509.specs.Errors.{is_memory_certificate};
 
 use crate::certificate::Certificate;
+use crate::certificates::Certificates;
 use crate::error::CertificateError;
 use spf_der::{CertScan, scan_certificate};
 use spf_io::OutOfMemory;
@@ -127,14 +128,14 @@ pub(crate) fn chain_with_leaf(
     alloc: Global,
     leaf: &[u8],
     others: &[Certificate],
-) -> Result<Vec<Certificate>, OutOfMemory>
+) -> Result<Certificates, OutOfMemory>
     requires { IsCertificate leaf.now }
-    ensures { IfOk result (λ v. v.items ≡ leaf.now ∷ others.now) }
+    ensures { IfOk result (λ c. c ≡ leaf.now ∷ others.now) }
 {
-    let mut certificates = Vec::with_capacity(alloc, others.len() + 1)?;
-    certificates.push(Certificate::of_text(alloc, leaf)?)?;
+    let mut certificates = Certificates::with_capacity(alloc, others.len() + 1)?;
+    certificates.push(alloc, Certificate::of_text(alloc, leaf)?)?;
     for certificate in others {
-        certificates.push(certificate.try_clone(alloc)?)?;
+        certificates.push(alloc, certificate.try_clone(alloc)?)?;
     }
     Ok(certificates)
 }

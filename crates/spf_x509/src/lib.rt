@@ -4,8 +4,10 @@
 #![tactic(auto)]
 
 mod bundle;
+mod bundle_map;
 mod bundle_set;
 mod certificate;
+mod certificates;
 mod chain;
 mod context;
 mod error;

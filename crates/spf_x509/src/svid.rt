@@ -9,7 +9,8 @@ ghost use Rattle.spf_x509.specs.Chain.{IsSvid, MayFollowLeaf, svid_of, svid_with
 ghost use Rattle.spf_x509.specs.Errors.{is_memory_key, is_memory_svid};
 ghost use Rattle.spf_x509.specs.Key.{key_rule};
 
-use crate::certificate::{Certificate, copies, read_whole};
+use crate::certificate::{Certificate, read_whole};
+use crate::certificates::Certificates;
 use crate::chain::{ChainPart, bytes_before, chain_with_leaf, cut_chain, is_concatenation};
 use crate::error::PrivateKeyError;
 use crate::private_key::PrivateKey;
@@ -17,7 +18,7 @@ use crate::svid_error::X509SvidError;
 use crate::svid_rule::{intermediate_rules, leaf_rule};
 use spf_der::CertScan;
 use spf_id::{Shared, SpiffeId};
-use spf_io::{List, OutOfMemory, Text};
+use spf_io::{OutOfMemory, Text};
 use std::alloc::Global;
 use std::marker::Model;
 use std::sync::Arc;
@@ -29,7 +30,7 @@ use std::sync::Arc;
 pub struct X509Svid {
     spiffe_id: Shared<SpiffeId>,
     hint: Option<Text>,
-    cert_chain: List<Certificate>,
+    cert_chain: Certificates,
     private_key: Shared<PrivateKey>,
     #[derive_where(skip(EqHashOrd))]
     expiry: i64,
@@ -69,12 +70,12 @@ impl Model for X509Svid {
 }
 
 /// Copies of the certificates of a chain.
-fn certificates_of(alloc: Global, parts: &[ChainPart<'_>]) -> Result<Vec<Certificate>, OutOfMemory>
-    ensures { IfOk result (λ v. v.items ≡ texts parts.now) }
+fn certificates_of(alloc: Global, parts: &[ChainPart<'_>]) -> Result<Certificates, OutOfMemory>
+    ensures { IfOk result (λ c. c ≡ texts parts.now) }
 {
-    let mut certificates = Vec::with_capacity(alloc, parts.len())?;
+    let mut certificates = Certificates::with_capacity(alloc, parts.len())?;
     for part in parts {
-        certificates.push(part.certificate(alloc)?)?;
+        certificates.push(alloc, part.certificate(alloc)?)?;
     }
     Ok(certificates)
 }
@@ -155,11 +156,11 @@ impl X509Svid {
         let (spiffe_id, expiry) = leaf_rule(alloc, leaf.scan(), id_of(known))?;
         intermediate_rules(alloc, intermediates)?;
         let private_key = key_from(alloc, key, known)?;
-        let certificates = certificates_of(alloc, parts.as_slice())?;
+        let cert_chain = certificates_of(alloc, parts.as_slice())?;
         Ok(X509Svid {
             spiffe_id,
             hint,
-            cert_chain: List::new(certificates),
+            cert_chain,
             private_key,
             expiry,
         })
@@ -239,11 +240,11 @@ impl X509Svid {
     {
         let (spiffe_id, expiry) = leaf_rule(alloc, scan, id_of(known))?;
         let kept_key = key_from(alloc, key, known)?;
-        let certificates = chain_with_leaf(alloc, leaf, others)?;
+        let cert_chain = chain_with_leaf(alloc, leaf, others)?;
         let svid = X509Svid {
             spiffe_id,
             hint,
-            cert_chain: List::new(certificates),
+            cert_chain,
             private_key: kept_key,
             expiry,
         };
@@ -271,7 +272,7 @@ impl X509Svid {
         Ok(X509Svid {
             spiffe_id: self.spiffe_id.try_clone()?,
             hint,
-            cert_chain: List::new(copies(alloc, self.cert_chain.as_slice())?),
+            cert_chain: self.cert_chain.try_clone(alloc)?,
             private_key: self.private_key.try_clone()?,
             expiry: self.expiry,
         })

@@ -5,4 +5,4 @@ use Rattle.spf_x509.proofs.bundle.certificates_from.Given as goal
 
 abbrev pub invariant-loop-authority : goal.invariant-loop-authority
 invariant-loop-authority l =
-    each certificate_of (take l.authority-index l.authorities) ≡ Ok l.certificates.items
+    each certificate_of (take l.authority-index l.authorities) ≡ Ok l.certificates

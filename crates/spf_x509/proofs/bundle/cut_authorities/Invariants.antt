@@ -7,7 +7,7 @@ use Rattle.spf_x509.proofs.bundle.cut_authorities.Given as goal
 
 abbrev pub invariant-loop-rest : goal.invariant-loop-rest
 invariant-loop-rest l =
-    Goes authority_at (ParseX509Certificate InvalidCertificate) l.authorities.items l.rest
+    Goes authority_at (ParseX509Certificate InvalidCertificate) l.authorities l.rest
     (authorities_rule l.der)
 
 abbrev pub decreases-loop-rest : goal.decreases-loop-rest

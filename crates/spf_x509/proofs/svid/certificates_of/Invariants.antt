@@ -3,4 +3,4 @@ use Rattle.spf_x509.specs.Chain.{texts}
 use Rattle.spf_x509.proofs.svid.certificates_of.Given as goal
 
 abbrev pub invariant-loop-part : goal.invariant-loop-part
-invariant-loop-part l = l.certificates.items ≡ texts (take l.part-index l.parts)
+invariant-loop-part l = l.certificates ≡ texts (take l.part-index l.parts)

@@ -18,9 +18,9 @@ returns-then-eq c =
     (bytes_exact _ _).0 (sym c.if-eq.ensures) in
     let exact =
     bundle_exact c.args.trust_domain.now der
-    (record { domain = c.self.inside.trust_domain; authorities = c.self.inside.authorities.items })
+    (record { domain = c.self.inside.trust_domain; authorities = c.self.inside.authorities })
     octets in
-    let value = c.as_slice.ensures.value in
+    let value = c.as_slice.ensures in
     let P : Bundle → Type 0 =
     λ b. (IsTrue c.is_concatenation.result
     → bundle_of c.args.trust_domain.now (authorities_rule der) ≡ Ok b)

@@ -1,0 +1,181 @@
+//! Certificates in order, of which most chains and bundles have one or two.
+
+ghost use Rattle.std.specs.Prelude.{◌≡◌, ◌++◌, ◌∷◌, [], IfOk, OnErr, OnOk};
+ghost use Rattle.spf_x509.specs.Certificates.{held_texts};
+
+use crate::certificate::Certificate;
+use spf_io::OutOfMemory;
+use std::alloc::Global;
+use std::cmp::Ordering;
+use std::marker::Model;
+use std::{mem, slice};
+
+/// Certificates in order, of which one or two take no list.
+#[derive(Debug, Drop)]
+pub(crate) struct Certificates {
+    held: Held,
+}
+
+/// How certificates are held.
+#[derive(Debug, Drop)]
+enum Held {
+    Nothing,
+    One(Certificate),
+    Two([Certificate; 2]),
+    Listed(Vec<Certificate>),
+}
+
+impl Held {
+    /// Appends a certificate. An error leaves those that there are.
+    fn push(&mut self, alloc: Global, certificate: Certificate) -> Result<(), OutOfMemory>
+        ensures ok { OnOk result (held_texts self.new ≡ held_texts self.old ++ certificate ∷ []) }
+        ensures err { OnErr result (held_texts self.new ≡ held_texts self.old) }
+    {
+        match mem::replace(self, Held::Nothing) {
+            Held::Nothing => *self = Held::One(certificate),
+            Held::One(first) => *self = Held::Two([first, certificate]),
+            Held::Two(two) => match Vec::from_array(alloc, two) {
+                Ok(mut list) => {
+                    let pushed = list.push(certificate);
+                    *self = Held::Listed(list);
+                    pushed?;
+                }
+                Err(failed) => {
+                    *self = Held::Two(failed.value);
+                    return Err(OutOfMemory);
+                }
+            },
+            Held::Listed(mut list) => {
+                let pushed = list.push(certificate);
+                *self = Held::Listed(list);
+                pushed?;
+            }
+        }
+        Ok(())
+    }
+}
+
+impl Model for Certificates {
+    ghost use Rattle.std.specs.Prelude.{List, ℕ};
+
+    ghost Value = { List (List ℕ) };
+
+    ghost use Rattle.spf_x509.specs.Certificates.{held_texts};
+
+    ghost view = { λ c. held_texts c.held };
+}
+
+impl Certificates {
+    /// No certificates.
+    #[inline]
+    pub(crate) fn new() -> Certificates
+        ensures { result ≡ [] }
+    {
+        Certificates {
+            held: Held::Nothing,
+        }
+    }
+
+    /// No certificates yet, and a list only where more than two are to come.
+    #[inline]
+    pub(crate) fn with_capacity(alloc: Global, count: usize) -> Result<Certificates, OutOfMemory>
+        ensures { IfOk result (λ c. c ≡ []) }
+    {
+        if count <= 2 {
+            return Ok(Certificates::new());
+        }
+        Ok(Certificates {
+            held: Held::Listed(Vec::with_capacity(alloc, count)?),
+        })
+    }
+
+    /// Appends a certificate. An error leaves those that there are.
+    #[inline]
+    pub(crate) fn push(
+        &mut self,
+        alloc: Global,
+        certificate: Certificate,
+    ) -> Result<(), OutOfMemory>
+        ensures ok { OnOk result (self.new ≡ self.old ++ certificate ∷ []) }
+        ensures err { OnErr result (self.new ≡ self.old) }
+    {
+        self.held.push(alloc, certificate)
+    }
+
+    #[inline]
+    pub(crate) fn as_slice(&self) -> &[Certificate]
+        ensures { result.now ≡ self.now }
+    {
+        match &self.held {
+            Held::Nothing => &[],
+            Held::One(one) => slice::from_ref(one),
+            Held::Two(two) => two.as_slice(),
+            Held::Listed(list) => list.as_slice(),
+        }
+    }
+
+    /// A copy of the certificates.
+    pub(crate) fn try_clone(&self, alloc: Global) -> Result<Certificates, OutOfMemory>
+        ensures { IfOk result (λ c. c ≡ self.now) }
+    {
+        let certificates = self.as_slice();
+        let mut copies = Certificates::with_capacity(alloc, certificates.len())?;
+        for certificate in certificates {
+            copies.push(alloc, certificate.try_clone(alloc)?)?;
+        }
+        Ok(copies)
+    }
+}
+
+impl PartialEq for Certificates {
+    ghost use Rattle.std.specs.Prelude.{nat_eq};
+    ghost use Rattle.std.specs.Cmp.Lexicographic.{pointwise, lists_equiv, nat_list_eq_equiv};
+    ghost use Rattle.std.specs.Cmp as Cmp;
+
+    ghost eq = { pointwise (pointwise nat_eq) };
+
+    ghost laws = { Cmp.partial_equiv_from_equiv (lists_equiv nat_list_eq_equiv) };
+
+    fn eq(&self, other: &Certificates) -> bool {
+        self.as_slice() == other.as_slice()
+    }
+}
+
+impl Eq for Certificates {
+    ghost use Rattle.std.specs.Cmp.Lexicographic.{lists_equiv, nat_list_eq_equiv};
+
+    ghost laws = { lists_equiv nat_list_eq_equiv };
+}
+
+impl PartialOrd for Certificates {
+    ghost use Rattle.std.specs.Prelude.{Some};
+    ghost use Rattle.std.specs.Ordering.{nat_cmp};
+    ghost use Rattle.std.specs.Cmp.Lexicographic.{slice_cmp, slice_partial_cmp, lists_po, texts_po};
+
+    ghost partial_cmp = { slice_partial_cmp (λ x y. Some (slice_cmp nat_cmp x y)) };
+
+    ghost laws = { lists_po texts_po };
+
+    fn partial_cmp(&self, other: &Certificates) -> Option<Ordering> {
+        self.as_slice().partial_cmp(other.as_slice())
+    }
+}
+
+impl Ord for Certificates {
+    ghost use Rattle.std.specs.Prelude.{refl};
+    ghost use Rattle.std.specs.Ordering.{nat_cmp};
+    ghost use Rattle.std.specs.Cmp.Lexicographic.{slice_cmp, lists_total, lists_agrees, lists_ties};
+    ghost use Rattle.std.specs.Cmp.Lexicographic.{nat_list_cmp_total, texts_ties};
+
+    ghost cmp = { slice_cmp (slice_cmp nat_cmp) };
+
+    ghost total = { lists_total nat_list_cmp_total };
+
+    ghost matches_partial_cmp = { lists_agrees (λ x y. refl) };
+
+    ghost matches_eq = { lists_ties (slice_cmp nat_cmp) texts_ties };
+
+    fn cmp(&self, other: &Certificates) -> Ordering {
+        self.as_slice().cmp(other.as_slice())
+    }
+}
