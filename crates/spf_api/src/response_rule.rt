@@ -23,7 +23,7 @@ use crate::sharing::{
 use crate::views::context_view;
 use spf_id::TrustDomain;
 use spf_io::{OutOfMemory, Text};
-use spf_x509::{X509Bundle, X509BundleSet, X509Context, X509Svid};
+use spf_x509::{X509Bundle, X509BundleIter, X509BundleSet, X509Context, X509Svid};
 use std::alloc::Global;
 use std::sync::Arc;
 
@@ -103,6 +103,14 @@ fn held_bundle<'a>(
     held?.bundle_set().get_ref(trust_domain)
 }
 
+/// The held context's bundles, in order.
+fn held_bundles<'a>(held: Option<&'a X509Context>) -> Option<X509BundleIter<'a>> {
+    match held {
+        Some(held) => Some(held.bundle_set().iter()),
+        None => None,
+    }
+}
+
 /// Adds the bundle of a trust domain to the set. The entries before it most often have the same
 /// bundle.
 fn add_bundle(
@@ -162,16 +170,29 @@ fn shared_svids(
     Ok(svids)
 }
 
-/// The bundle of the trust domain of that name.
+/// The trust domain of a bundle of the held context, the next ones of which are `left`, where it has
+/// that name. An agent sends bundles most often in the order of their trust domains.
+fn near_domain<'a>(left: &mut Option<X509BundleIter<'a>>, name: &str) -> Option<&'a TrustDomain> {
+    let left = left.as_mut()?;
+    let (first, _) = left.next()?;
+    if first.as_str() == name {
+        return Some(first);
+    }
+    let (second, _) = left.next()?;
+    Some(second)
+}
+
+/// The bundle of the trust domain of that name, which is shared with `known` where it is the same.
 #[tactic(auto, unfolding(crate::specs::Parsed::named_bundle_of))]
 fn named_bundle(
     alloc: Global,
     entry: &BundleEntryView<'_>,
+    known: Option<&TrustDomain>,
     held: Option<&X509Context>,
 ) -> Result<Arc<X509Bundle>, WorkloadApiError>
     ensures { Gives is_memory_api arc_value result (named_bundle_of (bundle_entry_of entry.now)) }
 {
-    let trust_domain = TrustDomain::new(alloc, entry.name)?;
+    let trust_domain = TrustDomain::new_sharing(alloc, entry.name, known)?;
     let held = held_bundle(held, &trust_domain);
     shared_bundle(alloc, &trust_domain, entry.bundle, held)
 }
@@ -186,8 +207,10 @@ fn add_named(
         (read_as (with_bundles bundles.old)
         (each named_bundle_of (map bundle_entry_of entries.now))) }
 {
+    let mut left = held_bundles(held);
     for entry in entries {
-        let bundle = named_bundle(alloc, entry, held)?;
+        let known = near_domain(&mut left, entry.name);
+        let bundle = named_bundle(alloc, entry, known, held)?;
         bundles.add_shared(bundle)?;
     }
     Ok(())
