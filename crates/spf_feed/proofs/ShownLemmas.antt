@@ -61,26 +61,26 @@ indices_text xs ps p =
     ∙ sym (hex_list_through (λ (c : List ℕ). Some c) shown (in_order (slice_cmp nat_cmp) xs))
 
 -- one more trust domain is shown
-pub bundles_more : (all line line' : List ℕ) (d : List ℕ) (b : Bundle)
-    (es iter : List (List ℕ × Bundle)) (order : List ℕ) (rest left : List (List ℕ))
-    (authorities : List (List ℕ)) (indices : List ℕ)
-    → iter ≡ (d, b) ∷ es → left ≡ order ∷ rest → authorities ≡ b.authorities → indices ≡ order
+pub bundles_more : (all line line' : List ℕ) (d : List ℕ) (b bundle : Bundle)
+    (es iter : List (List ℕ × Bundle)) (order : List ℕ) (left rest : List (List ℕ))
+    (authorities : List (List ℕ)) → iter ≡ (d, b) ∷ es → bundle ≡ b → authorities ≡ b.authorities
+    → IsSortedIndices (slice_cmp nat_cmp) bundle.authorities order → rest ≡ drop 1 left
     → AreIndexed iter left → all ≡ line ++ flat_map entry_text iter
-    → line' ≡ line ++ 32 ∷ d ++ 61 ∷ hex_list (shown_at (λ c. c) authorities) indices
+    → line' ≡ line ++ 32 ∷ d ++ 61 ∷ hex_list (shown_at (λ c. c) authorities) order
     → (all ≡ line' ++ flat_map entry_text es) × AreIndexed es rest
-bundles_more all line line' d b es iter order rest left authorities indices iter-is left-is
-    authorities-are indices-are indexed text made =
-    let p = subst (AreIndexed ((d, b) ∷ es)) left-is
-    (subst (λ (is : List (List ℕ × Bundle)). AreIndexed is left) iter-is indexed) in
+bundles_more all line line' d b bundle es iter order left rest authorities iter-is bundle-is
+    authorities-are ordered rest-is indexed text made =
+    let p = subst (λ (is : List (List ℕ × Bundle)). AreIndexed is left) iter-is indexed in
+    let sorted = subst
+    (λ (x : Bundle). IsSortedIndices (slice_cmp nat_cmp) x.authorities order) bundle-is ordered in
     let shown : line' ≡ line ++ entry_text (d, b) =
-    made ∙ (λ i. line ++ 32 ∷ d
-    ++ 61 ∷ hex_list (shown_at (λ c. c) (authorities-are i)) (indices-are i))
-    ∙ ap (λ (t : List ℕ). line ++ 32 ∷ d ++ 61 ∷ t) (indices_text b.authorities order p.0)
+    made ∙ (λ i. line ++ 32 ∷ d ++ 61 ∷ hex_list (shown_at (λ c. c) (authorities-are i)) order)
+    ∙ ap (λ (t : List ℕ). line ++ 32 ∷ d ++ 61 ∷ t) (indices_text b.authorities order sorted)
     ∙ append_assoc line (32 ∷ d) (61 ∷ sorted_text b.authorities) in (
       text ∙ ap (λ (is : List (List ℕ × Bundle)). line ++ flat_map entry_text is) iter-is
           ∙ sym (append_assoc line (entry_text (d, b)) (flat_map entry_text es))
           ∙ ap (λ (l : List ℕ). l ++ flat_map entry_text es) (sym shown),
-      p.1,
+      subst (AreIndexed es) (sym rest-is) p.1,
     )
 
 -- the CRLs are shown, where there is one

@@ -5,7 +5,7 @@ use Rattle.std.specs.Option.{option_map}
 use Rattle.std.specs.declared.sync.Arc.{Arc}
 use Rattle.std.specs.declared.alloc.Global.{Global}
 use Rattle.spf_feed.specs.declared.sorted.Sorted.{Sorted}
-use Rattle.spf_feed.specs.Sorted.{AreSorted}
+use Rattle.spf_feed.specs.Sorted.{AreSorted, AreSortedOr}
 use Rattle.spf_feed.specs.Steps.{PlainStep, Accept, Deny, same_material}
 
 -- an Accept has the sorted indices of its context, and a Deny has none
@@ -15,9 +15,11 @@ HasIndices (Accept material limits) (Some indices) = AreSorted material.context 
 HasIndices (Deny reason) None = Unit {0}
 HasIndices (Deny reason) (Some indices) = ⊥
 
--- the same of indices that are shared
+-- the same of indices that are shared, and left out where all is few and stands in order
 abbrev pub IsIndexed : PlainStep → Option (Arc Sorted Global) → Type 0
-IsIndexed step indices = HasIndices step (option_map arc_value indices)
+IsIndexed (Accept material limits) indices =
+    AreSortedOr material.context (option_map arc_value indices)
+IsIndexed (Deny reason) indices = Unit {0}
 
 -- both accept, and what they accept is the same
 abbrev pub is_same_step : PlainStep → PlainStep → Bool

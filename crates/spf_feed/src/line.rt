@@ -16,7 +16,7 @@ ghost use Rattle.spf_feed.specs.Lines.{after_comma, hex_list, shown_at, choice_t
 ghost use Rattle.spf_feed.specs.Lines.{withdrawn_text};
 ghost use Rattle.spf_feed.specs.Shown.{entry_text, revocations_text, context_text, visible_text};
 ghost use Rattle.spf_feed.specs.Shown.{view_line, shown_text};
-ghost use Rattle.spf_feed.specs.Sorted.{AreIndexed, AreSorted};
+ghost use Rattle.spf_feed.specs.Sorted.{AreIndexed, AreSorted, listed};
 ghost use Rattle.spf_feed.specs.Standing.{view_in, IsKept};
 ghost use Rattle.spf_feed.specs.Steps.{is_accept};
 ghost use Rattle.spf_feed.specs.Numbered.{ShowsKept};
@@ -26,7 +26,7 @@ use crate::indices::Indices;
 use crate::picker::usable;
 use crate::prepared::Prepared;
 use crate::snapshot::Snapshot;
-use crate::sorted::Sorted;
+use crate::sorted::{Orders, next_order};
 use crate::standing::Standing;
 use crate::state::X509SourceState;
 use crate::step::Denial;
@@ -171,10 +171,8 @@ fn push_bundles(
 {
     let mut left = orders;
     for (domain, bundle) in set.iter() {
-        let Some((order, rest)) = left.split_first() else {
-            unreachable!()
-        };
-        push_bundle(line, domain, bundle.authorities(), order.as_slice())?;
+        let (order, rest) = next_order(left, bundle);
+        push_bundle(line, domain, bundle.authorities(), order)?;
         left = rest;
     }
     Ok(())
@@ -214,14 +212,14 @@ fn push_choice(line: &mut Vec<u8>, svid: Option<&Arc<X509Svid>>) -> Result<(), O
     Ok(())
 }
 
-/// Appends a context by its indices, and the choice that is shown.
+/// Appends a context by its orders, and the choice that is shown.
 fn push_context(
     line: &mut Vec<u8>,
     context: &X509Context,
-    indices: &Sorted,
+    orders: Orders<'_>,
     choice: Option<&Arc<X509Svid>>,
 ) -> Result<(), OutOfMemory>
-    requires { AreSorted context.now indices.now }
+    requires { AreSorted context.now (listed orders) }
     ensures text { OnOk result
         (line.new.items
         ≡ line.old.items
@@ -230,8 +228,8 @@ fn push_context(
 {
     line.extend_from_slice(b" permitted")?;
     push_choice(line, choice)?;
-    push_bundles(line, context.bundle_set(), indices.authorities.as_slice())?;
-    push_crls(line, context.crls(), indices.crls.as_slice())?;
+    push_bundles(line, context.bundle_set(), orders.authorities)?;
+    push_crls(line, context.crls(), orders.crls)?;
     Ok(())
 }
 
@@ -242,8 +240,8 @@ fn push_permitted(line: &mut Vec<u8>, held: &Prepared, now: Option<i64>) -> Resu
     ensures grows { vec_len line.old ≤ vec_len line.new }
 {
     let choice = usable(held.chosen(), now);
-    match (held.context(), held.sorted()) {
-        (Some(context), Some(indices)) => push_context(line, context, indices, choice),
+    match (held.context(), held.orders()) {
+        (Some(context), Some(orders)) => push_context(line, context, orders, choice),
         _ => unreachable!(),
     }
 }

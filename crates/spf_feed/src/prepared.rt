@@ -1,18 +1,18 @@
 //! A step with the indices of its context in order.
 
 ghost use Rattle.std.specs.Prelude.{◌≡◌, true, IsTrue, IfOk};
-ghost use Rattle.std.specs.Option.{option_map, option_and_then, option_copied};
+ghost use Rattle.std.specs.Option.{option_map, option_and_then};
 ghost use Rattle.std.specs.Arc.{arc_value};
 ghost use Rattle.std.specs.Ordering.{nat_cmp};
 ghost use Rattle.std.specs.Cmp.Lexicographic.{slice_cmp};
 ghost use Rattle.spf_x509.specs.Bundle.{find_entry};
 ghost use Rattle.spf_x509.specs.Order.{svid_cmp};
 ghost use Rattle.spf_feed.specs.Prepared.{is_same_step, HasIndices};
-ghost use Rattle.spf_feed.specs.Sorted.{AuthorityIndices, IndicesOf};
+ghost use Rattle.spf_feed.specs.Sorted.{AuthorityIndices, IndicesOf, listed};
 ghost use Rattle.spf_feed.specs.Steps.{plain, is_accept, material_in, chosen_of};
 
 use crate::picker::chosen;
-use crate::sorted::{Sorted, indices_in, is_equal, is_same, sorted_of};
+use crate::sorted::{Orders, Sorted, indices_in, is_equal, is_same, orders_of, sorted_of};
 use crate::step::Step;
 use spf_id::TrustDomain;
 use spf_io::OutOfMemory;
@@ -21,7 +21,8 @@ use std::alloc::Global;
 use std::marker::Model;
 use std::sync::Arc;
 
-/// A step with its sorted lists, which a clone shares. A Deny has none. Contracts see the step.
+/// A step with its sorted lists, which a clone shares. A Deny has none,
+/// nor has a context that stands in order. Contracts see the step.
 #[derive(Debug, Drop)]
 pub struct Prepared {
     step: Step,
@@ -47,7 +48,7 @@ impl Prepared {
         ensures { IfOk result (λ p. p ≡ plain step) }
     {
         let indices = match &step {
-            Step::Accept { context, .. } => { Some(Arc::new(alloc, sorted_of(alloc, context)?)?) }
+            Step::Accept { context, .. } => sorted_of(alloc, context)?,
             Step::Deny { .. } => None,
         };
         Ok(Prepared { step, indices })
@@ -70,8 +71,8 @@ impl Prepared {
         ensures { IndicesOf svid_cmp (option_map (λ m. m.context.svids) (material_in self.now))
             result.now }
     {
-        match &self.indices {
-            Some(indices) => indices.svids.as_slice(),
+        match self.orders() {
+            Some(orders) => orders.svids,
             None => &[],
         }
     }
@@ -82,9 +83,9 @@ impl Prepared {
             (option_and_then (λ m. find_entry td.now m.context.bundles) (material_in self.now))
             (option_map (λ p. p.now) result) }
     {
-        match (&self.step, &self.indices) {
-            (Step::Accept { context, .. }, Some(indices)) => {
-                indices_in(context.bundle_set(), indices.authorities.as_slice(), td)
+        match (&self.step, self.orders()) {
+            (Step::Accept { context, .. }, Some(orders)) => {
+                indices_in(context.bundle_set(), orders.authorities, td)
             }
             _ => None,
         }
@@ -95,8 +96,8 @@ impl Prepared {
         ensures { IndicesOf (slice_cmp nat_cmp)
             (option_map (λ m. m.context.crls) (material_in self.now)) result.now }
     {
-        match &self.indices {
-            Some(indices) => indices.crls.as_slice(),
+        match self.orders() {
+            Some(orders) => orders.crls,
             None => &[],
         }
     }
@@ -140,21 +141,21 @@ impl Prepared {
     pub(crate) fn is_same(&self, other: &Prepared) -> bool
         ensures { result ≡ is_same_step self.now other.now }
     {
-        match (&self.step, &self.indices, &other.step, &other.indices) {
+        match (&self.step, self.orders(), &other.step, other.orders()) {
             (
                 Step::Accept {
                     context: a,
                     choice: a_choice,
                     ..
                 },
-                Some(a_indices),
+                Some(a_orders),
                 Step::Accept {
                     context: b,
                     choice: b_choice,
                     ..
                 },
-                Some(b_indices),
-            ) => is_same(a, *a_choice, a_indices, b, *b_choice, b_indices),
+                Some(b_orders),
+            ) => is_same(a, *a_choice, a_orders, b, *b_choice, b_orders),
             _ => false,
         }
     }
@@ -165,12 +166,13 @@ impl Prepared {
         matches!(self.step, Step::Accept { .. })
     }
 
-    pub(crate) fn sorted(&self) -> Option<&Sorted>
-        ensures { HasIndices self.now (option_copied result) }
+    /// The orders of what is accepted.
+    pub(crate) fn orders(&self) -> Option<Orders<'_>>
+        ensures { HasIndices self.now (option_map listed result) }
     {
-        match &self.indices {
-            Some(indices) => Some(indices),
-            None => None,
+        match &self.step {
+            Step::Accept { context, .. } => Some(orders_of(context, &self.indices)),
+            Step::Deny { .. } => None,
         }
     }
 
