@@ -9,9 +9,9 @@ use spf_io::OutOfMemory;
 use spf_jwt::{JwtBundleSet, JwtResourceLimits, validate_jwt_limits};
 use spf_jwt_board::{
     BoardPlaces, Front, Jwt, JwtDesk, JwtEnded, JwtPass, JwtPlaces, PLACES, PlaceFault,
-    RefusingPlaces, SharedStep, Usable, open, settle,
+    RefusingPlaces, SharedStep, Usable, open, publish_on, settle,
 };
-use spf_jwt_feed::{JwtPublisher, JwtStep};
+use spf_jwt_feed::JwtStep;
 use spf_pass::Places;
 use std::alloc::Global;
 use std::snapshot::Snapshot;
@@ -51,7 +51,7 @@ fn withdraw<R: Wait + Drop>(alloc: Global, desk: &mut JwtDesk<R>) -> Result<(), 
     ensures { desk.new.book ≡ desk.old.book }
 {
     let reason = Arc::new(alloc, Denial::NoIdentityIssued)?;
-    desk.publish(JwtStep::Deny { reason })
+    publish_on(desk, JwtStep::Deny { reason })
 }
 
 // The promise that an ended writer is of the board of a front.

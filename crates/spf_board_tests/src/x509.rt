@@ -4,13 +4,13 @@ ghost use Rattle.std.specs.Prelude.{◌≡◌, ◌≢◌, Some, [], IfOk};
 ghost use Rattle.spf_history.specs.Lists.{steps_of};
 ghost use Rattle.spf_feed.specs.Steps.{MayFollow};
 
-use spf_feed::{Denial, Prepared, Publisher, ResourceLimits, Step, validate_limits};
+use spf_feed::{Denial, Prepared, ResourceLimits, Step, validate_limits};
 use spf_io::OutOfMemory;
 use spf_pass::Places;
 use spf_x509::{X509BundleSet, X509Context};
 use spf_x509_board::{
     BoardPlaces, Desk, Ended, Front, PLACES, Pass, PlaceFault, RefusingPlaces, UsableAt, X509,
-    open, settle,
+    open, publish_on, settle,
 };
 use std::alloc::Global;
 use std::snapshot::Snapshot;
@@ -53,7 +53,7 @@ fn withdraw<R: Wait + Drop>(alloc: Global, desk: &mut Desk<R>) -> Result<(), Out
     ensures { desk.new.book ≡ desk.old.book }
 {
     let reason = Arc::new(alloc, Denial::NoIdentityIssued)?;
-    desk.publish(Step::Deny { reason })
+    publish_on(alloc, desk, Step::Deny { reason })
 }
 
 // The promise that an ended writer is of the board of a front.

@@ -157,7 +157,7 @@ accepts_in _ = false
 -- ---- of an X.509 session
 
 abbrev pub Published : Option (List PlainStep) → Rules → List Event → Type 0
-Published steps rules run = IfSome steps (λ s. s ≡ steps_of (subject rules) run)
+Published steps rules run = PublishedBy (subject rules) steps run
 
 abbrev pub Going : Rules → List Event → Option (List PlainStep) → Option (Kept Material Denial)
     → Option ℤ → Phase → Bool → Type 0

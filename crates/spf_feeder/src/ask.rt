@@ -6,7 +6,7 @@ ghost use Rattle.spf_feeder.specs.Asking.{AsksFor, ClientAsked, StreamAsked, Ite
 ghost use Rattle.spf_feeder.specs.Asking.{connect_text, kind_wanted, refused_as};
 ghost use Rattle.spf_feeder.specs.Fed.{IsReadyFor};
 
-use crate::session::Session;
+use crate::session::{ItemOf, Session};
 use spf_api::{ClientFault, GrpcStatusCode, GrpcStatusError, LinkFault, TransportConnectError};
 use spf_feed::{Phase, SessionEvent};
 use spf_io::{OutOfMemory, Text};
@@ -95,9 +95,11 @@ fn ask_item<L: Link, S: Session>(
     alloc: Global,
     link: &mut L,
     session: &S,
-) -> Result<SessionEvent<S::Item>, OutOfMemory>
-    requires { L.kind link.old ≡ Some (kind_wanted (S.kind (S.given session.now)).wanted) }
-    ensures { ItemAsked (S.kind (S.given session.now)).wanted.item L.Link link.old result link.new }
+) -> Result<SessionEvent<ItemOf<S>>, OutOfMemory>
+    requires { L.kind link.old ≡ Some
+        (kind_wanted (S.Rules.kind (S.given session.now).rules).wanted) }
+    ensures { ItemAsked (S.Rules.kind (S.given session.now).rules).wanted.item L.Link link.old
+        result link.new }
 {
     match link.next() {
         Ok(Some(response)) => match session.item_of(response) {
@@ -116,12 +118,14 @@ pub(crate) fn ask<C: Connector, S: Session>(
     link: &mut Option<C::Link>,
     session: &S,
     phase: Phase,
-) -> Result<SessionEvent<S::Item>, OutOfMemory>
+) -> Result<SessionEvent<ItemOf<S>>, OutOfMemory>
 where
     C::Link: Drop,
-    requires { IsReadyFor (kind_wanted (S.kind (S.given session.now)).wanted) C.Link.kind phase
+    requires { IsReadyFor (kind_wanted (S.Rules.kind (S.given session.now).rules).wanted)
+        C.Link.kind phase
         link.old }
-    ensures { AsksFor (S.kind (S.given session.now)).wanted C.Connector C.Link.Link phase
+    ensures { AsksFor (S.Rules.kind (S.given session.now).rules).wanted C.Connector C.Link.Link
+        phase
         (record { connector = connector.old; link = link.old }) result
         (record { connector = connector.new; link = link.new }) }
 {

@@ -11,7 +11,7 @@ ghost use Rattle.spf_feeder.specs.Orderly.{GoesOn};
 ghost use Rattle.spf_feeder.specs.Orderly as spec;
 
 use crate::ask::ask;
-use crate::session::{Session, Stop};
+use crate::session::{ItemOf, Session, Stop};
 use spf_feed::{Phase, SessionEvent};
 use spf_io::OutOfMemory;
 use spf_link::Connector;
@@ -46,7 +46,7 @@ where
 
     ghost view = { λ f. fed f.connector f.link f.session f.first.value };
 
-    ghost invariant = { λ f. IsFed (S.kind (S.given f.session)) C.Connector C.Link.Link
+    ghost invariant = { λ f. IsFed (S.Rules.kind (S.given f.session).rules) C.Connector C.Link.Link
         (S.progress f.session) (record { connector = f.connector; link = f.link })
         f.first.value };
 }
@@ -80,7 +80,7 @@ where
 {
     /// Returns the feeder of a session whose events are what the asks so far took.
     pub fn feed<S: Session>(self, session: S) -> SessionFeeder<C, S>
-        requires fed { IsFed (S.kind (S.given session)) C.Connector C.Link.Link
+        requires fed { IsFed (S.Rules.kind (S.given session).rules) C.Connector C.Link.Link
             (S.progress session) self.asked self.first }
         ensures core { result.core ≡ session }
         ensures asked { result.asked ≡ self.asked }
@@ -117,7 +117,7 @@ where
     #[tactic(auto, unfolding(crate::specs::Coming::AllYieldedOf, crate::specs::Coming::left_of))]
     pub fn new(alloc: Global, connector: C, session: S) -> SessionFeeder<C, S>
         requires unused { (S.progress session).run ≡ [] }
-        requires client { (S.kind (S.given session)).ask [] ≡ Phase.Client }
+        requires client { (S.Rules.kind (S.given session).rules).ask [] ≡ Phase.Client }
         ensures core { result.core ≡ session }
         ensures first { result.first ≡ connector }
     {
@@ -139,14 +139,14 @@ where
     }
 
     /// Returns the events so far, oldest first.
-    pub fn events(&self) -> &[SessionEvent<S::Item>]
+    pub fn events(&self) -> &[SessionEvent<ItemOf<S>>]
         ensures { result.now ≡ (S.progress self.now.core).run }
     {
         self.session.events()
     }
 
     /// Returns the events so far, which contracts alone see.
-    pub fn noted_events(&self) -> snapshot::Snapshot<Vec<SessionEvent<S::Item>>>
+    pub fn noted_events(&self) -> snapshot::Snapshot<Vec<SessionEvent<ItemOf<S>>>>
         ensures { result.value.items ≡ (S.progress self.now.core).run }
     {
         self.session.noted_events()
@@ -155,7 +155,7 @@ where
     /// Whether an item was accepted.
     pub(crate) fn is_synced(&self) -> bool
         requires { (S.progress self.now.core).stuck ≡ false }
-        ensures { result ≡ has_synced (S.kind (S.given self.now.core)).subject
+        ensures { result ≡ has_synced (S.Rules.kind (S.given self.now.core).rules).subject
             (reverse (S.progress self.now.core).run) }
     {
         self.session.is_synced()
@@ -164,7 +164,7 @@ where
     /// Whether a client is asked for next.
     pub(crate) fn asks_client(&self) -> bool
         requires { (S.progress self.now.core).stuck ≡ false }
-        ensures { result ≡ is_client ((S.kind (S.given self.now.core)).ask
+        ensures { result ≡ is_client ((S.Rules.kind (S.given self.now.core).rules).ask
             (reverse (S.progress self.now.core).run)) }
     {
         matches!(self.session.phase(), Phase::Client)
@@ -183,9 +183,9 @@ where
         ensures given { S.given self.new.core ≡ S.given self.old.core }
         ensures first { self.new.first ≡ self.old.first }
         ensures asked { self.new.asked ≡ self.old.asked }
-        ensures ended { IfErr result (StopsFor (S.kind (S.given self.old.core))
+        ensures ended { IfErr result (StopsFor (S.Rules.kind (S.given self.old.core).rules)
             (S.progress self.new.core).run) }
-        ensures advances { AdvancesBy (S.kind (S.given self.old.core)) S.records
+        ensures advances { AdvancesBy (S.Rules.kind (S.given self.old.core).rules) S.records
             (S.progress self.old.core) (events.Moment moment) result (S.progress self.new.core) }
     {
         self.session.advance(SessionEvent::Moment(moment))
@@ -195,11 +195,13 @@ where
     pub(crate) fn ask_once(&mut self) -> Result<Option<AttemptEnd>, Stop>
         ensures given { S.given self.new.core ≡ S.given self.old.core }
         ensures first { self.new.first ≡ self.old.first }
-        ensures published { S.is_published self.new.core }
-        ensures ended { IfErr result (StopsFor (S.kind (S.given self.old.core))
+        ensures published { S.publishes (S.publisher self.new.core) (S.given self.new.core).rules
+            (S.progress self.new.core).run }
+        ensures ended { IfErr result (StopsFor (S.Rules.kind (S.given self.old.core).rules)
             (S.progress self.new.core).run) }
         ensures goes_on { GoesOn (S.progress self.old.core).run (S.progress self.new.core).run }
-        ensures turn { TurnsBy (S.kind (S.given self.old.core)) C.Connector C.Link.Link S.records
+        ensures turn { TurnsBy (S.Rules.kind (S.given self.old.core).rules) C.Connector C.Link.Link
+            S.records
             (with_core S.progress self.old) result (with_core S.progress self.new) }
     {
         if self.session.is_stuck() {
@@ -226,12 +228,15 @@ where
     pub fn turn(&mut self) -> Result<Option<AttemptEnd>, OutOfMemory>
         ensures given { S.given self.new.core ≡ S.given self.old.core }
         ensures first { self.new.first ≡ self.old.first }
-        ensures published { S.is_published self.new.core }
+        ensures published { S.publishes (S.publisher self.new.core) (S.given self.new.core).rules
+            (S.progress self.new.core).run }
         ensures yields { (S.progress self.new.core).stuck ≡ false
-            → IfSome (C.members self.new.first) (YieldsOf (S.kind (S.given self.new.core))
+            → IfSome (C.members self.new.first)
+            (YieldsOf (S.Rules.kind (S.given self.new.core).rules)
             C.members C.Link.answers (S.progress self.new.core).run self.new.asked) }
         ensures goes_on { GoesOn (S.progress self.old.core).run (S.progress self.new.core).run }
-        ensures turn { TurnsBy (S.kind (S.given self.old.core)) C.Connector C.Link.Link S.records
+        ensures turn { TurnsBy (S.Rules.kind (S.given self.old.core).rules) C.Connector C.Link.Link
+            S.records
             (with_core S.progress self.old) result (with_core S.progress self.new) }
     {
         let asked = self.ask_once();
@@ -250,7 +255,7 @@ where
         ensures session { result.0 ≡ self.core }
         ensures asked { result.1.asked ≡ self.asked }
         ensures first { result.1.first ≡ self.first }
-        ensures fed { IsFed (S.kind (S.given self.core)) C.Connector C.Link.Link
+        ensures fed { IsFed (S.Rules.kind (S.given self.core).rules) C.Connector C.Link.Link
             (S.progress self.core) self.asked self.first }
     {
         let SessionFeeder {
@@ -274,7 +279,7 @@ where
         ensures session { result ≡ self.core }
         ensures yielded { (S.progress self.core).stuck ≡ false
             → IfSome (C.members self.first) (λ members. AllYieldedOf
-            (S.kind (S.given self.core)) members (reverse (S.progress self.core).run)) }
+            (S.Rules.kind (S.given self.core).rules) members (reverse (S.progress self.core).run)) }
     {
         let SessionFeeder { session, .. } = self;
         session

@@ -20,7 +20,7 @@ pub use feeder::{Resting, SessionFeeder};
 pub use opening::{deadline_of, first_moment, open_session};
 pub use received::{beside_item, shared};
 pub use rules::Governs;
-pub use session::{Session, SessionParts, Stop};
+pub use session::{ItemOf, Session, SessionParts, Stop};
 pub use supervisor::supervise;
 pub use x509_rules::X509Rules;
 pub use x509_session::{Feeder, X509Session};

@@ -74,27 +74,27 @@ where
     H: Wait,
     requires going { (S.progress session).stuck ≡ false }
     requires unused { (S.progress session).run ≡ [] }
-    requires client { (S.kind (S.given session)).ask [] ≡ phases.Client }
+    requires client { (S.Rules.kind (S.given session).rules).ask [] ≡ phases.Client }
     ensures given { IfOk result (λ r. S.given r.0.core ≡ S.given session) }
     ensures first { IfOk result (λ r. r.0.first ≡ connector) }
     ensures going { IfOk result (λ r. (S.progress r.0.core).stuck ≡ false) }
-    ensures synced { IfOk result (λ r. has_synced (S.kind (S.given session)).subject
+    ensures synced { IfOk result (λ r. has_synced (S.Rules.kind (S.given session).rules).subject
         (reverse (S.progress r.0.core).run) ≡ true) }
-    ensures timed { IfOk result (λ r. IsTimedOf (S.kind (S.given session))
+    ensures timed { IfOk result (λ r. IsTimedOf (S.Rules.kind (S.given session).rules)
         (reverse (S.progress r.0.core).run)) }
-    ensures once { IfOk result (λ r. IsFirstStep (S.kind (S.given session))
+    ensures once { IfOk result (λ r. IsFirstStep (S.Rules.kind (S.given session).rules)
         (S.progress r.0.core).run) }
 
     // The moments after the first are those that the clock gave.
     ensures clock { IfOk result (λ r. GivesMoments (T.moments clock.old) (T.moments clock.new)
         (events.Moment first ∷ []) (S.progress r.0.core).run) }
     ensures bounds { IfOk result (λ r. r.1.bounds ≡ bounds) }
-    ensures paces { IfOk result (λ r. KeepsPaceOf (S.kind (S.given session))
+    ensures paces { IfOk result (λ r. KeepsPaceOf (S.Rules.kind (S.given session).rules)
         (S.progress r.0.core).run r.1) }
 
     // A terminal event came before anything was accepted.
-    ensures ended { IfErr result (λ stop. (run : List (SessionEvent S.Item))
-        × StopsFor (S.kind (S.given session)) run stop) }
+    ensures ended { IfErr result (λ stop. (run : List (SessionEvent S.Rules.Item))
+        × StopsFor (S.Rules.kind (S.given session).rules) run stop) }
 {
     let mut feeder = SessionFeeder::new(alloc, connector, session);
     if let Err(stop) = feeder.take_moment(first) {

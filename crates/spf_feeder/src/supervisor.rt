@@ -35,11 +35,12 @@ where
     ensures goes_on { GoesOn (S.progress feeder.old.core).run (S.progress feeder.new.core).run }
     ensures bounds { pace.new.bounds ≡ pace.old.bounds }
     ensures going { OnOk result ((S.progress feeder.new.core).stuck ≡ false) }
-    ensures adds { OnOk result (AddsAnswerTo (S.kind (S.given feeder.old.core)).ask
+    ensures adds { OnOk result (AddsAnswerTo (S.Rules.kind (S.given feeder.old.core).rules).ask
         (S.progress feeder.old.core).run (S.progress feeder.new.core).run) }
-    ensures paces { PacesOn (S.kind (S.given feeder.old.core)) (S.progress feeder.old.core).run
+    ensures paces { PacesOn (S.Rules.kind (S.given feeder.old.core).rules)
+        (S.progress feeder.old.core).run
         pace.old result (S.progress feeder.new.core).run pace.new }
-    ensures ended { IfErr result (StopsFor (S.kind (S.given feeder.old.core))
+    ensures ended { IfErr result (StopsFor (S.Rules.kind (S.given feeder.old.core).rules)
         (S.progress feeder.new.core).run) }
 {
     let was_synced = feeder.is_synced();
@@ -87,7 +88,7 @@ where
     W: Pause,
     H: Wait,
     requires going { (S.progress feeder.old.core).stuck ≡ false }
-    requires keeps { KeepsPaceOf (S.kind (S.given feeder.old.core))
+    requires keeps { KeepsPaceOf (S.Rules.kind (S.given feeder.old.core).rules)
         (S.progress feeder.old.core).run pace.old }
     ensures given { S.given feeder.new.core ≡ S.given feeder.old.core }
     ensures first { feeder.new.first ≡ feeder.old.first }
@@ -97,9 +98,10 @@ where
     // A caller closed this cell, and the delays are those of the run.
     ensures closed { IfSome result (λ c. (c.cell ≡ watch.now) × (c.maker ≡ Maker.Caller)
         × ((S.progress feeder.new.core).stuck ≡ false)
-        × KeepsPaceOf (S.kind (S.given feeder.old.core)) (S.progress feeder.new.core).run
+        × KeepsPaceOf (S.Rules.kind (S.given feeder.old.core).rules)
+        (S.progress feeder.new.core).run
         pace.new) }
-    ensures halted { IfNone result (Halted (S.kind (S.given feeder.old.core))
+    ensures halted { IfNone result (Halted (S.Rules.kind (S.given feeder.old.core).rules)
         (S.progress feeder.new.core).run pace.new) }
 {
     'turns: for _ in rt.forever() {

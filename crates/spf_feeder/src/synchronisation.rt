@@ -68,21 +68,21 @@ where
     W: Pause,
     H: Wait,
     requires going { (S.progress feeder.old.core).stuck ≡ false }
-    requires timed { IsOpening (S.kind (S.given feeder.old.core))
+    requires timed { IsOpening (S.Rules.kind (S.given feeder.old.core).rules)
         (S.progress feeder.old.core).run }
     ensures given { S.given feeder.new.core ≡ S.given feeder.old.core }
     ensures handed { feeder.new.first ≡ feeder.old.first }
     ensures asked { feeder.new.asked ≡ feeder.old.asked }
     ensures going { OnOk result ((S.progress feeder.new.core).stuck ≡ false) }
-    ensures timed { OnOk result (IsAboutToAsk (S.kind (S.given feeder.old.core))
+    ensures timed { OnOk result (IsAboutToAsk (S.Rules.kind (S.given feeder.old.core).rules)
         (S.progress feeder.new.core).run) }
     ensures clock { OnOk result (GivesMoments (T.moments clock.old) (T.moments clock.new)
         (S.progress feeder.old.core).run (S.progress feeder.new.core).run) }
-    ensures paces { (pace : Paces) → KeepsPaceOf (S.kind (S.given feeder.old.core))
+    ensures paces { (pace : Paces) → KeepsPaceOf (S.Rules.kind (S.given feeder.old.core).rules)
         (S.progress feeder.old.core).run pace
-        → OnOk result (KeepsPaceOf (S.kind (S.given feeder.old.core))
+        → OnOk result (KeepsPaceOf (S.Rules.kind (S.given feeder.old.core).rules)
         (S.progress feeder.new.core).run pace) }
-    ensures ended { IfErr result (StopsFor (S.kind (S.given feeder.old.core))
+    ensures ended { IfErr result (StopsFor (S.Rules.kind (S.given feeder.old.core).rules)
         (S.progress feeder.new.core).run) }
 {
     if !feeder.asks_client() || feeder.ends_with_moment() {
@@ -115,25 +115,25 @@ where
     W: Pause,
     H: Wait,
     requires going { (S.progress feeder.old.core).stuck ≡ false }
-    requires keeps { KeepsPaceOf (S.kind (S.given feeder.old.core))
+    requires keeps { KeepsPaceOf (S.Rules.kind (S.given feeder.old.core).rules)
         (S.progress feeder.old.core).run pace.old }
-    requires timed { IsOpening (S.kind (S.given feeder.old.core))
+    requires timed { IsOpening (S.Rules.kind (S.given feeder.old.core).rules)
         (S.progress feeder.old.core).run }
     ensures given { S.given feeder.new.core ≡ S.given feeder.old.core }
     ensures handed { feeder.new.first ≡ feeder.old.first }
-    ensures timed { OnOk result (IsTimedOf (S.kind (S.given feeder.old.core))
+    ensures timed { OnOk result (IsTimedOf (S.Rules.kind (S.given feeder.old.core).rules)
         (reverse (S.progress feeder.new.core).run)) }
-    ensures once { OnOk result (IsFirstStep (S.kind (S.given feeder.old.core))
+    ensures once { OnOk result (IsFirstStep (S.Rules.kind (S.given feeder.old.core).rules)
         (S.progress feeder.new.core).run) }
     ensures clock { OnOk result (GivesMoments (T.moments clock.old) (T.moments clock.new)
         (S.progress feeder.old.core).run (S.progress feeder.new.core).run) }
     ensures bounds { pace.new.bounds ≡ pace.old.bounds }
     ensures going { OnOk result ((S.progress feeder.new.core).stuck ≡ false) }
-    ensures synced { OnOk result (has_synced (S.kind (S.given feeder.old.core)).subject
+    ensures synced { OnOk result (has_synced (S.Rules.kind (S.given feeder.old.core).rules).subject
         (reverse (S.progress feeder.new.core).run) ≡ true) }
-    ensures paces { OnOk result (KeepsPaceOf (S.kind (S.given feeder.old.core))
+    ensures paces { OnOk result (KeepsPaceOf (S.Rules.kind (S.given feeder.old.core).rules)
         (S.progress feeder.new.core).run pace.new) }
-    ensures ended { IfErr result (StopsFor (S.kind (S.given feeder.old.core))
+    ensures ended { IfErr result (StopsFor (S.Rules.kind (S.given feeder.old.core).rules)
         (S.progress feeder.new.core).run) }
 {
     'asks: for _ in rt.forever() {

@@ -248,22 +248,6 @@ impl<P: Publisher + Drop, M: MetricsRecorder + Drop, K: SvidPicker + Drop> X509S
         }
     }
 
-    /// Returns the rules of the session.
-    pub fn rules(&self) -> &X509Rules<K>
-        ensures { result.now ≡ self.now.rules }
-    {
-        &self.rules
-    }
-
-    /// Returns the publisher, which has exactly the steps of the events.
-    pub fn publisher(&self) -> &P
-        ensures publisher { result.now ≡ self.now.publisher }
-        ensures published { Published (P.steps self.now.publisher)
-            (rules_by K.picks self.now.rules) self.now.run }
-    {
-        &self.publisher
-    }
-
     /// Returns the same with another publisher, which has published the same steps, and the
     /// publisher that it had until now.
     pub fn with_publisher<Q: Publisher + Drop>(self, publisher: Q) -> (X509Session<Q, M, K>, P)
@@ -295,69 +279,31 @@ impl<P: Publisher + Drop, M: MetricsRecorder + Drop, K: SvidPicker + Drop> X509S
         };
         (session, before)
     }
-
-    /// Returns what is left of a session that goes no further.
-    pub fn into_parts(self) -> SessionParts<P, X509Rules<K>>
-        ensures publisher { result.publisher ≡ self.publisher }
-        ensures events { result.events.items ≡ self.run }
-        ensures rules { result.rules ≡ self.rules }
-        ensures can_pick { ForSome self.rules.picker K.can_pick }
-        ensures published { Published (P.steps self.publisher)
-            (rules_by K.picks self.rules) self.run }
-        ensures orderly { IsOrderly (rules_by K.picks self.rules)
-            (reverse self.run) }
-    {
-        let X509Session {
-            publisher,
-            rules,
-            events,
-            ..
-        } = self;
-        SessionParts {
-            publisher,
-            events,
-            rules,
-        }
-    }
 }
 
 impl<P: Publisher + Drop, M: MetricsRecorder + Drop, K: SvidPicker + Drop> Session
     for X509Session<P, M, K> {
-    type Item = ContextResponse;
+    type Rules = X509Rules<K>;
 
-    ghost use Rattle.spf_feed.specs.declared.limits.ResourceLimits.{ResourceLimits};
-    ghost use Rattle.spf_feed.specs.declared.record.MetricsRecord.{MetricsRecord};
+    type Publisher = P;
+
     ghost use Rattle.spf_feed.specs.Items.{context_in};
     ghost use Rattle.spf_feed.specs.Run.{ask_of};
-    ghost use Rattle.spf_feed.specs.Steps.{Material};
-    ghost use Rattle.spf_feeder.specs.Kept.{AdvancesBy, Given, Published, given, progress};
+    ghost use Rattle.spf_feeder.specs.Kept.{AdvancesBy, Published, given, progress};
     ghost use Rattle.spf_feeder.specs.Governed.{kind_by, rules_by};
-    ghost use Rattle.spf_feeder.specs.declared.x509_rules.X509Rules.{X509Rules};
     ghost use Rattle.spf_feeder.specs.Orderly.{does_answer, is_moment};
-    ghost use Rattle.spf_feeder.specs.Laws as laws;
-
-    ghost Material = { Material };
-
-    ghost Limits = { ResourceLimits };
-
-    ghost Record = { MetricsRecord };
 
     ghost Recorder = { M };
 
     ghost records = { M.records };
 
-    ghost Given = { Given (X509Rules K) };
-
     ghost given = { given P.target };
-
-    ghost kind = { λ about. kind_by K.picks about.rules };
 
     ghost progress = { progress };
 
-    ghost is_published = { λ s. Published (P.steps s.publisher)
-        (rules_by K.picks s.rules) s.run };
+    ghost publisher = { λ s. s.publisher };
 
-    ghost lawful = { λ about. laws.lawful (rules_by K.picks about.rules) };
+    ghost publishes = { λ p rules run. Published (P.steps p) (rules_by K.picks rules) run };
 
     fn is_stuck(&self) -> bool {
         self.stuck
@@ -377,6 +323,14 @@ impl<P: Publisher + Drop, M: MetricsRecorder + Drop, K: SvidPicker + Drop> Sessi
 
     fn noted_events(&self) -> snapshot::Snapshot<Vec<Event>> {
         snapshot::Snapshot::of(&self.events)
+    }
+
+    fn rules(&self) -> &X509Rules<K> {
+        &self.rules
+    }
+
+    fn publisher(&self) -> &P {
+        &self.publisher
     }
 
     fn request(&self) -> Request {
@@ -432,5 +386,19 @@ impl<P: Publisher + Drop, M: MetricsRecorder + Drop, K: SvidPicker + Drop> Sessi
         record_all(&mut self.recorder, taken.records)?;
         self.stuck = false;
         Ok(taken.end)
+    }
+
+    fn into_parts(self) -> SessionParts<P, X509Rules<K>> {
+        let X509Session {
+            publisher,
+            rules,
+            events,
+            ..
+        } = self;
+        SessionParts {
+            publisher,
+            events,
+            rules,
+        }
     }
 }

@@ -9,11 +9,12 @@ mod places;
 mod shared_step;
 mod shown;
 
-pub use board::{open, settle};
-pub use desk::{JwtDesk, JwtEnded};
+pub use board::open;
+pub use desk::{DeskWriter, JwtDesk, JwtEnded, publish_on};
 pub use kind::{Jwt, JwtPass, Usable};
 pub use places::JwtPlaces;
 pub use shared_step::SharedStep;
 pub use shown::Shown;
 pub use spf_board::{BoardPlaces, PLACES, PlaceFault, RefusingPlaces};
 pub use spf_history::Front;
+pub use spf_pass::settle;

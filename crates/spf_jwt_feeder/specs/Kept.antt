@@ -1,12 +1,11 @@
 -- What is kept of a run: its events, oldest first, what it published, and where it stands.
-use Rattle.std.specs.Prelude.{◌≡◌, ℤ, Bool, IfSome, IsTrue, is_some, List, Option, Result}
+use Rattle.std.specs.Prelude.{ℤ, Bool, IsTrue, is_some, List, Option, Result}
 use Rattle.spf_view.specs.Standing.{Kept}
-use Rattle.spf_view.specs.Steps.{steps_of}
 use Rattle.spf_feed.specs.declared.phase.Phase.{Phase}
 use Rattle.spf_feed.specs.declared.step.Denial.{Denial}
 use Rattle.spf_feeder.specs.declared.session.Stop.{Stop}
 use Rattle.spf_feeder.specs.Kept.{Accepts, Denies, GoingBy, Passes, PlainTurn}
-use Rattle.spf_feeder.specs.Kept.{PublishesBy, Terminates, accepts_in}
+use Rattle.spf_feeder.specs.Kept.{PublishedBy, PublishesBy, Terminates, accepts_in}
 use Rattle.spf_jwt.specs.Bundle.{set_eq}
 use Rattle.spf_jwt.specs.declared.limits.JwtResourceLimits.{JwtResourceLimits}
 use Rattle.spf_jwt_feed.specs.declared.record.JwtMetricsRecord.{JwtMetricsRecord}
@@ -20,7 +19,7 @@ use Rattle.spf_jwt_feed.specs.Turns.{listed}
 use Rattle.spf_jwt_feeder.specs.Kinds.{jwt}
 
 abbrev pub Published : Option (List PlainStep) → Rules → List Event → Type 0
-Published steps rules run = IfSome steps (λ s. s ≡ steps_of (subject rules) run)
+Published steps rules run = PublishedBy (subject rules) steps run
 
 -- The last moment makes no difference to what is accepted, so it is not kept.
 abbrev pub Going : Rules → List Event → Option (List PlainStep) → Option (Kept BundleSet Denial)

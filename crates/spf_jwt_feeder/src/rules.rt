@@ -3,7 +3,7 @@
 use spf_api::BundlesResponse;
 use spf_feeder::Governs;
 use spf_jwt::JwtResourceLimits;
-use spf_jwt_feed::JwtStep;
+use spf_jwt_feed::{JwtMetricsRecord, JwtStep};
 
 /// The rules of a session, but for its limit of frames.
 #[derive(Clone, Copy, Debug, PartialEq, Eq)]
@@ -17,18 +17,20 @@ impl Governs for JwtRules {
 
     type Step = JwtStep;
 
+    type Record = JwtMetricsRecord;
+
     ghost use Rattle.spf_jwt.specs.declared.limits.JwtResourceLimits.{JwtResourceLimits};
-    ghost use Rattle.spf_jwt_feed.specs.declared.record.JwtMetricsRecord.{JwtMetricsRecord};
     ghost use Rattle.spf_jwt_feed.specs.Steps.{BundleSet, plain};
-    ghost use Rattle.spf_jwt_feeder.specs.Governed.{kind_of};
+    ghost use Rattle.spf_jwt_feeder.specs.Governed.{kind_of, rules_of};
+    ghost use Rattle.spf_jwt_feeder.specs.Laws as laws;
 
     ghost Material = { BundleSet };
 
     ghost Limits = { JwtResourceLimits };
 
-    ghost Record = { JwtMetricsRecord };
-
     ghost plain = { plain };
 
     ghost kind = { kind_of };
+
+    ghost lawful = { λ rules. laws.lawful (rules_of rules) };
 }

@@ -228,22 +228,6 @@ impl<P: JwtPublisher + Drop, M: JwtMetricsRecorder + Drop> JwtSession<P, M> {
         }
     }
 
-    /// Returns the rules of the session.
-    pub fn rules(&self) -> JwtRules
-        ensures { result ≡ self.now.rules }
-    {
-        self.rules
-    }
-
-    /// Returns the publisher, which has exactly the steps of the events.
-    pub fn publisher(&self) -> &P
-        ensures publisher { result.now ≡ self.now.publisher }
-        ensures published { Published (P.steps self.now.publisher)
-            (rules_of self.now.rules) self.now.run }
-    {
-        &self.publisher
-    }
-
     /// Returns the same with another publisher, which has published the same steps, and the
     /// publisher that it had until now.
     pub fn with_publisher<Q: JwtPublisher + Drop>(self, publisher: Q) -> (JwtSession<Q, M>, P)
@@ -275,67 +259,31 @@ impl<P: JwtPublisher + Drop, M: JwtMetricsRecorder + Drop> JwtSession<P, M> {
         };
         (session, before)
     }
-
-    /// Returns what is left of a session that goes no further.
-    pub fn into_parts(self) -> SessionParts<P, JwtRules>
-        ensures publisher { result.publisher ≡ self.publisher }
-        ensures events { result.events.items ≡ self.run }
-        ensures rules { result.rules ≡ self.rules }
-        ensures published { Published (P.steps self.publisher)
-            (rules_of self.rules) self.run }
-        ensures orderly { IsOrderly (rules_of self.rules)
-            (reverse self.run) }
-    {
-        let JwtSession {
-            publisher,
-            rules,
-            events,
-            ..
-        } = self;
-        SessionParts {
-            publisher,
-            events,
-            rules,
-        }
-    }
 }
 
 impl<P: JwtPublisher + Drop, M: JwtMetricsRecorder + Drop> Session for JwtSession<P, M> {
-    type Item = BundlesResponse;
+    type Rules = JwtRules;
 
-    ghost use Rattle.spf_jwt.specs.declared.limits.JwtResourceLimits.{JwtResourceLimits};
-    ghost use Rattle.spf_jwt_feed.specs.declared.record.JwtMetricsRecord.{JwtMetricsRecord};
-    ghost use Rattle.spf_feeder.specs.Kept.{AdvancesBy, Given, given, progress};
+    type Publisher = P;
+
+    ghost use Rattle.spf_feeder.specs.Kept.{AdvancesBy, given, progress};
     ghost use Rattle.spf_feeder.specs.Orderly.{does_answer, is_moment};
     ghost use Rattle.spf_jwt_feed.specs.Items.{item_in};
     ghost use Rattle.spf_jwt_feed.specs.Run.{ask_of};
-    ghost use Rattle.spf_jwt_feed.specs.Steps.{BundleSet};
-    ghost use Rattle.spf_jwt_feeder.specs.declared.rules.JwtRules.{JwtRules};
     ghost use Rattle.spf_jwt_feeder.specs.Governed.{kind_of, rules_of};
     ghost use Rattle.spf_jwt_feeder.specs.Kept.{Published};
-    ghost use Rattle.spf_jwt_feeder.specs.Laws as laws;
-
-    ghost Material = { BundleSet };
-
-    ghost Limits = { JwtResourceLimits };
-
-    ghost Record = { JwtMetricsRecord };
 
     ghost Recorder = { M };
 
     ghost records = { M.records };
 
-    ghost Given = { Given JwtRules };
-
     ghost given = { given P.target };
-
-    ghost kind = { λ about. kind_of about.rules };
 
     ghost progress = { progress };
 
-    ghost is_published = { λ s. Published (P.steps s.publisher) (rules_of s.rules) s.run };
+    ghost publisher = { λ s. s.publisher };
 
-    ghost lawful = { λ about. laws.lawful (rules_of about.rules) };
+    ghost publishes = { λ p rules run. Published (P.steps p) (rules_of rules) run };
 
     fn is_stuck(&self) -> bool {
         self.stuck
@@ -355,6 +303,14 @@ impl<P: JwtPublisher + Drop, M: JwtMetricsRecorder + Drop> Session for JwtSessio
 
     fn noted_events(&self) -> snapshot::Snapshot<Vec<JwtEvent>> {
         snapshot::Snapshot::of(&self.events)
+    }
+
+    fn rules(&self) -> &JwtRules {
+        &self.rules
+    }
+
+    fn publisher(&self) -> &P {
+        &self.publisher
     }
 
     fn request(&self) -> Request {
@@ -408,5 +364,19 @@ impl<P: JwtPublisher + Drop, M: JwtMetricsRecorder + Drop> Session for JwtSessio
         record_all(&mut self.recorder, taken.records)?;
         self.stuck = false;
         Ok(taken.end)
+    }
+
+    fn into_parts(self) -> SessionParts<P, JwtRules> {
+        let JwtSession {
+            publisher,
+            rules,
+            events,
+            ..
+        } = self;
+        SessionParts {
+            publisher,
+            events,
+            rules,
+        }
     }
 }

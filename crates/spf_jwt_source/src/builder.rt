@@ -4,8 +4,7 @@ ghost use Rattle.std.specs.Prelude.{◌≡◌, ◌≤◌, Err, IfErr, IfOk, None
 ghost use Rattle.spf_jwt_source.specs.Building.{BuildFails, IsAssigned, IsBuilt, IsDefault};
 ghost use Rattle.spf_jwt_source.specs.Building.{PrepareFails};
 
-use crate::handle::{JwtPendingHandle, JwtSupervisorHandle};
-use crate::job::JwtJob;
+use crate::handle::{JwtJob, JwtPendingHandle, JwtSupervisorHandle};
 use crate::opening::{joined, synchronised};
 use crate::source::JwtSource;
 use rand_core::Rng;

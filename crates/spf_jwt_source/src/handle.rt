@@ -1,15 +1,18 @@
-//! The handle of a supervisor that was started, and its record.
+//! The supervisor of a source: its job, its handle and its record.
 
-use crate::job::{JwtDone, JwtJob};
-use rand_core::Rng;
-use spf_io::OutOfMemory;
-use spf_jwt_board::{Jwt, JwtPass};
-use spf_jwt_feed::JwtMetricsRecorder;
-use spf_jwt_feeder::JwtRules;
-use spf_link::Connector;
-use spf_supervisor::{Supervised, Supervises};
-use spf_system::Pause;
-use std::sync::Wait;
+use crate::publishing::BoardPublisher;
+use spf_jwt_board::Jwt;
+use spf_jwt_feeder::{JwtRules, JwtSession};
+use spf_supervisor::{Supervised, SupervisorDone, SupervisorJob, Task};
+
+/// What the thread of a supervisor does.
+pub type JwtJob<C, M, W, N, R> = SupervisorJob<C, Jwt, JwtSession<BoardPublisher<R>, M>, W, N, R>;
+
+/// What a supervisor leaves.
+pub type JwtDone<M, R> = SupervisorDone<Jwt, JwtSession<BoardPublisher<R>, M>>;
+
+/// What a supervisor is given, its connector aside. Contracts alone see it.
+pub type JwtTask = Task<Jwt, JwtRules>;
 
 /// What the handle of a supervisor needs besides the handle of its started job.
 pub type JwtPendingHandle = spf_supervisor::PendingHandle<Jwt>;
@@ -21,31 +24,3 @@ pub type JwtSupervised = Supervised<JwtRules>;
 /// The handle of a started supervisor. It stays with the thread that built the source. Dropping it
 /// leaves the supervisor running.
 pub type JwtSupervisorHandle<J, H> = spf_supervisor::SupervisorHandle<Jwt, J, H>;
-
-impl<C, M, W, N, R> Supervises<Jwt> for JwtJob<C, M, W, N, R>
-where
-    C: Connector + Drop,
-    C::Link: Drop,
-    M: JwtMetricsRecorder + Drop,
-    W: Pause + Drop,
-    N: Rng + Drop,
-    R: Wait + Drop,
-{
-    type Record = JwtSupervised;
-
-    ghost use Rattle.std.specs.Prelude.{map};
-    ghost use Rattle.spf_jwt_feed.specs.Steps.{plain};
-    ghost use Rattle.spf_jwt_source.specs.Records.{IsOf, IsRecord};
-
-    ghost board = { λ job. job.board };
-
-    ghost is_of = { IsOf C.members };
-
-    ghost is_record = { IsRecord };
-
-    ghost steps = { λ r. map plain r.steps };
-
-    fn into_record(done: JwtDone<R>, pass: &mut JwtPass) -> Result<JwtSupervised, OutOfMemory> {
-        done.into_record(pass)
-    }
-}

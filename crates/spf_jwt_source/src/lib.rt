@@ -4,16 +4,13 @@
 
 mod builder;
 mod handle;
-mod job;
 mod opening;
 mod publishing;
 mod sockets;
 mod source;
-mod task;
 
 pub use builder::{JwtSettings, JwtSourceBuilder};
-pub use handle::{JwtPendingHandle, JwtSupervised, JwtSupervisorHandle};
-pub use job::{JwtDone, JwtJob};
+pub use handle::{JwtDone, JwtJob, JwtPendingHandle, JwtSupervised, JwtSupervisorHandle, JwtTask};
+pub use publishing::BoardPublisher;
 pub use source::{JwtSource, JwtSourceUpdates};
 pub use spf_supervisor::SupervisorEnd;
-pub use task::JwtTask;

@@ -16,14 +16,14 @@ ghost use Rattle.spf_jwt_source.specs.Building.{stopped_as};
 ghost use Rattle.spf_jwt_source.specs.Reads.{HasPlaceCause};
 
 use crate::builder::JwtSettings;
-use crate::job::JwtJob;
+use crate::handle::JwtJob;
 use crate::publishing::BoardPublisher;
 use crate::source::JwtSource;
 use rand_core::Rng;
 use spf_api::{EndpointError, WorkloadApiError};
-use spf_close::{Bell, Cells, Closing, JobCells, SourceCells};
+use spf_close::{Bell, Cells, Closing, SourceCells};
 use spf_feed::Terminal;
-use spf_feeder::{Stop, deadline_of, first_moment, open_session};
+use spf_feeder::{Session, Stop, deadline_of, first_moment, open_session};
 use spf_io::OutOfMemory;
 use spf_jwt_board::{Front, Jwt, JwtDesk, JwtPass, JwtPlaces, SharedStep, open};
 use spf_jwt_feed::{JwtMetricsRecorder, JwtSourceError, JwtStep, MemJwtPublisher};
@@ -31,7 +31,7 @@ use spf_jwt_feeder::{JwtFeeder, JwtRules, JwtSession};
 use spf_link::Connector;
 use spf_pace::Pace;
 use spf_pass::placed;
-use spf_supervisor::make_ready;
+use spf_supervisor::{SupervisorJob, make_ready};
 use spf_system::{Clock, Pause, StopFlag};
 use std::alloc::Global;
 use std::mem::drop;
@@ -278,21 +278,7 @@ where
             return Err(JwtSourceError::OutOfMemory);
         }
     };
-    let JobCells {
-        watch,
-        closer,
-        bell,
-    } = kept;
-    let job = JwtJob {
-        feeder,
-        pace,
-        pause,
-        random,
-        watch,
-        closer,
-        bell,
-        rt,
-    };
+    let job = SupervisorJob::new(rt, feeder, pace, pause, random, kept);
     match source_of(alloc, front, ends, first, places) {
         Ok((source, pass)) => Ok((source, pass, closing, job)),
         Err(e) => {

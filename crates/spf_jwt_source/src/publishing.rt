@@ -7,8 +7,10 @@ ghost use Rattle.spf_jwt_feed.specs.Steps.{MayFollow, plain};
 
 use spf_close::Bell;
 use spf_io::OutOfMemory;
-use spf_jwt_board::{Front, Jwt, JwtDesk, JwtEnded};
-use spf_jwt_feed::{JwtPublisher, JwtStep};
+use spf_jwt_board::{Front, Jwt, JwtDesk, JwtEnded, JwtPass, publish_on, settle};
+use spf_jwt_feed::{JwtMetricsRecorder, JwtPublisher, JwtStep};
+use spf_jwt_feeder::JwtSession;
+use spf_supervisor::Finishes;
 use std::marker::Model;
 use std::sync::Wait;
 
@@ -49,28 +51,6 @@ impl<R: Wait + Drop> BoardPublisher<R> {
             is_refused: false,
         }
     }
-
-    /// What is published.
-    pub(crate) fn front(&self) -> Front<Jwt>
-        ensures { result ≡ self.now }
-    {
-        self.desk.front()
-    }
-
-    /// Publishes the end, and returns the steps.
-    pub(crate) fn finish(self) -> (JwtEnded<R>, Vec<JwtStep>)
-        ensures steps { map plain result.1.items ≡ steps_of self.list }
-        ensures board { (result.0.book ≡ self.book)
-            × (steps_of result.0.list ≡ steps_of self.list) }
-    {
-        let BoardPublisher {
-            desk,
-            steps,
-            bell: _bell,
-            is_refused,
-        } = self;
-        (ended(desk, is_refused), steps)
-    }
 }
 
 /// What publishes nothing more. The end is published, unless a step was refused.
@@ -99,7 +79,7 @@ impl<R: Wait + Drop> JwtPublisher for BoardPublisher<R> {
     {
         self.steps.reserve(1)?;
         let kept = step.try_clone()?;
-        match self.desk.publish(step) {
+        match publish_on(&mut self.desk, step) {
             Ok(()) => {
                 self.steps.push_reserved(kept);
                 self.bell.ring();
@@ -111,4 +91,44 @@ impl<R: Wait + Drop> JwtPublisher for BoardPublisher<R> {
             }
         }
     }
+}
+
+impl<R: Wait + Drop, M: JwtMetricsRecorder + Drop> Finishes<Jwt, JwtSession<BoardPublisher<R>, M>>
+    for BoardPublisher<R> {
+    type Ended = JwtEnded<R>;
+
+    ghost use Rattle.std.specs.Prelude.{◌≡◌, refl, map};
+    ghost use Rattle.spf_history.specs.Lists.{steps_of};
+    ghost use Rattle.spf_jwt_feed.specs.Steps.{plain};
+
+    ghost board = { λ p. p.book };
+
+    ghost past = { λ ended. ended };
+
+    ghost shown = { plain };
+
+    fn front(&self) -> Front<Jwt> {
+        self.desk.front()
+    }
+
+    fn finish(self) -> (JwtEnded<R>, Vec<JwtStep>)
+        ensures steps { map plain result.1.items ≡ steps_of self.list }
+        ensures board { (result.0.book ≡ self.book)
+            × (steps_of result.0.list ≡ steps_of self.list) }
+    {
+        let BoardPublisher {
+            desk,
+            steps,
+            bell: _bell,
+            is_refused,
+        } = self;
+        (ended(desk, is_refused), steps)
+    }
+
+    fn settle(ended: JwtEnded<R>, pass: &mut JwtPass) -> Result<(), OutOfMemory> {
+        settle(ended, pass)?;
+        Ok(())
+    }
+
+    ghost named = { λ session. refl };
 }

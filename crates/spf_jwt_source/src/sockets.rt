@@ -9,8 +9,7 @@ ghost use Rattle.spf_jwt_source.specs.Building.{FailsByDefault, IsAssignedByDefa
 ghost use Rattle.spf_jwt_source.specs.Building.{IsBuilt, IsDefault};
 
 use crate::builder::JwtSourceBuilder;
-use crate::handle::JwtSupervisorHandle;
-use crate::job::JwtJob;
+use crate::handle::{JwtJob, JwtSupervisorHandle};
 use crate::source::JwtSource;
 use rand_core::Rng;
 use spf_io::OutOfMemory;

@@ -10,8 +10,8 @@ use spf_feed::Denial;
 use spf_id::TrustDomain;
 use spf_io::OutOfMemory;
 use spf_jwt::{JwtBundleSet, JwtResourceLimits, jwt_bundle_set_from, validate_jwt_limits};
-use spf_jwt_board::{BoardPlaces, JwtDesk, JwtPass, RefusingPlaces, SharedStep, open};
-use spf_jwt_feed::{JwtPublisher, JwtSourceError, JwtStep};
+use spf_jwt_board::{BoardPlaces, JwtDesk, JwtPass, RefusingPlaces, SharedStep, open, publish_on};
+use spf_jwt_feed::{JwtSourceError, JwtStep};
 use spf_jwt_source::{JwtSource, JwtSourceUpdates};
 use spf_system::StopFlag;
 use std::alloc::Global;
@@ -88,7 +88,7 @@ fn withdraw<R: Wait + Drop>(alloc: Global, desk: &mut JwtDesk<R>) -> Result<(), 
     requires { steps_of desk.old.list ≢ [] }
 {
     let reason = Arc::new(alloc, Denial::NoIdentityIssued)?;
-    desk.publish(JwtStep::Deny { reason })
+    publish_on(desk, JwtStep::Deny { reason })
 }
 
 /// What a getter returned.

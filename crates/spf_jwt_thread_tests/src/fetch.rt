@@ -2,16 +2,18 @@
 
 ghost use Rattle.std.specs.Prelude.{◌≡◌};
 
-use crate::live::{InlineHandle, built_inline, records_opening};
+use crate::live::{built_by, records_opening};
+use crate::on_thread::JwtAgentJob;
 use spf_agent::{Agent, AgentConnector, Scene};
 use spf_api::WorkloadApiError;
 use spf_fixtures::TOKEN1;
 use spf_io::Text;
+use spf_job::{InlineSpawner, Joins, Spawner};
 use spf_jwt::JwtSvid;
 use spf_jwt_board::JwtPass;
 use spf_jwt_client::JwtFetcher;
 use spf_jwt_feed::JwtSourceError;
-use spf_jwt_source::JwtSource;
+use spf_jwt_source::{JwtSource, JwtSupervisorHandle};
 use std::mem::drop;
 use std::sync::Wait;
 use std::test::Fail;
@@ -90,11 +92,11 @@ fn is_opening(source: &JwtSource, pass: &mut JwtPass) -> bool
 
 /// Whether one fetch is granted and the next one denied, and the source and its record are as
 /// without them.
-fn is_left_by_fetches<R: Wait + Copy + Drop>(
+fn is_left_by_fetches<R: Wait + Copy + Drop, H: Joins<JwtAgentJob<R>> + Drop>(
     host: HostRuntime,
     source: JwtSource,
     pass: JwtPass,
-    handle: InlineHandle<R>,
+    handle: JwtSupervisorHandle<JwtAgentJob<R>, H>,
     path: &str,
 ) -> bool
     requires pass { pass.book ≡ source.board }
@@ -110,8 +112,13 @@ fn is_left_by_fetches<R: Wait + Copy + Drop>(
 }
 
 /// Whether it is so of a source of the agent at this path.
-fn is_found<R: Wait + Copy + Drop>(host: HostRuntime, rt: R, path: &str) -> bool {
-    match built_inline(host, rt, path) {
+fn is_found<R, S>(host: HostRuntime, rt: R, path: &str, spawner: &mut S) -> bool
+where
+    R: Wait + Copy + Drop,
+    S: Spawner<JwtAgentJob<R>>,
+    S::Handle: Drop,
+{
+    match built_by(host, rt, path, spawner) {
         Ok((source, pass, handle)) => is_left_by_fetches(host, source, pass, handle, path),
         Err(_) => false,
     }
@@ -121,7 +128,7 @@ fn is_found<R: Wait + Copy + Drop>(host: HostRuntime, rt: R, path: &str) -> bool
 #[test]
 fn fetches_leave_the_bundles(rt: HostRuntime) -> Result<(), Fail> {
     let agent = Agent::start(rt, &rt, "jwt_fetch", &GRANT_AND_DENIAL)?;
-    let is_found = is_found(rt, rt, agent.path());
+    let is_found = is_found(rt, rt, agent.path(), &mut InlineSpawner);
     agent.end(rt, &rt)?;
     assert!(rt; is_found);
     Ok(())

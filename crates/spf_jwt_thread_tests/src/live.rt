@@ -5,7 +5,7 @@ ghost use Rattle.std.specs.Prelude.{◌≡◌, IfOk};
 use crate::on_thread::{JwtAgentJob, JwtOnThread, start_on_thread};
 use spf_agent::{Agent, AgentConnector, FixedClock, Scene, ShortPause, TURNS};
 use spf_io::Text;
-use spf_job::{HeldJob, InlineSpawner, StepWords};
+use spf_job::{InlineSpawner, Joins, Spawner, StepWords};
 use spf_jwt_board::{BoardPlaces, JwtPass};
 use spf_jwt_feed::{JwtSourceError, JwtStep};
 use spf_jwt_source::{JwtSource, JwtSupervised, JwtSupervisorHandle, SupervisorEnd};
@@ -15,8 +15,6 @@ use std::thread::{self, Threads};
 use std::time::Duration;
 
 type Handle<R> = JwtSupervisorHandle<JwtAgentJob<R>, JwtOnThread<R>>;
-
-pub(crate) type InlineHandle<R> = JwtSupervisorHandle<JwtAgentJob<R>, HeldJob<JwtAgentJob<R>>>;
 
 /// A source of the agent at this path, whose supervisor runs on a thread.
 fn built<R: Threads + Wait + Copy + Drop + Send + 'static>(
@@ -122,7 +120,10 @@ fn is_opening_record(record: &JwtSupervised) -> bool {
 }
 
 /// Whether the record of a supervisor, which this closes and then runs, is so.
-pub(crate) fn records_opening<R: Wait + Copy + Drop>(handle: InlineHandle<R>, pass: JwtPass) -> bool
+pub(crate) fn records_opening<R: Wait + Copy + Drop, H: Joins<JwtAgentJob<R>> + Drop>(
+    handle: JwtSupervisorHandle<JwtAgentJob<R>, H>,
+    pass: JwtPass,
+) -> bool
     requires { pass.book ≡ handle.job.board }
 {
     let mut pass = pass;
@@ -132,12 +133,24 @@ pub(crate) fn records_opening<R: Wait + Copy + Drop>(handle: InlineHandle<R>, pa
     }
 }
 
-/// A source of the agent at this path, whose supervisor runs where it is joined.
-pub(crate) fn built_inline<R: Wait + Copy + Drop>(
+/// A source of the agent at this path, whose supervisor is started by this.
+pub(crate) fn built_by<R, S>(
     host: HostRuntime,
     rt: R,
     path: &str,
-) -> Result<(JwtSource, JwtPass, InlineHandle<R>), JwtSourceError>
+    spawner: &mut S,
+) -> Result<
+    (
+        JwtSource,
+        JwtPass,
+        JwtSupervisorHandle<JwtAgentJob<R>, S::Handle>,
+    ),
+    JwtSourceError,
+>
+where
+    R: Wait + Copy + Drop,
+    S: Spawner<JwtAgentJob<R>>,
+    S::Handle: Drop,
     ensures pass { IfOk result (λ r. r.1.book ≡ r.0.board) }
     ensures job { IfOk result (λ r. r.2.job.board ≡ r.0.board) }
 {
@@ -149,14 +162,19 @@ pub(crate) fn built_inline<R: Wait + Copy + Drop>(
         &mut FixedClock,
         ShortPause::new(host),
         StepWords::new(0),
-        &mut InlineSpawner,
+        spawner,
         &mut BoardPlaces::new(),
     )
 }
 
 /// Whether the record of such a source is so.
-fn is_found_inline<R: Wait + Copy + Drop>(host: HostRuntime, rt: R, path: &str) -> bool {
-    match built_inline(host, rt, path) {
+fn is_recorded_by<R, S>(host: HostRuntime, rt: R, path: &str, spawner: &mut S) -> bool
+where
+    R: Wait + Copy + Drop,
+    S: Spawner<JwtAgentJob<R>>,
+    S::Handle: Drop,
+{
+    match built_by(host, rt, path, spawner) {
         Ok((_source, pass, handle)) => records_opening(handle, pass),
         Err(_) => false,
     }
@@ -188,7 +206,7 @@ fn jwt_live_record(rt: HostRuntime) -> Result<(), Fail> {
 #[test]
 fn jwt_inline_record(rt: HostRuntime) -> Result<(), Fail> {
     let agent = Agent::start(rt, &rt, "jwt_inline_record", &DENIAL)?;
-    let is_found = is_found_inline(rt, rt, agent.path());
+    let is_found = is_recorded_by(rt, rt, agent.path(), &mut InlineSpawner);
     agent.end(rt, &rt)?;
     assert!(rt; is_found);
     Ok(())

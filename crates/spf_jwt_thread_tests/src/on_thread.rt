@@ -18,7 +18,7 @@ pub type JwtAgentJob<R> = JwtJob<AgentConnector, NoRecorder, ShortPause, StepWor
 /// A job on its thread.
 #[derive(Drop)]
 pub struct JwtOnThread<R: Threads + Wait + Copy + Drop + Send + 'static> {
-    handle: PromisedHandle<JwtDone<R>, JwtTask>,
+    handle: PromisedHandle<JwtDone<NoRecorder, R>, JwtTask>,
     job: Snapshot<JwtAgentJob<R>>,
     rt: R,
     ghost promised: { handle.promise ≡ task_of job.value },
@@ -27,7 +27,7 @@ pub struct JwtOnThread<R: Threads + Wait + Copy + Drop + Send + 'static> {
 impl<R: Threads + Wait + Copy + Drop + Send + 'static> Joins<JwtAgentJob<R>> for JwtOnThread<R> {
     ghost job = { λ h. h.job.value };
 
-    fn join(self) -> JwtDone<R> {
+    fn join(self) -> JwtDone<NoRecorder, R> {
         let JwtOnThread { handle, rt, .. } = self;
         handle.join(&rt)
     }

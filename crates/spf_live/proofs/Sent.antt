@@ -1,94 +1,55 @@
--- The job of a live run may be sent to a thread.
+-- The feeder of a live run may be sent to a thread.
 use denote.RattleType.{RattleType}
-use denote.Param.Send.{IsSend, AllSend, recorded_send, struct_send, sendable}
-use denote.Struct.Declared.{fields, shape}
-use denote.Struct.Tuple.{TupleAt, type_at}
-use mathlib.Core.List.{[], ◌∷◌}
-use mir.Syntax.{Sym}
+use denote.Param.Send.{IsSend, sendable}
 use Rattle.std.specs.declared.sync.Wait.{Ghosts}
 use Rattle.std.proofs.Crossing.{crosses}
-use Rattle.spf_feed.specs.contracts.picker.HintPicker as HintPicker
-use Rattle.spf_feed.specs.contracts.picker.HintPickerSvidPicker.TheImpl as picks
+use Rattle.spf_api.specs.contracts.response.ContextResponse as ContextResponse
+use Rattle.spf_feed.specs.contracts.record.MetricsRecord as MetricsRecord
+use Rattle.spf_feed.specs.contracts.step.Step as Step
+use Rattle.spf_feeder.specs.contracts.feeder.SessionFeeder as SessionFeeder
+use Rattle.spf_feeder.specs.contracts.x509_rules.X509Rules as X509Rules
+use Rattle.spf_feeder.specs.contracts.x509_rules.X509RulesGoverns.TheImpl as governs
+use Rattle.spf_feeder.specs.contracts.x509_session.X509Session as X509Session
+use Rattle.spf_feeder.specs.contracts.x509_session.X509SessionSession.TheImpl as sessions
+use Rattle.spf_feeder.proofs.x509_session.X509Session.TheSendSync as session
+use Rattle.spiffe.specs.contracts.publishing.BoardPublisher as BoardPublisher
+use Rattle.spiffe.specs.contracts.publishing.BoardPublisherPublisher.TheImpl as publishes
+use Rattle.spiffe.proofs.publishing.BoardPublisher.TheSendSync as board
 use Rattle.spf_feed.specs.contracts.record.NoRecorder as NoRecorder
 use Rattle.spf_feed.specs.contracts.record.NoRecorderMetricsRecorder.TheImpl as records
-use Rattle.spf_job.specs.contracts.step_words.StepWords as StepWords
-use Rattle.spf_job.specs.contracts.step_words.StepWordsRng.TheImpl as draws
+use Rattle.spf_feed.specs.contracts.picker.HintPicker as HintPicker
+use Rattle.spf_feed.specs.contracts.picker.HintPickerSvidPicker.TheImpl as picks
 use Rattle.spf_live.specs.contracts.host.HostConnector as HostConnector
 use Rattle.spf_live.specs.contracts.host.HostConnectorConnector.TheImpl as connects
 use Rattle.spf_live.specs.contracts.host.HostLink as HostLink
 use Rattle.spf_live.specs.contracts.host.HostLinkLink.TheImpl as links
-use Rattle.spf_live.specs.contracts.host.HostPause as HostPause
-use Rattle.spf_live.specs.contracts.host.HostPausePause.TheImpl as pauses
-use Rattle.spiffe.specs.contracts.job.X509Job as X509Job
-use Rattle.spiffe.specs.contracts.job.X509Job.TheInside as inside
 use Rattle.spf_feed.proofs.picker.HintPicker.TheSendSync as picker
 use Rattle.spf_feed.proofs.record.NoRecorder.TheSendSync as recorder
-use Rattle.spf_pace.proofs.pace.Pace.TheSendSync as pace
-use Rattle.spf_feeder.proofs.x509_session.X509Session.TheSendSync as session
-use Rattle.spf_close.proofs.bell.Bell.TheSendSync as bell
-use Rattle.spf_close.proofs.cell.Closer.TheSendSync as closer
-use Rattle.spf_close.proofs.cell.Watch.TheSendSync as watch
-use Rattle.spf_job.proofs.step_words.StepWords.TheSendSync as words
-use Rattle.spiffe.proofs.publishing.BoardPublisher.TheSendSync as board
 use Rattle.spf_live.proofs.host.HostConnector.TheSendSync as connector
 use Rattle.spf_live.proofs.host.HostLink.TheSendSync as link
-use Rattle.spf_live.proofs.host.HostPause.TheSendSync as pause
 
 module _ (T : RattleType) (w : Ghosts T.Denot) (s : IsSend T) where
-  abbrev Inside : denote.Struct.Declared.Declared
-  Inside = inside.the_type HostConnector.the_row HintPicker.the_row NoRecorder.the_row
-      HostPause.the_row StepWords.the_row T HostLink.the_row connects.ghosts links.ghosts
-      picks.ghosts records.ghosts pauses.ghosts draws.ghosts w
-
-  board_send : IsSend (Rattle.spiffe.specs.contracts.publishing.BoardPublisher.the_row T)
+  board_send : IsSend (BoardPublisher.the_row T w)
   board_send = search (sendable, board.the_send, s)
 
-  fields_send : AllSend (fields Inside)
-  fields_send = (
-    search (
-      sendable,
-      crosses,
-      session.the_send,
-      board_send,
-      recorder.the_send,
-      picker.the_send,
-      connector.the_send,
-      link.the_send,
-    ) depth 40,
-    (
-      search (sendable, pace.the_field_send),
-      (
-        search (sendable, pause.the_send),
-        (
-          search (sendable, words.the_send),
-          (
-            search (sendable, watch.the_send),
-            (
-              search (sendable, closer.the_send),
-              (
-                search (sendable, bell.the_field_send),
-                (
-                  s,
-                  tt,
-                ),
-              ),
-            ),
-          ),
-        ),
-      ),
-    ),
-  )
-
-  pub job_send : IsSend (X509Job.the_row HostConnector.the_row HintPicker.the_row
-      NoRecorder.the_row HostPause.the_row StepWords.the_row T HostLink.the_row connects.ghosts
-      links.ghosts picks.ghosts records.ghosts pauses.ghosts draws.ghosts w)
-  job_send =
-      let all : IsSend (denote.Struct.Declared.row Inside) =
-      recorded_send _ _ _ Inside.to_one (struct_send (shape Inside) fields_send) in
-      search (sendable, all)
-
--- what captures one value may be sent as that value may
-pub capture_send : (name : Sym) (R : RattleType) → IsSend R → IsSend (TupleAt name (R ∷ []))
-capture_send name R s =
-    recorded_send _ _ _ (type_at name (R ∷ [])).to_one
-    (struct_send (shape (type_at name (R ∷ []))) (s, tt))
+  pub feeder_send : IsSend (SessionFeeder.the_field HostConnector.the_row
+      (X509Session.the_row (BoardPublisher.the_row T w) NoRecorder.the_row HintPicker.the_row
+      (publishes.ghosts T w publishes.no_dict publishes.no_dict) records.ghosts picks.ghosts)
+      HostLink.the_row (X509Rules.the_row HintPicker.the_row) (BoardPublisher.the_row T w)
+      ContextResponse.the_row Step.the_row MetricsRecord.the_row connects.ghosts links.ghosts
+      (sessions.ghosts (BoardPublisher.the_row T w) NoRecorder.the_row HintPicker.the_row
+      (publishes.ghosts T w publishes.no_dict publishes.no_dict) sessions.no_dict records.ghosts
+      sessions.no_dict picks.ghosts sessions.no_dict sessions.no_dict sessions.no_dict
+      sessions.no_dict)
+      (governs.ghosts HintPicker.the_row picks.ghosts governs.no_dict governs.no_dict)).row
+  feeder_send =
+      search (
+        sendable,
+        crosses,
+        session.the_send,
+        board_send,
+        recorder.the_send,
+        picker.the_send,
+        connector.the_send,
+        link.the_send,
+      ) depth 40

@@ -18,7 +18,7 @@ pub type HostJob<R> = X509Job<HostConnector, HintPicker, NoRecorder, HostPause, 
 /// A job on its thread.
 #[derive(Drop)]
 pub struct OnThread<R: Threads + Wait + Copy + Drop + Send + 'static> {
-    handle: PromisedHandle<X509Done<HintPicker, R>, Task<HintPicker>>,
+    handle: PromisedHandle<X509Done<HintPicker, NoRecorder, R>, Task<HintPicker>>,
     job: Snapshot<HostJob<R>>,
     rt: R,
     ghost promised: { handle.promise ≡ task_of job.value },
@@ -27,7 +27,7 @@ pub struct OnThread<R: Threads + Wait + Copy + Drop + Send + 'static> {
 impl<R: Threads + Wait + Copy + Drop + Send + 'static> Joins<HostJob<R>> for OnThread<R> {
     ghost job = { λ h. h.job.value };
 
-    fn join(self) -> X509Done<HintPicker, R> {
+    fn join(self) -> X509Done<HintPicker, NoRecorder, R> {
         let OnThread { handle, rt, .. } = self;
         handle.join(&rt)
     }

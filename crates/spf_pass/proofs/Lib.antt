@@ -1,2 +1,3 @@
 mod Reading
 pub mod Passing
+pub mod Publishing

@@ -1,3 +1,4 @@
 pub mod Passing
 pub mod Showing
 pub mod Sources
+pub mod Writers

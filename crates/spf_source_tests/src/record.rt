@@ -4,7 +4,7 @@ ghost use Rattle.std.specs.Prelude.{◌≡◌};
 
 use crate::building::{FixedClock, NoPause};
 use spf_feed::{NoPicker, NoRecorder, Step};
-use spf_job::{HeldJob, InlineSpawner, StepWords};
+use spf_job::{InlineSpawner, Joins, Spawner, StepWords};
 use spf_link::MemConnector;
 use spf_responses::{connector, good_link};
 use spf_x509_board::{BoardPlaces, Pass};
@@ -33,10 +33,11 @@ fn summary(record: &Supervised<NoPicker>) -> Shown {
 
 type InlineJob<R> = X509Job<MemConnector, NoPicker, NoRecorder, NoPause, StepWords, R>;
 
-type Handle<R> = SupervisorHandle<InlineJob<R>, HeldJob<InlineJob<R>>>;
-
 /// What the record of a supervisor shows, which this closes and runs.
-fn recorded<R: Wait + Copy + Drop>(handle: Handle<R>, pass: Pass) -> Option<Shown>
+fn recorded<R: Wait + Copy + Drop, H: Joins<InlineJob<R>> + Drop>(
+    handle: SupervisorHandle<InlineJob<R>, H>,
+    pass: Pass,
+) -> Option<Shown>
     requires { pass.book ≡ handle.job.board }
 {
     let mut pass = pass;
@@ -53,18 +54,24 @@ fn recorded<R: Wait + Copy + Drop>(handle: Handle<R>, pass: Pass) -> Option<Show
 }
 
 /// What the record of a supervisor shows whose source is of this connector.
-fn recorded_of<R: Wait + Copy + Drop>(
+fn recorded_of<R, S>(
     rt: R,
     alloc: Global,
     connector: MemConnector,
-) -> Option<Shown> {
+    spawner: &mut S,
+) -> Option<Shown>
+where
+    R: Wait + Copy + Drop,
+    S: Spawner<InlineJob<R>>,
+    S::Handle: Drop,
+{
     match X509Source::builder(connector).build(
         rt,
         alloc,
         &mut FixedClock,
         NoPause,
         StepWords::new(0),
-        &mut InlineSpawner,
+        spawner,
         &mut BoardPlaces::new(),
     ) {
         Ok((source, pass, handle)) => {
@@ -89,6 +96,6 @@ fn inline_record(rt: HostRuntime) -> Result<(), Fail> {
         accepts: true,
         is_closed: true,
     };
-    assert!(rt; recorded_of(rt, rt.alloc(), connector) == Some(wanted));
+    assert!(rt; recorded_of(rt, rt.alloc(), connector, &mut InlineSpawner) == Some(wanted));
     Ok(())
 }

@@ -7,15 +7,14 @@ ghost use Rattle.spf_feed.specs.Steps.{MayFollow};
 use spf_api::context_from;
 use spf_close::{Bell, closed_cell};
 use spf_feed::{
-    Denial, NoPicker, Prepared, Publisher, ResourceLimits, Step, X509SourceError, select_svid,
-    validate_limits,
+    Denial, NoPicker, Prepared, ResourceLimits, Step, X509SourceError, select_svid, validate_limits,
 };
 use spf_id::TrustDomain;
 use spf_io::OutOfMemory;
 use spf_responses::first_item;
 use spf_system::StopFlag;
 use spf_x509::X509Context;
-use spf_x509_board::{BoardPlaces, Desk, Pass, RefusingPlaces, open};
+use spf_x509_board::{BoardPlaces, Desk, Pass, RefusingPlaces, open, publish_on};
 use spiffe::{X509Source, X509SourceUpdates};
 use std::alloc::Global;
 use std::process::Abort;
@@ -248,7 +247,7 @@ pub(crate) fn withdraw<R: Wait + Drop>(alloc: Global, desk: &mut Desk<R>) -> Res
     requires { steps_of desk.old.list ≢ [] }
 {
     let reason = Arc::new(alloc, Denial::NoIdentityIssued)?;
-    desk.publish(Step::Deny { reason })
+    publish_on(alloc, desk, Step::Deny { reason })
 }
 
 /// What a wait for a revision returned.

@@ -1,3 +1,4 @@
 pub mod Leaving
 pub mod Recording
+pub mod Sending
 pub mod Unyielded

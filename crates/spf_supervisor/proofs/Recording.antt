@@ -8,7 +8,9 @@ use Rattle.spf_feed.specs.declared.event.SessionEvent.{SessionEvent}
 use Rattle.spf_feeder.specs.Coming.{AllYieldedOf}
 use Rattle.spf_feeder.specs.Kinds.{Kind}
 use Rattle.spf_feeder.specs.Orderly.{GoesOn}
-use Rattle.spf_supervisor.specs.Records.{AssignedOf, IsOfBy, RecordedOf}
+use Rattle.spf_supervisor.specs.Connectors.{unyielded}
+use Rattle.spf_supervisor.specs.Records.{AssignedOf, IsLeftByOf, IsOfBy, LeftOf, RecordedOf}
+use Rattle.spf_supervisor.specs.Records.{task_of}
 
 pub recorded_of_job : {S G I X M B R : Type 0} (members : S → Option (List Member))
     (kind : G → Kind I M B R) (job : AssignedOf S G I) (first : S) (run : List (SessionEvent I))
@@ -33,3 +35,24 @@ recorded_of_job {G = G} {I = I} members kind job first run rules pace closed (So
           (λ i. (sym is.1 i, sym is.0 i)) yielded);
       cell = ap (λ (k : Mark). k.cell) is.3 ∙ cell;
     }
+
+-- the same, where it is not known what the connector had to yield
+unyielded_record : {S G I X M B R : Type 0} (members : S → Option (List Member))
+    (kind : G → Kind I M B R) (job : AssignedOf S G I) (o : Option (RecordedOf G I X))
+    → IfSome o (IsOfBy members kind job) → IfSome o (IsOfBy unyielded kind (task_of job))
+unyielded_record members kind job None is = tt
+unyielded_record members kind job (Some r) is = record {
+  goes_on = is.goes_on;
+  rules = is.rules;
+  bounds = is.bounds;
+  yielded = tt;
+  cell = is.cell;
+}
+
+pub left_unyielded : {S G I X P M B R : Type 0} (members : S → Option (List Member))
+    (kind : G → Kind I M B R) (job : AssignedOf S G I) (done : LeftOf G I X P)
+    → IsLeftByOf members kind job done → IsLeftByOf unyielded kind (task_of job) done
+left_unyielded members kind job done is = record {
+  board = is.board;
+  record_is = unyielded_record members kind job done.recorded is.record_is;
+}

@@ -18,7 +18,7 @@ pub type AgentJob<R> = X509Job<AgentConnector, NoPicker, HeldRecorder, ShortPaus
 /// A job on its thread.
 #[derive(Drop)]
 pub struct OnThread<R: Threads + Wait + Copy + Drop + Send + 'static> {
-    handle: PromisedHandle<X509Done<NoPicker, R>, Task<NoPicker>>,
+    handle: PromisedHandle<X509Done<NoPicker, HeldRecorder, R>, Task<NoPicker>>,
     job: Snapshot<AgentJob<R>>,
     rt: R,
     ghost promised: { handle.promise ≡ task_of job.value },
@@ -27,7 +27,7 @@ pub struct OnThread<R: Threads + Wait + Copy + Drop + Send + 'static> {
 impl<R: Threads + Wait + Copy + Drop + Send + 'static> Joins<AgentJob<R>> for OnThread<R> {
     ghost job = { λ h. h.job.value };
 
-    fn join(self) -> X509Done<NoPicker, R> {
+    fn join(self) -> X509Done<NoPicker, HeldRecorder, R> {
         let OnThread { handle, rt, .. } = self;
         handle.join(&rt)
     }

@@ -3,12 +3,13 @@
 ghost use Rattle.std.specs.Prelude.{◌≡◌};
 
 use spf_agent::{Agent, AgentConnector, FixedClock, Scene, ShortPause};
-use spf_feed::X509SourceError;
+use spf_feed::{NoPicker, NoRecorder, X509SourceError};
 use spf_io::{OutOfMemory, Text};
-use spf_job::{InlineSpawner, StepWords};
+use spf_job::{InlineSpawner, Spawner, StepWords};
 use spf_system::{EnvValue, MemEnvironment, StdClock};
+use spf_wire::EnvConnector;
 use spf_x509_board::{BoardPlaces, Pass};
-use spiffe::X509Source;
+use spiffe::{X509Job, X509Source};
 use std::alloc::Global;
 use std::sync::Wait;
 use std::test::Fail;
@@ -17,12 +18,21 @@ use std::time::{Duration, Instant};
 /// An agent that takes a connection, and says nothing.
 static SILENCE: [Scene; 1] = [("", Some(""))];
 
+/// The job of a source over a connector of that kind.
+type OpenedJob<C, R> = X509Job<C, NoPicker, NoRecorder, ShortPause, StepWords, R>;
+
 /// Whether a source of an agent that says nothing times out after a second.
-fn times_out<R: Wait + Copy + Drop>(
+fn times_out<R, S>(
     host: HostRuntime,
     rt: R,
     path: &str,
-) -> Result<bool, OutOfMemory> {
+    spawner: &mut S,
+) -> Result<bool, OutOfMemory>
+where
+    R: Wait + Copy + Drop,
+    S: Spawner<OpenedJob<AgentConnector, R>>,
+    S::Handle: Drop,
+{
     let alloc = host.alloc();
     let connector = AgentConnector::to(host, alloc, Text::copy_of(alloc, path)?);
     let builder = X509Source::builder(connector).initial_sync_timeout(Duration::from_secs(1));
@@ -32,7 +42,7 @@ fn times_out<R: Wait + Copy + Drop>(
         &mut StdClock::new(host),
         ShortPause::new(host),
         StepWords::new(0),
-        &mut InlineSpawner,
+        spawner,
         &mut BoardPlaces::new(),
     );
     match built {
@@ -55,7 +65,7 @@ fn times_out<R: Wait + Copy + Drop>(
 fn silent_agent(rt: HostRuntime) -> Result<(), Fail> {
     let agent = Agent::start(rt, &rt, "silent_agent", &SILENCE)?;
     let begun = Instant::now(&rt);
-    let found = times_out(rt, rt, agent.path());
+    let found = times_out(rt, rt, agent.path(), &mut InlineSpawner);
     let taken = begun.and_then(|begun| begun.elapsed(&rt));
     agent.end(rt, &rt)?;
     assert!(rt; found == Ok(true));
@@ -87,7 +97,12 @@ fn environment_of(alloc: Global, path: &str) -> Result<MemEnvironment, OutOfMemo
 }
 
 /// Whether a source of the endpoint that this environment names opens with the first item.
-fn opens<R: Wait + Copy + Drop>(host: HostRuntime, rt: R, environment: MemEnvironment) -> bool {
+fn opens<R, S>(host: HostRuntime, rt: R, environment: MemEnvironment, spawner: &mut S) -> bool
+where
+    R: Wait + Copy + Drop,
+    S: Spawner<OpenedJob<EnvConnector<HostRuntime, MemEnvironment>, R>>,
+    S::Handle: Drop,
+{
     match X509Source::new(
         rt,
         host,
@@ -96,7 +111,7 @@ fn opens<R: Wait + Copy + Drop>(host: HostRuntime, rt: R, environment: MemEnviro
         &mut FixedClock,
         ShortPause::new(host),
         StepWords::new(0),
-        &mut InlineSpawner,
+        spawner,
         &mut BoardPlaces::new(),
     ) {
         Ok((source, mut pass, handle)) => {
@@ -118,7 +133,7 @@ fn opens<R: Wait + Copy + Drop>(host: HostRuntime, rt: R, environment: MemEnviro
 fn endpoint_of_the_environment(rt: HostRuntime) -> Result<(), Fail> {
     let agent = Agent::start(rt, &rt, "environment", &ITEM)?;
     let found = match environment_of(rt.alloc(), agent.path()) {
-        Ok(environment) => opens(rt, rt, environment),
+        Ok(environment) => opens(rt, rt, environment, &mut InlineSpawner),
         Err(OutOfMemory) => false,
     };
     agent.end(rt, &rt)?;

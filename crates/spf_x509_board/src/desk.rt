@@ -1,4 +1,4 @@
-//! The one writer of a board, while it publishes and once it has ended.
+//! The writer of a board of X.509 steps, and its desk.
 
 ghost use Rattle.std.specs.Prelude.{◌≡◌, ◌⊎◌, ◌++◌, ◌∷◌, [], false, drop, Some, OnOk, OnErr};
 ghost use Rattle.left_right.specs.Sides.{view};
@@ -6,19 +6,23 @@ ghost use Rattle.spf_history.specs.declared.entry.Entry.TheVariants as entry;
 ghost use Rattle.spf_history.specs.Lists.{steps_of, is_ended, IsBoardList};
 ghost use Rattle.spf_history.specs.Past.{added};
 ghost use Rattle.spf_board.specs.Desks.{IsRested};
+ghost use Rattle.spf_feed.specs.Records.{RecordAppends};
+ghost use Rattle.spf_feed.specs.Steps.{MayFollow, plain};
 ghost use Rattle.spf_x509_board.specs.Steps.{Legal, Replays};
 
 use crate::kind::X509;
 use spf_board::{PostWriter, publish_end, publish_step};
-use spf_feed::{Prepared, Publisher, Step};
+use spf_feed::{Prepared, Step};
 use spf_history::{Front, Scribe};
 use spf_io::OutOfMemory;
+use spf_pass::Writes;
 use std::alloc::Global;
 use std::marker::Model;
 use std::sync::Wait;
 
-// The writer with its scribe. Contracts see what it has published. Its drop waits for the readers.
-pub(crate) struct DeskWriter<R: Wait + Drop> {
+/// The writer of a board with its scribe. Contracts see what it has published. Its drop waits for
+/// the readers.
+pub struct DeskWriter<R: Wait + Drop> {
     writer: PostWriter<X509>,
     // There is none after a change that could not be published.
     scribe: Option<Scribe<X509>>,
@@ -67,6 +71,16 @@ impl<R: Wait + Drop> DeskWriter<R> {
             rt,
         }
     }
+}
+
+impl<R: Wait + Drop> Writes<X509> for DeskWriter<R> {
+    ghost use Rattle.std.specs.Prelude.{◌≡◌, ◌⊎◌, ◌++◌, ◌∷◌, [], false, OnOk, OnErr};
+    ghost use Rattle.spf_history.specs.declared.entry.Entry.TheVariants as entry;
+    ghost use Rattle.spf_history.specs.Lists.{steps_of, is_ended, IsBoardList};
+    ghost use Rattle.spf_history.specs.Past.{added};
+    ghost use Rattle.spf_x509_board.specs.Steps.{Legal};
+
+    ghost past = { λ writer. writer };
 
     fn front(&self) -> Front<X509>
         ensures { result ≡ self.now }
@@ -86,7 +100,6 @@ impl<R: Wait + Drop> DeskWriter<R> {
         (DeskWriter { writer, scribe, rt }, result)
     }
 
-    // Publishes the end, and returns whether it was published.
     fn end(self) -> (DeskWriter<R>, bool)
         requires { is_ended self.list ≡ false }
         ensures whole { result.1 ≡ is_ended result.0.list }
@@ -99,157 +112,22 @@ impl<R: Wait + Drop> DeskWriter<R> {
 }
 
 /// The one writer of a board. Contracts see what it has published.
-pub struct Desk<R: Wait + Drop> {
-    // There is one between two calls.
-    held: Option<DeskWriter<R>>,
-    alloc: Global,
-}
-
-impl<R: Wait + Drop> Model for Desk<R> {
-    ghost use Rattle.std.specs.Prelude.{◌≡◌, false, unwrap_or, IsSomeAnd};
-    ghost use Rattle.spf_history.specs.Lists.{is_ended, IsBoardList};
-    ghost use Rattle.spf_history.specs.Past.{Past};
-    ghost use Rattle.spf_feed.specs.Steps.{PlainStep};
-    ghost use Rattle.spf_board.specs.Desks.{no_past};
-    ghost use Rattle.spf_x509_board.specs.Steps.{Legal};
-
-    ghost Value = { Past PlainStep };
-
-    ghost view = { λ d. unwrap_or d.held no_past };
-
-    ghost invariant = { λ d. IsSomeAnd d.held
-        (λ p. (is_ended p.list ≡ false) × IsBoardList Legal p.list) };
-}
-
-impl<R: Wait + Drop> Drop for Desk<R> {
-    fn drop(self) {
-        let Self {
-            held: _held,
-            alloc: _,
-        } = self;
-    }
-}
-
-impl<R: Wait + Drop> Desk<R> {
-    pub(crate) fn new(alloc: Global, held: DeskWriter<R>) -> Desk<R>
-        requires unended { is_ended held.list ≡ false }
-        requires board { IsBoardList Legal held.list }
-        ensures { result ≡ held }
-    {
-        Desk {
-            held: Some(held),
-            alloc,
-        }
-    }
-
-    /// Returns what it has published.
-    pub fn front(&self) -> Front<X509>
-        ensures same { result ≡ self.now }
-        ensures board { IsBoardList Legal self.now.list }
-        ensures unended { is_ended self.now.list ≡ false }
-    {
-        match &self.held {
-            Some(held) => held.front(),
-            None => unreachable!(),
-        }
-    }
-
-    /// Publishes one step. After a refused publish nothing more is published.
-    pub fn put(&mut self, step: Prepared) -> Result<(), OutOfMemory>
-        requires { Legal (steps_of self.old.list ++ step ∷ []) }
-        ensures ok { OnOk result (self.new ≡ added self.old (entry.Step step)) }
-        ensures err { OnErr result (self.new ≡ self.old) }
-        ensures book { self.new.book ≡ self.old.book }
-    {
-        let Some(held) = self.held.take() else {
-            unreachable!()
-        };
-        let (held, result) = held.put(step);
-        self.held = Some(held);
-        result
-    }
-
-    /// Publishes the end. Where memory runs out there is an ended writer too, without an End.
-    pub fn end(self) -> Ended<R>
-        ensures ended { (result ≡ added self entry.End) ⊎ (result ≡ self) }
-        ensures book { result.book ≡ self.book }
-    {
-        let Desk { held, alloc: _ } = self;
-        let Some(held) = held else { unreachable!() };
-        let (held, whole) = held.end();
-        Ended { held, whole }
-    }
-
-    /// Publishes nothing more, not even the end.
-    pub fn stop(self) -> Ended<R>
-        ensures { result ≡ self }
-    {
-        let Desk { held, alloc: _ } = self;
-        let Some(held) = held else { unreachable!() };
-        Ended { held, whole: false }
-    }
-}
-
-impl<R: Wait + Drop> Publisher for Desk<R> {
-    ghost use Rattle.std.specs.Prelude.{◌≡◌, Some};
-    ghost use Rattle.spf_history.specs.Lists.{steps_of};
-    ghost use Rattle.spf_feed.specs.Records.{RecordAppends};
-    ghost use Rattle.spf_feed.specs.Steps.{plain, MayFollow};
-
-    ghost steps = { λ d. Some (steps_of d.list) };
-
-    fn publish(&mut self, step: Step) -> Result<(), OutOfMemory>
-        requires { MayFollow (Some (steps_of self.old.list)) (plain step) }
-        ensures appends { RecordAppends (Some (steps_of self.old.list))
-            (Some (steps_of self.new.list)) result (plain step) }
-        ensures book { self.new.book ≡ self.old.book }
-    {
-        let step = Prepared::new(self.alloc, step)?;
-        self.put(step)
-    }
-}
+pub type Desk<R> = spf_pass::Desk<X509, DeskWriter<R>>;
 
 /// A writer that publishes nothing more. Contracts see what it has published.
-pub struct Ended<R: Wait + Drop> {
-    held: DeskWriter<R>,
-    // Whether the end was published.
-    whole: bool,
-}
+pub type Ended<R> = spf_pass::Ended<X509, DeskWriter<R>>;
 
-impl<R: Wait + Drop> Model for Ended<R> {
-    ghost use Rattle.std.specs.Prelude.{◌≡◌};
-    ghost use Rattle.spf_history.specs.Lists.{is_ended};
-    ghost use Rattle.spf_history.specs.Past.{Past};
-    ghost use Rattle.spf_feed.specs.Steps.{PlainStep};
-
-    ghost Value = { Past PlainStep };
-
-    ghost view = { λ e. e.held };
-
-    ghost invariant = { λ e. e.whole ≡ is_ended e.held.list };
-}
-
-impl<R: Wait + Drop> Drop for Ended<R> {
-    fn drop(self) {
-        let Self {
-            held: _held,
-            whole: _,
-        } = self;
-    }
-}
-
-impl<R: Wait + Drop> Ended<R> {
-    /// Returns whether the end was published.
-    pub fn is_whole(&self) -> bool
-        ensures { result ≡ is_ended self.now.list }
-    {
-        self.whole
-    }
-
-    /// Returns what it has published.
-    pub fn front(&self) -> Front<X509>
-        ensures { result ≡ self.now }
-    {
-        self.held.front()
-    }
+/// Prepares a step, and publishes it.
+pub fn publish_on<R: Wait + Drop>(
+    alloc: Global,
+    desk: &mut Desk<R>,
+    step: Step,
+) -> Result<(), OutOfMemory>
+    requires { MayFollow (Some (steps_of desk.old.list)) (plain step) }
+    ensures appends { RecordAppends (Some (steps_of desk.old.list))
+        (Some (steps_of desk.new.list)) result (plain step) }
+    ensures book { desk.new.book ≡ desk.old.book }
+{
+    let step = Prepared::new(alloc, step)?;
+    desk.put(step)
 }

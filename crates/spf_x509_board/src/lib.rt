@@ -7,9 +7,10 @@ mod desk;
 mod kind;
 mod places;
 
-pub use board::{open, settle};
-pub use desk::{Desk, Ended};
+pub use board::open;
+pub use desk::{Desk, DeskWriter, Ended, publish_on};
 pub use kind::{Pass, UsableAt, X509};
 pub use places::Places;
 pub use spf_board::{BoardPlaces, PLACES, PlaceFault, RefusingPlaces};
 pub use spf_history::Front;
+pub use spf_pass::settle;

@@ -4,8 +4,7 @@ ghost use Rattle.std.specs.Prelude.{◌≡◌, ◌≤◌, Err, IfErr, IfOk, None
 ghost use Rattle.std.specs.Option.{ForSome};
 ghost use Rattle.spiffe.specs.Building.{BuildFails, IsAssigned, IsBuilt, IsDefault, PrepareFails};
 
-use crate::handle::{PendingHandle, SupervisorHandle};
-use crate::job::X509Job;
+use crate::handle::{PendingHandle, SupervisorHandle, X509Job};
 use crate::opening::{joined, synchronised};
 use crate::source::X509Source;
 use rand_core::Rng;

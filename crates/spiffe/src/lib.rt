@@ -4,17 +4,13 @@
 
 mod builder;
 mod handle;
-mod job;
 mod opening;
 mod publishing;
 mod sockets;
 mod source;
-mod task;
 
 pub use builder::{Settings, X509SourceBuilder};
-pub use handle::{PendingHandle, Supervised, SupervisorHandle};
-pub use job::{X509Done, X509Job};
+pub use handle::{PendingHandle, Supervised, SupervisorHandle, Task, X509Done, X509Job};
 pub use publishing::BoardPublisher;
 pub use source::{X509Source, X509SourceUpdates};
 pub use spf_supervisor::SupervisorEnd;
-pub use task::Task;

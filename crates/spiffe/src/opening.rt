@@ -15,22 +15,24 @@ ghost use Rattle.spiffe.specs.Building.{IsBuilt, IsSetBy, SyncFails, refused_as,
 ghost use Rattle.spiffe.specs.Reads.{HasPlaceCause};
 
 use crate::builder::Settings;
-use crate::job::X509Job;
+use crate::handle::X509Job;
 use crate::publishing::BoardPublisher;
 use crate::source::X509Source;
 use rand_core::Rng;
 use spf_api::{EndpointError, WorkloadApiError};
-use spf_close::{Bell, Cells, Closing, JobCells, SourceCells};
+use spf_close::{Bell, Cells, Closing, SourceCells};
 use spf_feed::{
     MemPublisher, MetricsRecorder, Prepared, SessionRules, Step, SvidPicker, Terminal,
     X509SourceError,
 };
-use spf_feeder::{Feeder, Stop, X509Rules, X509Session, deadline_of, first_moment, open_session};
+use spf_feeder::{
+    Feeder, Session, Stop, X509Rules, X509Session, deadline_of, first_moment, open_session,
+};
 use spf_io::OutOfMemory;
 use spf_link::Connector;
 use spf_pace::Pace;
 use spf_pass::placed;
-use spf_supervisor::make_ready;
+use spf_supervisor::{SupervisorJob, make_ready};
 use spf_system::{Clock, Pause, StopFlag};
 use spf_x509_board::{Desk, Front, Pass, Places, X509, open};
 use std::alloc::Global;
@@ -199,7 +201,7 @@ where
         }
     };
     let front = desk.front();
-    let publisher = BoardPublisher::new(desk, steps, bell);
+    let publisher = BoardPublisher::new(alloc, desk, steps, bell);
     let (session, resting) = feeder.split();
     let (session, before) = session.with_publisher(publisher);
     drop(before);
@@ -288,21 +290,7 @@ where
             return Err(X509SourceError::OutOfMemory);
         }
     };
-    let JobCells {
-        watch,
-        closer,
-        bell,
-    } = kept;
-    let job = X509Job {
-        feeder,
-        pace,
-        pause,
-        random,
-        watch,
-        closer,
-        bell,
-        rt,
-    };
+    let job = SupervisorJob::new(rt, feeder, pace, pause, random, kept);
     match source_of(alloc, front, ends, first, places) {
         Ok((source, pass)) => Ok((source, pass, closing, job)),
         Err(e) => {

@@ -6,9 +6,12 @@ ghost use Rattle.spf_feed.specs.Records.{RecordAppends};
 ghost use Rattle.spf_feed.specs.Steps.{MayFollow, plain};
 
 use spf_close::Bell;
-use spf_feed::{Publisher, Step};
+use spf_feed::{MetricsRecorder, Publisher, Step, SvidPicker};
+use spf_feeder::X509Session;
 use spf_io::OutOfMemory;
-use spf_x509_board::{Desk, Ended, Front, X509};
+use spf_supervisor::Finishes;
+use spf_x509_board::{Desk, Ended, Front, Pass, X509, publish_on, settle};
+use std::alloc::Global;
 use std::marker::Model;
 use std::sync::Wait;
 
@@ -16,6 +19,7 @@ use std::sync::Wait;
 /// what is published.
 #[derive(Drop)]
 pub struct BoardPublisher<R: Wait + Drop> {
+    alloc: Global,
     desk: Desk<R>,
     steps: Vec<Step>,
     bell: Bell,
@@ -38,38 +42,22 @@ impl<R: Wait + Drop> Model for BoardPublisher<R> {
 
 impl<R: Wait + Drop> BoardPublisher<R> {
     /// A publisher on a board whose steps so far are these.
-    pub(crate) fn new(desk: Desk<R>, steps: Vec<Step>, bell: Bell) -> BoardPublisher<R>
+    pub(crate) fn new(
+        alloc: Global,
+        desk: Desk<R>,
+        steps: Vec<Step>,
+        bell: Bell,
+    ) -> BoardPublisher<R>
         requires { map plain steps.items ≡ steps_of desk.list }
         ensures { result ≡ desk }
     {
         BoardPublisher {
+            alloc,
             desk,
             steps,
             bell,
             is_refused: false,
         }
-    }
-
-    /// What is published.
-    pub(crate) fn front(&self) -> Front<X509>
-        ensures { result ≡ self.now }
-    {
-        self.desk.front()
-    }
-
-    /// Publishes the end, and returns the steps.
-    pub(crate) fn finish(self) -> (Ended<R>, Vec<Step>)
-        ensures steps { map plain result.1.items ≡ steps_of self.list }
-        ensures board { (result.0.book ≡ self.book)
-            × (steps_of result.0.list ≡ steps_of self.list) }
-    {
-        let BoardPublisher {
-            desk,
-            steps,
-            bell: _bell,
-            is_refused,
-        } = self;
-        (ended(desk, is_refused), steps)
     }
 }
 
@@ -99,7 +87,7 @@ impl<R: Wait + Drop> Publisher for BoardPublisher<R> {
     {
         self.steps.reserve(1)?;
         let kept = step.try_clone()?;
-        match self.desk.publish(step) {
+        match publish_on(self.alloc, &mut self.desk, step) {
             Ok(()) => {
                 self.steps.push_reserved(kept);
                 self.bell.ring();
@@ -111,4 +99,47 @@ impl<R: Wait + Drop> Publisher for BoardPublisher<R> {
             }
         }
     }
+}
+
+impl<R: Wait + Drop, M: MetricsRecorder + Drop, K: SvidPicker + Drop> Finishes<
+    X509,
+    X509Session<BoardPublisher<R>, M, K>,
+> for BoardPublisher<R> {
+    type Ended = Ended<R>;
+
+    ghost use Rattle.std.specs.Prelude.{◌≡◌, refl, map};
+    ghost use Rattle.spf_history.specs.Lists.{steps_of};
+    ghost use Rattle.spf_feed.specs.Steps.{plain};
+
+    ghost board = { λ p. p.book };
+
+    ghost past = { λ ended. ended };
+
+    ghost shown = { plain };
+
+    fn front(&self) -> Front<X509> {
+        self.desk.front()
+    }
+
+    fn finish(self) -> (Ended<R>, Vec<Step>)
+        ensures steps { map plain result.1.items ≡ steps_of self.list }
+        ensures board { (result.0.book ≡ self.book)
+            × (steps_of result.0.list ≡ steps_of self.list) }
+    {
+        let BoardPublisher {
+            desk,
+            steps,
+            bell: _bell,
+            is_refused,
+            alloc: _,
+        } = self;
+        (ended(desk, is_refused), steps)
+    }
+
+    fn settle(ended: Ended<R>, pass: &mut Pass) -> Result<(), OutOfMemory> {
+        settle(ended, pass)?;
+        Ok(())
+    }
+
+    ghost named = { λ session. refl };
 }

@@ -8,8 +8,7 @@ ghost use Rattle.spf_wire.specs.Endpoints.{kept};
 ghost use Rattle.spiffe.specs.Building.{FailsByDefault, IsAssignedByDefault, IsBuilt, IsDefault};
 
 use crate::builder::X509SourceBuilder;
-use crate::handle::SupervisorHandle;
-use crate::job::X509Job;
+use crate::handle::{SupervisorHandle, X509Job};
 use crate::source::X509Source;
 use rand_core::Rng;
 use spf_feed::{MetricsRecorder, NoPicker, NoRecorder, SvidPicker, X509SourceError};

@@ -5,17 +5,18 @@ ghost use Rattle.spf_history.specs.Lists.{steps_of};
 
 use crate::board::accepting;
 use crate::item::first_context;
-use spf_feed::{Denial, Publisher, Step};
+use spf_feed::{Denial, Step};
 use spf_io::OutOfMemory;
 use spf_system::StopFlag;
 use spf_x509::X509Context;
-use spf_x509_board::Desk;
+use spf_x509_board::{Desk, publish_on};
 use std::alloc::Global;
 use std::mem::drop;
 use std::sync::{Arc, Wait};
 
 /// Publishes a denial, and then an update.
 fn publish_both<R: Wait + Drop>(
+    alloc: Global,
     desk: &mut Desk<R>,
     denial: &Arc<Denial>,
     context: &Arc<X509Context>,
@@ -24,13 +25,14 @@ fn publish_both<R: Wait + Drop>(
     ensures { OnOk result (steps_of desk.new.list ≢ []) }
 {
     let reason = Arc::try_clone(denial)?;
-    desk.publish(Step::Deny { reason })?;
-    desk.publish(accepting(Arc::try_clone(context)?)?)
+    publish_on(alloc, desk, Step::Deny { reason })?;
+    publish_on(alloc, desk, accepting(Arc::try_clone(context)?)?)
 }
 
 /// Publishes both in turn until the flag is set, and returns how many.
 fn publish_in_turn<R: Wait + Drop>(
     rt: &R,
+    alloc: Global,
     desk: &mut Desk<R>,
     denial: &Arc<Denial>,
     context: &Arc<X509Context>,
@@ -43,7 +45,7 @@ fn publish_in_turn<R: Wait + Drop>(
         if stop.is_set() {
             break;
         }
-        publish_both(desk, denial, context)?;
+        publish_both(alloc, desk, denial, context)?;
         published = published.wrapping_add(2);
     }
     Ok(published)
@@ -72,7 +74,7 @@ pub(crate) fn publish_until<R: Wait + Copy + Drop>(
 {
     match denial_and_context(alloc) {
         Ok((denial, context)) => {
-            let published = publish_in_turn(rt, &mut desk, &denial, &context, stop);
+            let published = publish_in_turn(rt, alloc, &mut desk, &denial, &context, stop);
             drop(denial);
             drop(context);
             drop(desk);

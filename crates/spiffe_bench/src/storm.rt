@@ -7,11 +7,11 @@ use crate::bench_error::BenchError;
 use crate::board::{accepting, opened};
 use crate::item::{first_context, second_context};
 use crate::reader::Reader;
-use spf_feed::{Denial, Publisher, Step, X509SourceError, X509SourceState};
+use spf_feed::{Denial, Step, X509SourceError, X509SourceState};
 use spf_io::OutOfMemory;
 use spf_system::StopFlag;
 use spf_x509::{X509BundleSet, X509Context, X509Svid};
-use spf_x509_board::{Desk, Pass};
+use spf_x509_board::{Desk, Pass, publish_on};
 use spiffe::X509Source;
 use std::alloc::Global;
 use std::sync::{Arc, Wait};
@@ -162,17 +162,22 @@ pub(crate) fn read_until(
 }
 
 /// Publishes the three steps.
-fn publish_round<R: Wait + Drop>(desk: &mut Desk<R>, steps: &Steps) -> Result<(), OutOfMemory>
+fn publish_round<R: Wait + Drop>(
+    alloc: Global,
+    desk: &mut Desk<R>,
+    steps: &Steps,
+) -> Result<(), OutOfMemory>
     requires { steps_of desk.old.list ≢ [] }
     ensures { steps_of desk.new.list ≢ [] }
 {
     let reason = Arc::try_clone(&steps.denial)?;
-    desk.publish(Step::Deny { reason })?;
-    desk.publish(accepting(Arc::try_clone(&steps.first)?)?)?;
-    desk.publish(accepting(Arc::try_clone(&steps.second)?)?)
+    publish_on(alloc, desk, Step::Deny { reason })?;
+    publish_on(alloc, desk, accepting(Arc::try_clone(&steps.first)?)?)?;
+    publish_on(alloc, desk, accepting(Arc::try_clone(&steps.second)?)?)
 }
 
 fn publish_rounds<R: Wait + Drop>(
+    alloc: Global,
     desk: &mut Desk<R>,
     steps: &Steps,
     rounds: u64,
@@ -180,7 +185,7 @@ fn publish_rounds<R: Wait + Drop>(
     requires { steps_of desk.old.list ≢ [] }
 {
     'rounds: for _ in 0..rounds {
-        publish_round(desk, steps)?;
+        publish_round(alloc, desk, steps)?;
     }
     Ok(())
 }
@@ -194,7 +199,7 @@ fn publish_all<R: Wait + Drop>(
     requires { steps_of desk.old.list ≢ [] }
 {
     let steps = Steps::new(alloc)?;
-    let published = publish_rounds(desk, &steps, rounds);
+    let published = publish_rounds(alloc, desk, &steps, rounds);
     drop(steps);
     published
 }

@@ -11,8 +11,9 @@ synchronise-requires-clause-keeps g c =
     let after = c.take_moment.new.self.core in
     let run : (g.S.Session.progress before).run ≡ [] =
     ap (λ core. (g.S.Session.progress core).run) c.new-feeder.ensures.core ∙ c.requires.unused in
-    let k = g.S.Session.kind (g.S.Session.given after) in
-    paces_moment k (g.S.Session.lawful (g.S.Session.given after)) (g.S.Session.progress before).run
+    let k = g.S.Rules.Governs.kind (g.S.Session.given after).rules in
+    paces_moment k (g.S.Rules.Governs.lawful (g.S.Session.given after).rules)
+    (g.S.Session.progress before).run
     (g.S.Session.progress after).run _ c.new-pace.result c.in_default.ensures.advances.run_is
     (subst (λ l. KeepsPaceOf k l c.new-pace.result) (sym run) c.new-pace.ensures.paces)
 
@@ -21,7 +22,7 @@ returns-in-Err-synchronise-clause-ended g c =
     let run = (g.S.Session.progress c.synchronise.new.feeder.core).run in (
       run,
       stops_as _ _ run c.in-Err-synchronise.stop
-          (ap g.S.Session.kind
+          (ap (λ about. g.S.Rules.Governs.kind about.rules)
           (c.in_default.ensures.given ∙ ap g.S.Session.given c.new-feeder.ensures.core))
           c.in-Err-synchronise.ensures.ended,
     )

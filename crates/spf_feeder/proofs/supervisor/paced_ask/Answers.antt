@@ -12,11 +12,11 @@ pub returns-then-is_synced-clause-paces : goal.returns-then-is_synced-clause-pac
 unfolding KeepsPaceOf
 returns-then-is_synced-clause-paces g c =
     let old = c.args.feeder.now.core in
-    let k = g.S.Session.kind (g.S.Session.given old) in
+    let k = g.S.Rules.Governs.kind (g.S.Session.given old).rules in
     let turn = c.in_ok-end.ensures.turn in
     paces_opened k.subject _ k.ask (g.S.Session.progress old).run _ turn.event _ _ _
     c.args.pace.now c.synchronised.new.self
-    (ap (λ about. (g.S.Session.kind about).subject) c.ask_once.ensures.given)
+    (ap (λ about. (g.S.Rules.Governs.kind about.rules).subject) c.ask_once.ensures.given)
     turn.advanced.run_is turn.advanced.end_is c.in-None.is c.is_synced-was_synced.ensures
     c.if-not-was_synced.true c.is_synced.ensures c.if-is_synced.true
     c.synchronised.ensures.paces
@@ -25,7 +25,7 @@ pub returns-in_ok-delay-in-Some-clause-paces : goal.returns-in_ok-delay-in-Some-
 unfolding KeepsPaceOf
 returns-in_ok-delay-in-Some-clause-paces g c =
     let old = c.args.feeder.now.core in
-    let k = g.S.Session.kind (g.S.Session.given old) in
+    let k = g.S.Rules.Governs.kind (g.S.Session.given old).rules in
     let turn = c.in_ok-end.ensures.turn in
     paces_ended k.subject k.ask (g.S.Session.progress old).run _ turn.event _ c.in-Some.end
     c.args.pace.now c.after.new.self
@@ -36,10 +36,11 @@ pub returns-else-not-was_synced-clause-paces : goal.returns-else-not-was_synced-
 unfolding KeepsPaceOf
 returns-else-not-was_synced-clause-paces g c =
     let old = c.args.feeder.now.core in
-    let k = g.S.Session.kind (g.S.Session.given old) in
+    let k = g.S.Rules.Governs.kind (g.S.Session.given old).rules in
     let run = (g.S.Session.progress old).run in
     let turn = c.in_ok-end.ensures.turn in
-    let same = ap (λ about. (g.S.Session.kind about).subject) c.ask_once.ensures.given in
+    let same = ap (λ about. (g.S.Rules.Governs.kind about.rules).subject) c.ask_once.ensures.given
+    in
     let shut : opens_by k.subject (reverse run) turn.event ≡ false =
     elim c.else-not-was_synced.branch [
       | else-not-was_synced-via-then-not-was_synced+else-is_synced w ↦ shut_after k.subject _ run _
@@ -56,7 +57,8 @@ returns-else-not-was_synced-clause-adds g c =
     record {
       event = turn.event;
       answers = once_answers OutOfMemory
-          (g.S.Session.kind (g.S.Session.given c.args.feeder.now.core)).wanted g.C.Connector
+          (g.S.Rules.Governs.kind (g.S.Session.given c.args.feeder.now.core).rules).wanted
+          g.C.Connector
           g.C.Link.Link _ _ _ turn.event turn.asked;
       run_is = turn.advanced.run_is;
     }

@@ -12,9 +12,11 @@ returns-in-Err-clause-halted g c =
     let loop = c.turns.invariant in
     let run = (g.S.Session.progress c.turns.feeder.core).run in
     let ended = (g.S.Session.progress c.paced_ask.new.feeder.core).run in
-    subst (λ about. Halted (g.S.Session.kind about) ended c.paced_ask.new.pace) loop.given
+    subst (λ about. Halted (g.S.Rules.Governs.kind about.rules) ended c.paced_ask.new.pace)
+    loop.given
     (c.in-Err.ensures.paces
-    (subst (λ about. KeepsPaceOf (g.S.Session.kind about) run c.turns.pace) (sym loop.given)
+    (subst (λ about. KeepsPaceOf (g.S.Rules.Governs.kind about.rules) run c.turns.pace)
+    (sym loop.given)
     loop.keeps))
 
 pub turns-preserved : goal.turns-preserved
@@ -24,7 +26,8 @@ turns-preserved g c =
     let run = (g.S.Session.progress c.turns.feeder.core).run in
     let longer = (g.S.Session.progress c.paced_ask.new.feeder.core).run in
     let paced = after.paces
-    (subst (λ about. KeepsPaceOf (g.S.Session.kind about) run c.turns.pace) (sym loop.given)
+    (subst (λ about. KeepsPaceOf (g.S.Rules.Governs.kind about.rules) run c.turns.pace)
+    (sym loop.given)
     loop.keeps) in
     record {
       next = search rules;
@@ -34,6 +37,7 @@ turns-preserved g c =
       goes_on = goes_further _ _ _ loop.goes_on after.goes_on;
       bounds = after.bounds ∙ loop.bounds;
       going = after.going;
-      keeps = subst (λ about. KeepsPaceOf (g.S.Session.kind about) longer c.paced_ask.new.pace)
+      keeps = subst (λ about. KeepsPaceOf (g.S.Rules.Governs.kind about.rules) longer
+          c.paced_ask.new.pace)
           loop.given paced;
     }

@@ -13,6 +13,6 @@ invariant-turns g l = record {
       (g.S.Session.progress l.feeder.core).run;
   bounds : l.pace.bounds ≡ l.initial.pace.bounds;
   going : (g.S.Session.progress l.feeder.core).stuck ≡ false;
-  keeps : KeepsPaceOf (g.S.Session.kind (g.S.Session.given l.initial.feeder.core))
+  keeps : KeepsPaceOf (g.S.Rules.Governs.kind (g.S.Session.given l.initial.feeder.core).rules)
       (g.S.Session.progress l.feeder.core).run l.pace;
 }

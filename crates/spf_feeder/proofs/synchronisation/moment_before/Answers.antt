@@ -14,7 +14,7 @@ returns-in-Ok-clause-clock g c =
 pub returns-in-Ok-clause-paces : goal.returns-in-Ok-clause-paces
 returns-in-Ok-clause-paces g c = λ pace keeps.
     let given = g.S.Session.given c.args.feeder.now.core in
-    paces_moment (g.S.Session.kind given) (g.S.Session.lawful given)
+    paces_moment (g.S.Rules.Governs.kind given.rules) (g.S.Rules.Governs.lawful given.rules)
     (g.S.Session.progress c.args.feeder.now.core).run
     (g.S.Session.progress c.take_moment.new.self.core).run _ pace
     c.in-Ok.ensures.advances.run_is keeps

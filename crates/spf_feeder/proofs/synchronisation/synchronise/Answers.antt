@@ -13,7 +13,8 @@ returns-in_err-moment_before-clause-ended g c =
     let p = err_from_is_err_and c.from_residual.result c.from_residual.ensures.1 in
     rw (p.1, p.2)
     (stops_as _ _ (g.S.Session.progress c.moment_before.new.feeder.core).run _
-    (ap g.S.Session.kind c.asks.invariant.given) c.in_err-moment_before.ensures.ended)
+    (ap (λ about. g.S.Rules.Governs.kind about.rules) c.asks.invariant.given)
+    c.in_err-moment_before.ensures.ended)
 
 pub returns-in_err-paced_ask-clause-ended : goal.returns-in_err-paced_ask-clause-ended
 returns-in_err-paced_ask-clause-ended g c =
@@ -22,14 +23,14 @@ returns-in_err-paced_ask-clause-ended g c =
     c.from_residual-in_err-paced_ask.ensures.1 in
     rw (p.1, p.2)
     (stops_as _ _ (g.S.Session.progress c.paced_ask.new.feeder.core).run _
-    (ap g.S.Session.kind (before.given ∙ c.asks.invariant.given))
+    (ap (λ about. g.S.Rules.Governs.kind about.rules) (before.given ∙ c.asks.invariant.given))
     c.in_err-paced_ask.ensures.ended)
 
 pub returns-then-is_synced-clause-synced : goal.returns-then-is_synced-clause-synced
 returns-then-is_synced-clause-synced g c =
     let same = c.in_ok-paced_ask.ensures.given ∙ c.in_ok-moment_before.ensures.given
     ∙ c.asks.invariant.given in
-    ap (λ about. has_synced (g.S.Session.kind about).subject
+    ap (λ about. has_synced (g.S.Rules.Governs.kind about.rules).subject
     (reverse (g.S.Session.progress c.paced_ask.new.feeder.core).run)) (sym same)
     ∙ sym c.is_synced.ensures ∙ c.if-is_synced.true
 
@@ -39,9 +40,11 @@ returns-then-is_synced-clause-timed g c =
     let before = c.in_ok-moment_before.ensures in
     let asked = (g.S.Session.progress c.moment_before.new.feeder.core).run in
     let ended = (g.S.Session.progress c.paced_ask.new.feeder.core).run in
-    timed_after (g.S.Session.kind (g.S.Session.given c.args.feeder.now.core)) asked ended
-    (subst (λ about. IsAboutToAsk (g.S.Session.kind about) asked) loop.given before.timed)
-    (subst (λ about. AddsAnswerTo (g.S.Session.kind about).ask asked ended)
+    timed_after (g.S.Rules.Governs.kind (g.S.Session.given c.args.feeder.now.core).rules) asked
+    ended
+    (subst (λ about. IsAboutToAsk (g.S.Rules.Governs.kind about.rules) asked) loop.given
+    before.timed)
+    (subst (λ about. AddsAnswerTo (g.S.Rules.Governs.kind about.rules).ask asked ended)
     (before.given ∙ loop.given) c.in_ok-paced_ask.ensures.adds)
 
 pub returns-then-is_synced-clause-once : goal.returns-then-is_synced-clause-once
@@ -49,9 +52,10 @@ returns-then-is_synced-clause-once g c =
     let before = c.in_ok-moment_before.ensures in
     let adds = c.in_ok-paced_ask.ensures.adds in
     let asked = (g.S.Session.progress c.moment_before.new.feeder.core).run in
-    let about = subst (λ about. IsAboutToAsk (g.S.Session.kind about) asked)
+    let about = subst (λ about. IsAboutToAsk (g.S.Rules.Governs.kind about.rules) asked)
     c.asks.invariant.given before.timed in
-    first_step (g.S.Session.kind (g.S.Session.given c.args.feeder.now.core)).subject asked _
+    first_step (g.S.Rules.Governs.kind (g.S.Session.given c.args.feeder.now.core).rules).subject
+    asked _
     adds.event adds.run_is about.unsynced (returns-then-is_synced-clause-synced g c)
 
 pub returns-then-is_synced-clause-clock : goal.returns-then-is_synced-clause-clock
@@ -66,24 +70,28 @@ asks-preserved g c =
     let loop = c.asks.invariant in
     let before = c.in_ok-moment_before.ensures in
     let after = c.in_ok-paced_ask.ensures in
-    let k = g.S.Session.kind (g.S.Session.given c.args.feeder.now.core) in
+    let k = g.S.Rules.Governs.kind (g.S.Session.given c.args.feeder.now.core).rules in
     let run = (g.S.Session.progress c.asks.feeder.core).run in
     let middle = (g.S.Session.progress c.moment_before.new.feeder.core).run in
     let ended = (g.S.Session.progress c.paced_ask.new.feeder.core).run in
     let at_ask = before.given ∙ loop.given in
     let at_end = after.given ∙ at_ask in
-    let about = subst (λ about. IsAboutToAsk (g.S.Session.kind about) middle) loop.given
+    let about = subst (λ about. IsAboutToAsk (g.S.Rules.Governs.kind about.rules) middle) loop.given
     before.timed in
-    let adds = subst (λ about. AddsAnswerTo (g.S.Session.kind about).ask middle ended) at_ask
+    let adds = subst (λ about. AddsAnswerTo (g.S.Rules.Governs.kind about.rules).ask middle ended)
+    at_ask
     after.adds in
     let unsynced : has_synced k.subject (reverse ended) ≡ false =
-    ap (λ about. has_synced (g.S.Session.kind about).subject (reverse ended)) (sym at_end)
+    ap (λ about. has_synced (g.S.Rules.Governs.kind about.rules).subject (reverse ended))
+    (sym at_end)
     ∙ sym c.is_synced.ensures ∙ c.if-is_synced.false in
     let waited = before.paces c.asks.pace
-    (subst (λ about. KeepsPaceOf (g.S.Session.kind about) run c.asks.pace) (sym loop.given)
+    (subst (λ about. KeepsPaceOf (g.S.Rules.Governs.kind about.rules) run c.asks.pace)
+    (sym loop.given)
     loop.keeps) in
     let paced = after.paces
-    (subst (λ about. KeepsPaceOf (g.S.Session.kind about) middle c.asks.pace) (sym before.given)
+    (subst (λ about. KeepsPaceOf (g.S.Rules.Governs.kind about.rules) middle c.asks.pace)
+    (sym before.given)
     waited) in
     record {
       next = search rules;
@@ -92,7 +100,8 @@ asks-preserved g c =
       first = after.first ∙ before.handed ∙ loop.first;
       bounds = after.bounds ∙ loop.bounds;
       going = after.going;
-      keeps = subst (λ about. KeepsPaceOf (g.S.Session.kind about) ended c.paced_ask.new.pace)
+      keeps = subst (λ about. KeepsPaceOf (g.S.Rules.Governs.kind about.rules) ended
+          c.paced_ask.new.pace)
           at_ask paced;
       timed = opening_after k middle ended about adds unsynced;
       clock = gives_still _ _ _ _ _ adds.event (no_moment _ adds.event adds.answers) adds.run_is

@@ -12,9 +12,9 @@ invariant-asks g l = record {
   first : l.feeder.first ≡ l.initial.feeder.first;
   bounds : l.pace.bounds ≡ l.initial.pace.bounds;
   going : (g.S.Session.progress l.feeder.core).stuck ≡ false;
-  keeps : KeepsPaceOf (g.S.Session.kind (g.S.Session.given l.initial.feeder.core))
+  keeps : KeepsPaceOf (g.S.Rules.Governs.kind (g.S.Session.given l.initial.feeder.core).rules)
       (g.S.Session.progress l.feeder.core).run l.pace;
-  timed : IsOpening (g.S.Session.kind (g.S.Session.given l.initial.feeder.core))
+  timed : IsOpening (g.S.Rules.Governs.kind (g.S.Session.given l.initial.feeder.core).rules)
       (g.S.Session.progress l.feeder.core).run;
   clock : GivesMoments (g.T.Clock.moments l.initial.clock) (g.T.Clock.moments l.clock)
       (g.S.Session.progress l.initial.feeder.core).run (g.S.Session.progress l.feeder.core).run;

@@ -12,7 +12,8 @@ returns-clause-foresees g c =
     let rule : Rules = rules_by g.K.SvidPicker.picks c.args.rules.now in
     let received = c.in_ok-received.ensures in
     let lent = ap (rules_with set.limits set.deadline set.ready)
-    (lent_picker g.K.SvidPicker.picks c.as_ref.result c.args.rules.now.picker (search rules)) in record {
+    (lent_picker g.K.SvidPicker.picks c.as_ref.result c.args.rules.now.picker (search rules)) in
+    record {
       turn = turn_as rule _ c.args.synced c.args.place.moment c.args.event.now
           c.in_ok-received.received _ lent received c.turn_of-turn.ensures.turn;
       moment = c.moment_after-moment.ensures

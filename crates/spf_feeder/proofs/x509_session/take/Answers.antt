@@ -35,5 +35,6 @@ returns-in_err-records-clause-refused g c =
     let p = err_from_is_err_and c.from_residual-in_err-records.result
     c.from_residual-in_err-records.ensures.1 in
     rw p.1
-    (unpublished same_material x509_records.Update listed c.args.rules.now.settings.limits _ c.args.snapshot.now
+    (unpublished same_material x509_records.Update listed c.args.rules.now.settings.limits _
+    c.args.snapshot.now
     c.publish_turn.new.snapshot _ _ _ c.in_err-records.ensures.published)

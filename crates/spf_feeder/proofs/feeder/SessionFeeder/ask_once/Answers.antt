@@ -13,7 +13,7 @@ returns-then-is_stuck-clause-turn g c =
 pub returns-in-Err-clause-turn : goal.returns-in-Err-clause-turn
 returns-in-Err-clause-turn g c =
     let going = sym c.is_stuck.ensures.stuck ∙ c.if-is_stuck.false in
-    unyielded_of (λ f. g.S.Session.kind (g.S.Session.given f.core))
+    unyielded_of (λ f. g.S.Rules.Governs.kind (g.S.Session.given f.core).rules)
     (with_core g.S.Session.progress) g.C.Connector g.C.Link.Link _ _ _ _ _ c.self.view_is
     c.phase-phase.ensures c.in-Err.ensures
     (ap (λ core. core.run) c.stop.ensures.unchanged)
@@ -22,7 +22,7 @@ returns-in-Err-clause-turn g c =
 pub returns-in-Ok-clause-turn : goal.returns-in-Ok-clause-turn
 returns-in-Ok-clause-turn g c =
     let going = sym c.is_stuck.ensures.stuck ∙ c.if-is_stuck.false in
-    turned_of (λ f. g.S.Session.kind (g.S.Session.given f.core))
+    turned_of (λ f. g.S.Rules.Governs.kind (g.S.Session.given f.core).rules)
     (with_core g.S.Session.progress) g.C.Connector g.C.Link.Link g.S.Session.records _ _ _ _ _ _
     c.self.view_is c.phase-phase.ensures c.in-Ok.ensures c.advance.ensures.advances going
 
@@ -34,13 +34,15 @@ invariant_of-self g c =
     let before = c.self.inside.session in
     let going = sym c.is_stuck.ensures.stuck ∙ c.if-is_stuck.false in
     fed_more g.C.Connector g.C.Link.Link g.S.Session.records
-    (g.S.Session.kind (g.S.Session.given before)) _
-    (g.S.Session.lawful (g.S.Session.given before)) _ _ _ _ _ _ _ _ c.phase-phase.ensures
+    (g.S.Rules.Governs.kind (g.S.Session.given before).rules) _
+    (g.S.Rules.Governs.lawful (g.S.Session.given before).rules) _ _ _ _ _ _ _ _
+    c.phase-phase.ensures
     c.in-Ok.ensures c.advance.ensures.advances
-    (ap g.S.Session.kind c.advance.ensures.given) going c.self.invariant
+    (ap (λ about. g.S.Rules.Governs.kind about.rules) c.advance.ensures.given) going
+    c.self.invariant
 
 pub returns-in-Ok-clause-ended : goal.returns-in-Ok-clause-ended
 returns-in-Ok-clause-ended g c =
     stops_by g.S.Session.records _ _ _ _ _ c.advance.result
-    (ap (λ f. g.S.Session.kind (g.S.Session.given f.core)) c.self.view_is)
+    (ap (λ f. g.S.Rules.Governs.kind (g.S.Session.given f.core).rules) c.self.view_is)
     c.advance.ensures.advances

@@ -11,14 +11,16 @@ invariant_of-self g c =
     let before = c.self.inside.session in
     let going = ap (λ f. (g.S.Session.progress f.core).stuck) c.self.view_is ∙ c.requires.going in
     fed_still g.C.Connector g.C.Link.Link g.S.Session.records
-    (g.S.Session.kind (g.S.Session.given before)) _
-    (g.S.Session.lawful (g.S.Session.given before)) _ _ _ _ _ _ c.advance.ensures.advances
-    (ap g.S.Session.kind c.advance.ensures.given) going c.self.invariant
+    (g.S.Rules.Governs.kind (g.S.Session.given before).rules) _
+    (g.S.Rules.Governs.lawful (g.S.Session.given before).rules) _ _ _ _ _ _
+    c.advance.ensures.advances
+    (ap (λ about. g.S.Rules.Governs.kind about.rules) c.advance.ensures.given) going
+    c.self.invariant
 
 pub returns-clause-ended : goal.returns-clause-ended
 returns-clause-ended g c =
     stops_by g.S.Session.records _ _ _ _ _ c.advance.result
-    (ap (λ f. g.S.Session.kind (g.S.Session.given f.core)) c.self.view_is)
+    (ap (λ f. g.S.Rules.Governs.kind (g.S.Session.given f.core).rules) c.self.view_is)
     c.advance.ensures.advances
 
 pub returns-clause-advances : goal.returns-clause-advances
@@ -27,10 +29,10 @@ returns-clause-advances g c =
     let same : to_z w64 (of_z w64 c.args.moment) ≡ c.args.moment =
     search (arith, ints, to_z-of_z) in
     subst (λ f.
-    AdvancesBy (g.S.Session.kind (g.S.Session.given f.core)) g.S.Session.records
+    AdvancesBy (g.S.Rules.Governs.kind (g.S.Session.given f.core).rules) g.S.Session.records
     (g.S.Session.progress f.core) (events.Moment c.args.moment) c.advance.result
     (g.S.Session.progress c.advance.new.self)) c.self.view_is
     (subst (λ m.
-    AdvancesBy (g.S.Session.kind (g.S.Session.given before)) g.S.Session.records
+    AdvancesBy (g.S.Rules.Governs.kind (g.S.Session.given before).rules) g.S.Session.records
     (g.S.Session.progress before) (events.Moment m) c.advance.result
     (g.S.Session.progress c.advance.new.self)) same c.advance.ensures.advances)
