@@ -2,18 +2,18 @@
 
 ghost use Rattle.std.specs.Prelude.{◌≡◌};
 
-use crate::live::{built_by, records_opening};
+use crate::live::{connector_to, is_opening};
 use crate::on_thread::JwtAgentJob;
-use spf_agent::{Agent, AgentConnector, Scene};
+use spf_agent::{Agent, AgentConnector, FixedClock, Scene, ShortPause};
 use spf_api::WorkloadApiError;
 use spf_fixtures::TOKEN1;
-use spf_io::Text;
-use spf_job::{InlineSpawner, Joins, Spawner};
+use spf_io::{OutOfMemory, Text};
+use spf_job::{InlineSpawner, Spawner, StepWords};
 use spf_jwt::JwtSvid;
-use spf_jwt_board::JwtPass;
+use spf_jwt_board::{BoardPlaces, JwtPass};
 use spf_jwt_client::JwtFetcher;
 use spf_jwt_feed::JwtSourceError;
-use spf_jwt_source::{JwtSource, JwtSupervisorHandle};
+use spf_jwt_source::JwtSource;
 use std::mem::drop;
 use std::sync::Wait;
 use std::test::Fail;
@@ -80,7 +80,7 @@ fn is_denied(answer: Result<JwtSvid, JwtSourceError>) -> bool {
 }
 
 /// Whether the source holds the bundles that it began with.
-fn is_opening(source: &JwtSource, pass: &mut JwtPass) -> bool
+fn is_opening_state(source: &JwtSource, pass: &mut JwtPass) -> bool
     requires { pass.old.book ≡ source.now.board }
     ensures { pass.new.book ≡ pass.old.book }
 {
@@ -90,45 +90,61 @@ fn is_opening(source: &JwtSource, pass: &mut JwtPass) -> bool
     }
 }
 
-/// Whether one fetch is granted and the next one denied, and the source and its record are as
-/// without them.
-fn is_left_by_fetches<R: Wait + Copy + Drop, H: Joins<JwtAgentJob<R>> + Drop>(
-    host: HostRuntime,
-    source: JwtSource,
-    pass: JwtPass,
-    handle: JwtSupervisorHandle<JwtAgentJob<R>, H>,
-    path: &str,
-) -> bool
-    requires pass { pass.book ≡ source.board }
-    requires job { handle.job.board ≡ source.board }
+/// Whether one fetch is granted and the next one denied, and the source is as without them.
+fn is_left_by_fetches(host: HostRuntime, source: &JwtSource, pass: &mut JwtPass, path: &str) -> bool
+    requires { pass.old.book ≡ source.now.board }
+    ensures { pass.new.book ≡ pass.old.book }
 {
-    let mut pass = pass;
-    let is_token = is_granted(fetched(host, &source, path));
-    let is_refused = is_denied(fetched(host, &source, path));
-    let is_left = is_opening(&source, &mut pass);
-    let is_recorded = records_opening(handle, pass);
-    drop(source);
-    is_token && is_refused && is_left && is_recorded
+    let is_token = is_granted(fetched(host, source, path));
+    let is_refused = is_denied(fetched(host, source, path));
+    is_token && is_refused && is_opening_state(source, pass)
 }
 
-/// Whether it is so of a source of the agent at this path.
-fn is_found<R, S>(host: HostRuntime, rt: R, path: &str, spawner: &mut S) -> bool
+/// Whether it is so of a source over this connector to the agent at this path, and its record is as
+/// without them.
+fn is_left<R, S>(
+    host: HostRuntime,
+    rt: R,
+    connector: AgentConnector,
+    path: &str,
+    spawner: &mut S,
+) -> bool
 where
     R: Wait + Copy + Drop,
     S: Spawner<JwtAgentJob<R>>,
     S::Handle: Drop,
 {
-    match built_by(host, rt, path, spawner) {
-        Ok((source, pass, handle)) => is_left_by_fetches(host, source, pass, handle, path),
-        Err(_) => false,
+    match JwtSource::builder(connector).build(
+        rt,
+        host.alloc(),
+        &mut FixedClock,
+        ShortPause::new(host),
+        StepWords::new(0),
+        spawner,
+        &mut BoardPlaces::new(),
+    ) {
+        Ok((source, mut pass, handle)) => {
+            let is_left = is_left_by_fetches(host, &source, &mut pass, path);
+            let record = handle.join_record(&mut pass);
+            drop(pass);
+            drop(source);
+            is_left && is_opening(record)
+        }
+        Err(e) => {
+            drop(e);
+            false
+        }
     }
 }
 
-/// No fetch, granted or denied, changes the bundles.
+/// No fetch, granted or denied, changes the bundles or the record.
 #[test]
 fn fetches_leave_the_bundles(rt: HostRuntime) -> Result<(), Fail> {
     let agent = Agent::start(rt, &rt, "jwt_fetch", &GRANT_AND_DENIAL)?;
-    let is_found = is_found(rt, rt, agent.path(), &mut InlineSpawner);
+    let is_found = match connector_to(rt, agent.path()) {
+        Ok(connector) => is_left(rt, rt, connector, agent.path(), &mut InlineSpawner),
+        Err(OutOfMemory) => false,
+    };
     agent.end(rt, &rt)?;
     assert!(rt; is_found);
     Ok(())

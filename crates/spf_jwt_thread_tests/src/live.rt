@@ -4,8 +4,8 @@ ghost use Rattle.std.specs.Prelude.{◌≡◌, IfOk};
 
 use crate::on_thread::{JwtAgentJob, JwtOnThread, start_on_thread};
 use spf_agent::{Agent, AgentConnector, FixedClock, Scene, ShortPause, TURNS};
-use spf_io::Text;
-use spf_job::{InlineSpawner, Joins, Spawner, StepWords};
+use spf_io::{OutOfMemory, Text};
+use spf_job::{InlineSpawner, Spawner, StepWords};
 use spf_jwt_board::{BoardPlaces, JwtPass};
 use spf_jwt_feed::{JwtSourceError, JwtStep};
 use spf_jwt_source::{JwtSource, JwtSupervised, JwtSupervisorHandle, SupervisorEnd};
@@ -119,65 +119,22 @@ fn is_opening_record(record: &JwtSupervised) -> bool {
         && matches!(steps.first(), Some(JwtStep::Accept { .. }))
 }
 
-/// Whether the record of a supervisor, which this closes and then runs, is so.
-pub(crate) fn records_opening<R: Wait + Copy + Drop, H: Joins<JwtAgentJob<R>> + Drop>(
-    handle: JwtSupervisorHandle<JwtAgentJob<R>, H>,
-    pass: JwtPass,
-) -> bool
-    requires { pass.book ≡ handle.job.board }
-{
-    let mut pass = pass;
-    match handle.close_and_join().into_record(&mut pass) {
-        Ok(record) => is_opening_record(&record),
-        Err(_) => false,
+/// Whether a record that a supervisor left is so.
+pub(crate) fn is_opening(record: Result<JwtSupervised, OutOfMemory>) -> bool {
+    match record {
+        Ok(record) => {
+            let is_found = is_opening_record(&record);
+            drop(record);
+            is_found
+        }
+        Err(OutOfMemory) => false,
     }
 }
 
-/// A source of the agent at this path, whose supervisor is started by this.
-pub(crate) fn built_by<R, S>(
-    host: HostRuntime,
-    rt: R,
-    path: &str,
-    spawner: &mut S,
-) -> Result<
-    (
-        JwtSource,
-        JwtPass,
-        JwtSupervisorHandle<JwtAgentJob<R>, S::Handle>,
-    ),
-    JwtSourceError,
->
-where
-    R: Wait + Copy + Drop,
-    S: Spawner<JwtAgentJob<R>>,
-    S::Handle: Drop,
-    ensures pass { IfOk result (λ r. r.1.book ≡ r.0.board) }
-    ensures job { IfOk result (λ r. r.2.job.board ≡ r.0.board) }
-{
+/// A connector to the agent at this path.
+pub(crate) fn connector_to(host: HostRuntime, path: &str) -> Result<AgentConnector, OutOfMemory> {
     let alloc = host.alloc();
-    let connector = AgentConnector::to(host, alloc, Text::copy_of(alloc, path)?);
-    JwtSource::builder(connector).build(
-        rt,
-        alloc,
-        &mut FixedClock,
-        ShortPause::new(host),
-        StepWords::new(0),
-        spawner,
-        &mut BoardPlaces::new(),
-    )
-}
-
-/// Whether the record of such a source is so.
-fn is_recorded_by<R, S>(host: HostRuntime, rt: R, path: &str, spawner: &mut S) -> bool
-where
-    R: Wait + Copy + Drop,
-    S: Spawner<JwtAgentJob<R>>,
-    S::Handle: Drop,
-{
-    match built_by(host, rt, path, spawner) {
-        Ok((_source, pass, handle)) => records_opening(handle, pass),
-        Err(_) => false,
-    }
+    Ok(AgentConnector::to(host, alloc, Text::copy_of(alloc, path)?))
 }
 
 /// Whether a source of the agent at this path comes to a denial, which its record has.
@@ -202,11 +159,43 @@ fn jwt_live_record(rt: HostRuntime) -> Result<(), Fail> {
     Ok(())
 }
 
+/// Whether a source over this connector has such a record, whose supervisor this closes and joins.
+fn is_recorded<R, S>(host: HostRuntime, rt: R, connector: AgentConnector, spawner: &mut S) -> bool
+where
+    R: Wait + Copy + Drop,
+    S: Spawner<JwtAgentJob<R>>,
+    S::Handle: Drop,
+{
+    match JwtSource::builder(connector).build(
+        rt,
+        host.alloc(),
+        &mut FixedClock,
+        ShortPause::new(host),
+        StepWords::new(0),
+        spawner,
+        &mut BoardPlaces::new(),
+    ) {
+        Ok((source, mut pass, handle)) => {
+            let record = handle.join_record(&mut pass);
+            drop(pass);
+            drop(source);
+            is_opening(record)
+        }
+        Err(e) => {
+            drop(e);
+            false
+        }
+    }
+}
+
 /// The row inline-record, of JWT bundles.
 #[test]
 fn jwt_inline_record(rt: HostRuntime) -> Result<(), Fail> {
     let agent = Agent::start(rt, &rt, "jwt_inline_record", &DENIAL)?;
-    let is_found = is_recorded_by(rt, rt, agent.path(), &mut InlineSpawner);
+    let is_found = match connector_to(rt, agent.path()) {
+        Ok(connector) => is_recorded(rt, rt, connector, &mut InlineSpawner),
+        Err(OutOfMemory) => false,
+    };
     agent.end(rt, &rt)?;
     assert!(rt; is_found);
     Ok(())

@@ -1,14 +1,13 @@
 //! The record of a supervisor that runs where it is joined.
 
-ghost use Rattle.std.specs.Prelude.{◌≡◌};
-
 use crate::building::{FixedClock, NoPause};
 use spf_feed::{NoPicker, NoRecorder, Step};
-use spf_job::{InlineSpawner, Joins, Spawner, StepWords};
+use spf_io::OutOfMemory;
+use spf_job::{InlineSpawner, Spawner, StepWords};
 use spf_link::MemConnector;
 use spf_responses::{connector, good_link};
-use spf_x509_board::{BoardPlaces, Pass};
-use spiffe::{Supervised, SupervisorEnd, SupervisorHandle, X509Job, X509Source};
+use spf_x509_board::BoardPlaces;
+use spiffe::{Supervised, SupervisorEnd, X509Job, X509Source};
 use std::alloc::Global;
 use std::sync::Wait;
 use std::test::Fail;
@@ -31,35 +30,23 @@ fn summary(record: &Supervised<NoPicker>) -> Shown {
     }
 }
 
-type InlineJob<R> = X509Job<MemConnector, NoPicker, NoRecorder, NoPause, StepWords, R>;
-
-/// What the record of a supervisor shows, which this closes and runs.
-fn recorded<R: Wait + Copy + Drop, H: Joins<InlineJob<R>> + Drop>(
-    handle: SupervisorHandle<InlineJob<R>, H>,
-    pass: Pass,
-) -> Option<Shown>
-    requires { pass.book ≡ handle.job.board }
-{
-    let mut pass = pass;
-    let record = handle.close_and_join().into_record(&mut pass);
-    drop(pass);
+/// What the record that a supervisor left shows, where there is one.
+fn shown_of(record: Result<Supervised<NoPicker>, OutOfMemory>) -> Option<Shown> {
     match record {
         Ok(record) => {
             let shown = summary(&record);
             drop(record);
             Some(shown)
         }
-        Err(_) => None,
+        Err(OutOfMemory) => None,
     }
 }
 
-/// What the record of a supervisor shows whose source is of this connector.
-fn recorded_of<R, S>(
-    rt: R,
-    alloc: Global,
-    connector: MemConnector,
-    spawner: &mut S,
-) -> Option<Shown>
+type InlineJob<R> = X509Job<MemConnector, NoPicker, NoRecorder, NoPause, StepWords, R>;
+
+/// What the record of a supervisor shows, which this closes and joins, and whose source is of this
+/// connector.
+fn recorded<R, S>(rt: R, alloc: Global, connector: MemConnector, spawner: &mut S) -> Option<Shown>
 where
     R: Wait + Copy + Drop,
     S: Spawner<InlineJob<R>>,
@@ -74,10 +61,11 @@ where
         spawner,
         &mut BoardPlaces::new(),
     ) {
-        Ok((source, pass, handle)) => {
-            let shown = recorded(handle, pass);
+        Ok((source, mut pass, handle)) => {
+            let record = handle.join_record(&mut pass);
+            drop(pass);
             drop(source);
-            shown
+            shown_of(record)
         }
         Err(e) => {
             drop(e);
@@ -96,6 +84,6 @@ fn inline_record(rt: HostRuntime) -> Result<(), Fail> {
         accepts: true,
         is_closed: true,
     };
-    assert!(rt; recorded_of(rt, rt.alloc(), connector, &mut InlineSpawner) == Some(wanted));
+    assert!(rt; recorded(rt, rt.alloc(), connector, &mut InlineSpawner) == Some(wanted));
     Ok(())
 }
