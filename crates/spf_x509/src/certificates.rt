@@ -76,6 +76,26 @@ impl Certificates {
         }
     }
 
+    /// One certificate.
+    #[inline]
+    pub(crate) fn one(certificate: Certificate) -> Certificates
+        ensures { result ≡ certificate ∷ [] }
+    {
+        Certificates {
+            held: Held::One(certificate),
+        }
+    }
+
+    /// Two certificates.
+    #[inline]
+    pub(crate) fn two(first: Certificate, second: Certificate) -> Certificates
+        ensures { result ≡ first ∷ second ∷ [] }
+    {
+        Certificates {
+            held: Held::Two([first, second]),
+        }
+    }
+
     /// No certificates yet, and a list only where more than two are to come.
     #[inline]
     pub(crate) fn with_capacity(alloc: Global, count: usize) -> Result<Certificates, OutOfMemory>

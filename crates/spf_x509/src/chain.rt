@@ -123,6 +123,22 @@ pub(crate) fn bytes_before<'a>(chain: &'a [u8], certificates: &[Certificate]) ->
     }
 }
 
+/// The leaf, and copies of the certificates after it.
+fn with_others(
+    alloc: Global,
+    leaf: Certificate,
+    others: &[Certificate],
+) -> Result<Certificates, OutOfMemory>
+    ensures { IfOk result (λ c. c ≡ leaf ∷ others.now) }
+{
+    let mut certificates = Certificates::with_capacity(alloc, others.len() + 1)?;
+    certificates.push(alloc, leaf)?;
+    for certificate in others {
+        certificates.push(alloc, certificate.try_clone(alloc)?)?;
+    }
+    Ok(certificates)
+}
+
 /// A copy of a leaf, and copies of the certificates after it.
 pub(crate) fn chain_with_leaf(
     alloc: Global,
@@ -132,10 +148,12 @@ pub(crate) fn chain_with_leaf(
     requires { IsCertificate leaf.now }
     ensures { IfOk result (λ c. c ≡ leaf.now ∷ others.now) }
 {
-    let mut certificates = Certificates::with_capacity(alloc, others.len() + 1)?;
-    certificates.push(alloc, Certificate::of_text(alloc, leaf)?)?;
-    for certificate in others {
-        certificates.push(alloc, certificate.try_clone(alloc)?)?;
+    let leaf = Certificate::of_text(alloc, leaf)?;
+    match others.split_first() {
+        None => Ok(Certificates::one(leaf)),
+        Some((other, rest)) if rest.is_empty() => {
+            Ok(Certificates::two(leaf, other.try_clone(alloc)?))
+        }
+        Some(_) => with_others(alloc, leaf, others),
     }
-    Ok(certificates)
 }

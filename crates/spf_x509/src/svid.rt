@@ -1,6 +1,6 @@
 //! An X.509 SVID: an identity, the chain that names it, and its key.
 
-ghost use Rattle.std.specs.Prelude.{◌≡◌, ◌↔◌, IfOk, IsTrue, None, Ok, Some, slice_get};
+ghost use Rattle.std.specs.Prelude.{◌≡◌, ◌↔◌, ◌∷◌, IfOk, IsTrue, None, Ok, Some, slice_get};
 ghost use Rattle.std.specs.Option.{option_map};
 ghost use Rattle.std.specs.Arc.{arc_value};
 ghost use Rattle.spf_io.specs.Rule.{Gives};
@@ -69,8 +69,8 @@ impl Model for X509Svid {
     } };
 }
 
-/// Copies of the certificates of a chain.
-fn certificates_of(alloc: Global, parts: &[ChainPart<'_>]) -> Result<Certificates, OutOfMemory>
+/// Copies of the certificates of a chain, one after another.
+fn listed_certificates(alloc: Global, parts: &[ChainPart<'_>]) -> Result<Certificates, OutOfMemory>
     ensures { IfOk result (λ c. c ≡ texts parts.now) }
 {
     let mut certificates = Certificates::with_capacity(alloc, parts.len())?;
@@ -78,6 +78,24 @@ fn certificates_of(alloc: Global, parts: &[ChainPart<'_>]) -> Result<Certificate
         certificates.push(alloc, part.certificate(alloc)?)?;
     }
     Ok(certificates)
+}
+
+/// Copies of a leaf and of the certificates after it.
+fn certificates_of(
+    alloc: Global,
+    leaf: &ChainPart<'_>,
+    others: &[ChainPart<'_>],
+    parts: &[ChainPart<'_>],
+) -> Result<Certificates, OutOfMemory>
+    requires { parts.now ≡ leaf.now ∷ others.now }
+    ensures { IfOk result (λ c. c ≡ texts parts.now) }
+{
+    match others.split_first() {
+        Some((other, rest)) if rest.is_empty() => {
+            Ok(Certificates::two(leaf.certificate(alloc)?, other.certificate(alloc)?))
+        }
+        _ => listed_certificates(alloc, parts),
+    }
 }
 
 /// The ID of an SVID, if there is one.
@@ -156,7 +174,7 @@ impl X509Svid {
         let (spiffe_id, expiry) = leaf_rule(alloc, leaf.scan(), id_of(known))?;
         intermediate_rules(alloc, intermediates)?;
         let private_key = key_from(alloc, key, known)?;
-        let cert_chain = certificates_of(alloc, parts.as_slice())?;
+        let cert_chain = certificates_of(alloc, leaf, intermediates, parts.as_slice())?;
         Ok(X509Svid {
             spiffe_id,
             hint,
