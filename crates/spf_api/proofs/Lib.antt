@@ -9,5 +9,6 @@ pub mod Payloads
 mod Rows
 pub mod Rules
 pub mod Spelled
+pub mod Stays
 pub mod Utf8
 pub mod Written

@@ -5,5 +5,6 @@ pub mod Parsed
 pub mod Payload
 pub mod Reading
 pub mod Refused
+pub mod Sharing
 pub mod Status
 pub mod Views

@@ -37,6 +37,7 @@ pub fn read_byte_field(bytes: &[u8]) -> Option<(&[u8], &[u8])>
 }
 
 /// The text that the octets are, where they are UTF-8.
+#[inline(always)]
 fn text_of(octets: &[u8]) -> Option<&str>
     ensures { option_map (λ t. t.now) result
         ≡ (if is_utf8 octets.now then Some octets.now else None) }
@@ -53,6 +54,7 @@ fn text_of(octets: &[u8]) -> Option<&str>
 
 /// Returns the text field at the start of the bytes,
 /// which is a byte field in UTF-8, and what follows it.
+#[inline(always)]
 #[tactic(auto, unfolding(crate::specs::Reading::text_field_at))]
 pub fn read_text_field(bytes: &[u8]) -> Option<(&str, &[u8])>
     ensures { option_map (λ x. (x.0.now, x.1.now)) result ≡ text_field_at bytes.now }

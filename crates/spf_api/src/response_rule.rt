@@ -1,6 +1,6 @@
 //! The meaning of a response: its SVIDs, bundles and CRLs, or the first rule that it breaks.
 
-ghost use Rattle.std.specs.Prelude.{◌≡◌, map, MatchBool};
+ghost use Rattle.std.specs.Prelude.{◌≡◌, map, IsTrue, MatchBool};
 ghost use Rattle.std.specs.Arc.{arc_value};
 ghost use Rattle.spf_io.specs.Rule.{Gives, each};
 ghost use Rattle.spf_x509.specs.Bundle.{with_bundles};
@@ -11,15 +11,14 @@ ghost use Rattle.spf_api.specs.Parsed.{entries_rule};
 ghost use Rattle.spf_api.specs.Parsed.{pair_of, named_bundle_of, svids_in, brought_to};
 ghost use Rattle.spf_api.specs.Parsed.{bundle_for, with_bundle, with_material};
 ghost use Rattle.spf_api.specs.Parsed.{read_as, parsed_of, svids_of, first_svid_of, bundle_set_of};
+ghost use Rattle.spf_api.specs.Sharing.{IsLastDomain, IsLastIn};
 
 use crate::entry::{to_entries, views_of};
 use crate::error::WorkloadApiError;
 use crate::response::{
     BundleEntryView, BundlesResponse, ContextResponse, ContextView, SvidEntry, SvidEntryView,
 };
-use crate::sharing::{
-    held_svid, known_svid, near_svid, parse_bundle, parse_svid, shared_bundle, shared_svid,
-};
+use crate::sharing::{known_svid, near_svid, parse_bundle, parse_svid, shared_bundle, shared_svid};
 use crate::views::context_view;
 use spf_id::TrustDomain;
 use spf_io::{OutOfMemory, Text};
@@ -111,9 +110,18 @@ fn held_bundles<'a>(held: Option<&'a X509Context>) -> Option<X509BundleIter<'a>>
     }
 }
 
-/// Adds the bundle of a trust domain to the set. The entries before it most often have the same
-/// bundle.
-fn add_bundle(
+/// Whether the last of the SVIDs is of that trust domain.
+fn is_last_domain(svids: &[Arc<X509Svid>], trust_domain: &TrustDomain) -> bool
+    ensures { IsTrue result → IsLastDomain svids.now trust_domain.now }
+{
+    match svids.last() {
+        Some(svid) => *trust_domain == *svid.spiffe_id().trust_domain(),
+        None => false,
+    }
+}
+
+/// Adds the bundle of a trust domain to the set, where it is not there yet.
+fn add_other_bundle(
     alloc: Global,
     trust_domain: &TrustDomain,
     der: &[u8],
@@ -132,22 +140,53 @@ fn add_bundle(
     Ok(())
 }
 
-/// The SVID of an entry. The bundle of its trust domain is added to the set.
+/// Adds the bundle of a trust domain to the set, in which the last of the SVIDs has its bundle, the
+/// bytes `last`. The entries of a trust domain most often have the same bundle.
+fn add_bundle(
+    alloc: Global,
+    trust_domain: &TrustDomain,
+    der: &[u8],
+    svids: &[Arc<X509Svid>],
+    last: &[u8],
+    bundles: &mut X509BundleSet,
+    held: Option<&X509Context>,
+) -> Result<(), WorkloadApiError>
+    requires { IsLastIn svids.now last.now bundles.old }
+    ensures { Gives is_memory_api (λ _. bundles.new) result
+        (read_as (with_bundle bundles.old) (bundle_for trust_domain.now der.now)) }
+{
+    if der == last && is_last_domain(svids, trust_domain) {
+        return Ok(());
+    }
+    add_other_bundle(alloc, trust_domain, der, bundles, held)
+}
+
+/// The SVID of an entry. The bundle of its trust domain is added to the set, in which the last of
+/// the SVIDs before it has its bundle, the bytes `last`.
 fn shared_material(
     alloc: Global,
     entry: &SvidEntryView<'_>,
     svids: &[Arc<X509Svid>],
+    last: &[u8],
     bundles: &mut X509BundleSet,
     held: Option<&X509Context>,
 ) -> Result<Arc<X509Svid>, WorkloadApiError>
+    requires { IsLastIn svids.now last.now bundles.old }
     ensures { Gives is_memory_api (λ svid. (arc_value svid, bundles.new)) result
         (read_as (with_material bundles.old) (pair_of (svid_entry_of entry.now))) }
 {
-    let same = held_svid(held, svids.len(), entry);
-    let (near, known) = (near_svid(svids, held), known_svid(held, svids.len()));
-    let svid = shared_svid(alloc, entry, same, near, known)?;
+    let known = known_svid(held, svids.len(), entry);
+    let svid = shared_svid(alloc, entry, near_svid(svids, held), known)?;
     let trust_domain = svid.spiffe_id().trust_domain();
-    add_bundle(alloc, trust_domain, entry.bundle, bundles, held)?;
+    add_bundle(
+        alloc,
+        trust_domain,
+        entry.bundle,
+        svids,
+        last,
+        bundles,
+        held,
+    )?;
     Ok(svid)
 }
 
@@ -163,15 +202,17 @@ fn shared_svids(
         (each pair_of (map svid_entry_of entries.now))) }
 {
     let mut svids = Vec::with_capacity(alloc, entries.len())?;
+    let mut last: &[u8] = &[];
     for entry in entries {
-        let svid = shared_material(alloc, entry, svids.as_slice(), bundles, held)?;
+        let svid = shared_material(alloc, entry, svids.as_slice(), last, bundles, held)?;
         svids.push(svid)?;
+        last = entry.bundle;
     }
     Ok(svids)
 }
 
-/// The trust domain of a bundle of the held context, the next ones of which are `left`, where it has
-/// that name. An agent sends bundles most often in the order of their trust domains.
+/// The trust domain of a bundle of the held context, the next ones of which are `left`, where it
+/// has that name. An agent sends bundles most often in the order of their trust domains.
 fn near_domain<'a>(left: &mut Option<X509BundleIter<'a>>, name: &str) -> Option<&'a TrustDomain> {
     let left = left.as_mut()?;
     let (first, _) = left.next()?;

@@ -98,36 +98,39 @@ fn read_from<'a>(
     }
 }
 
-/// Whether the SVID has the ID of the entry.
-fn is_named(svid: Option<&Arc<X509Svid>>, entry: &SvidEntryView<'_>) -> bool {
+/// Returns the SVID, where it has the ID of the entry.
+#[inline(always)]
+fn named_as<'a>(
+    svid: Option<&'a Arc<X509Svid>>,
+    entry: &SvidEntryView<'_>,
+) -> Option<&'a Arc<X509Svid>> {
     match svid {
-        Some(svid) => svid.spiffe_id().as_str() == entry.spiffe_id,
-        None => false,
+        Some(svid) => {
+            if svid.spiffe_id().as_str() == entry.spiffe_id {
+                Some(svid)
+            } else {
+                None
+            }
+        }
+        None => None,
     }
 }
 
-/// Returns the SVID of the held context that was read from the bytes of the entry, at that index or
-/// beside it. An agent sends the SVIDs of a workload in an order that may change. Where the SVID at
-/// that index has the same ID and other bytes it was renewed, and nothing beside it is looked at.
-pub(crate) fn held_svid<'a>(
+/// Returns the SVID of the held context that has the ID of the entry, at that index or beside it.
+/// An agent sends the SVIDs of a workload in an order that may change.
+pub(crate) fn known_svid<'a>(
     held: Option<&'a X509Context>,
     index: usize,
     entry: &SvidEntryView<'_>,
-) -> Option<&'a Arc<X509Svid>>
-    ensures { IfSome result (λ s. svid_of_entry (svid_entry_of entry.now) ≡ Ok (arc_value s.now)) }
-{
+) -> Option<&'a Arc<X509Svid>> {
     let svids = held?.svids();
-    let standing = svids.get(index);
-    if let Some(svid) = read_from(standing, entry) {
+    if let Some(svid) = named_as(svids.get(index), entry) {
         return Some(svid);
     }
-    if is_named(standing, entry) {
-        return None;
-    }
-    if let Some(svid) = read_from(svids.get(index.saturating_add(1)), entry) {
+    if let Some(svid) = named_as(svids.get(index.saturating_add(1)), entry) {
         return Some(svid);
     }
-    read_from(svids.get(index.saturating_sub(1)), entry)
+    named_as(svids.get(index.saturating_sub(1)), entry)
 }
 
 /// Returns the last of the SVIDs, or else the first of the held context. The certificates after its
@@ -145,29 +148,28 @@ pub(crate) fn near_svid<'a>(
     }
 }
 
-/// Returns the SVID of the held context at that index, which most often has the same ID.
-pub(crate) fn known_svid<'a>(held: Option<&'a X509Context>, index: usize) -> Option<&'a X509Svid> {
-    match held?.svids().get(index) {
+/// What is known of an SVID, if anything is.
+fn value_of(svid: Option<&Arc<X509Svid>>) -> Option<&X509Svid> {
+    match svid {
         Some(svid) => Some(svid),
         None => None,
     }
 }
 
-/// Returns the SVID of an entry, which is `held` where that is given. Certificates
-/// after its leaf that are those of `near`, and the ID of `known`, are not read again.
+/// Returns the SVID of an entry, which is `known` where that was read from the same bytes.
+/// Certificates after its leaf that are those of `near`, and the ID and the key of `known`, are not
+/// read again.
 pub(crate) fn shared_svid(
     alloc: Global,
     entry: &SvidEntryView<'_>,
-    held: Option<&Arc<X509Svid>>,
     near: Option<&X509Svid>,
-    known: Option<&X509Svid>,
+    known: Option<&Arc<X509Svid>>,
 ) -> Result<Arc<X509Svid>, WorkloadApiError>
-    requires { IfSome held (λ s. svid_of_entry (svid_entry_of entry.now) ≡ Ok (arc_value s.now)) }
     ensures { Gives is_memory_api arc_value result (svid_of_entry (svid_entry_of entry.now)) }
 {
-    match held {
-        Some(held) => Ok(Arc::try_clone(held)?),
-        None => parse_shared(alloc, entry, near, known),
+    match read_from(known, entry) {
+        Some(svid) => Ok(Arc::try_clone(svid)?),
+        None => parse_shared(alloc, entry, near, value_of(known)),
     }
 }
 

@@ -1,4 +1,5 @@
-use Rattle.std.proofs.Common.{◌≡◌, List, [], ◌∷◌, ◌++◌, get_or, map, refl, ap, sym, ◌∙◌, arith}
+use Rattle.std.proofs.Common.{◌≡◌, List, [], ◌∷◌, ◌++◌, get_or, map, refl, ap, sym}
+use Rattle.std.proofs.Common.{◌∙◌, subst, arith}
 use Rattle.std.proofs.lemmas.List.{map_push}
 use Rattle.std.proofs.lemmas.Result.{err_from_is_err_and}
 use Rattle.std.specs.Arc.{arc_value}
@@ -12,18 +13,23 @@ use Rattle.spf_api.specs.Parsed.{pair_of, read_as, brought_to, with_bundle}
 use Rattle.spf_api.specs.Parsed.{with_material}
 use Rattle.spf_api.proofs.Added.{Set, placed_more, brought_fails, placed_all, read_ok, read_err}
 use Rattle.spf_api.proofs.Rules.{each-map, get_or_same, no_entry}
+use Rattle.spf_api.specs.Sharing.{IsAdded}
+use Rattle.spf_api.proofs.Stays.{entry_is_added, last_is}
 use Rattle.spf_api.proofs.response_rule.shared_svids.Goals as goal
 
 pub loop-entry-init : goal.loop-entry-init
-loop-entry-init c =
-    record {
-      brought = record {
-        materials = [];
-        read = refl;
-        are = ap (map arc_value) c.in_ok-svids.ensures.items;
-      };
-      stand = refl;
-    }
+loop-entry-init c = (
+  record {
+    brought = record {
+      materials = [];
+      read = refl;
+      are = ap (map arc_value) c.in_ok-svids.ensures.items;
+    };
+    stand = refl;
+  },
+  λ svid found.
+      absurd (cc (rw c.in_ok-svids.ensures.items at found)),
+)
 
 pub loop-entry-preserved : goal.loop-entry-preserved
 loop-entry-preserved c =
@@ -39,11 +45,19 @@ loop-entry-preserved c =
     let svid : m.0.0 ≡ arc_value c.in_ok-svid.svid = ap (λ (p : Svid × Set). p.0) m.2 in
     let next : c.shared_material.new.bundles ≡ with_bundle c.loop-entry.bundles m.0.1 =
     ap (λ (p : Svid × Set). p.1) (sym m.2) in
-    rw (pushed, ← svid)
-    (placed_more (λ v. pair_of (svid_entry_of v)) xs i x (map arc_value svids)
-    c.args.bundles.now c.loop-entry.bundles c.shared_material.new.bundles m.0
-    c.loop-entry.invariant c.loop-entry-test.true
-    (get_or_same xs i no_entry x c.loop-entry-test.true) m.1 next)
+    let added = entry_is_added (svid_entry_of x) c.loop-entry.bundles c.shared_material.new.bundles
+    m.0 m.1 next in (
+      rw (pushed, ← svid)
+          (placed_more (λ v. pair_of (svid_entry_of v)) xs i x (map arc_value svids)
+          c.args.bundles.now c.loop-entry.bundles c.shared_material.new.bundles m.0
+          c.loop-entry.invariant.0 c.loop-entry-test.true
+          (get_or_same xs i no_entry x c.loop-entry-test.true) m.1 next),
+      λ last found.
+          let is : c.in_ok-svid.svid ≡ last =
+          last_is svids c.in_ok-svid.svid last (rw c.in_ok-push.ensures.items at found) in
+          subst (λ (z : Svid). IsAdded c.shared_material.new.bundles z.id.domain x.bundle.now)
+          (svid ∙ ap arc_value is) added,
+    )
 
 pub returns-in_err-svid : goal.returns-in_err-svid
 returns-in_err-svid c =
@@ -59,7 +73,7 @@ returns-in_err-svid c =
     (each-map pair_of svid_entry_of xs)
     ∙ brought_fails (λ v. pair_of (svid_entry_of v)) xs i x
     (map arc_value c.loop-entry.svids.items) e (brought_to c.args.bundles.now)
-    c.loop-entry.invariant.brought c.loop-entry-test.true
+    c.loop-entry.invariant.0.brought c.loop-entry-test.true
     (get_or_same xs i no_entry x c.loop-entry-test.true)
     (read_err (with_material c.loop-entry.bundles) (pair_of (svid_entry_of x)) e broken))
     c.in_err-svid.ensures)
@@ -70,4 +84,4 @@ returns c =
     ap (read_as (brought_to c.args.bundles.now)) (each-map pair_of svid_entry_of xs)
     ∙ placed_all (λ v. pair_of (svid_entry_of v)) xs c.loop-entry.entry-index
     (map arc_value c.loop-entry.svids.items) c.args.bundles.now c.loop-entry.bundles
-    c.loop-entry.invariant (omega arith)
+    c.loop-entry.invariant.0 (omega arith)
