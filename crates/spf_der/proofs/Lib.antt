@@ -1,4 +1,6 @@
 pub mod Days
+pub mod Digits
+pub mod Clock
 pub mod Steps
 pub mod Shorter
 pub mod NameWalk

@@ -1,5 +1,6 @@
 //! Times (RFC 5280 section 4.1.2.5), which are in UTC.
-ghost use Rattle.std.specs.Prelude.{◌≡◌, ◌<◌, IfSome};
+ghost use Rattle.std.specs.Prelude.{◌≡◌, ◌-◌, ◌<◌, ◌≤◌, IfSome, None, Some, if◌then◌else◌, nat_lt};
+ghost use Rattle.std.specs.Char.{is_ascii_digit};
 ghost use Rattle.std.specs.Option.{option_map};
 ghost use Rattle.spf_der.specs.Time as spec;
 ghost use Rattle.jiff_core.specs.Date.{epoch_day};
@@ -26,14 +27,51 @@ impl DateTime {
     }
 }
 
+/// For each octet its number as a digit, or 100, so that a field with it is past every range.
+const DIGITS: [u8; 256] = [
+    100, 100, 100, 100, 100, 100, 100, 100, 100, 100, 100, 100, 100, 100, 100, 100, 100, 100, 100,
+    100, 100, 100, 100, 100, 100, 100, 100, 100, 100, 100, 100, 100, 100, 100, 100, 100, 100, 100,
+    100, 100, 100, 100, 100, 100, 100, 100, 100, 100, 0, 1, 2, 3, 4, 5, 6, 7, 8, 9, 100, 100, 100,
+    100, 100, 100, 100, 100, 100, 100, 100, 100, 100, 100, 100, 100, 100, 100, 100, 100, 100, 100,
+    100, 100, 100, 100, 100, 100, 100, 100, 100, 100, 100, 100, 100, 100, 100, 100, 100, 100, 100,
+    100, 100, 100, 100, 100, 100, 100, 100, 100, 100, 100, 100, 100, 100, 100, 100, 100, 100, 100,
+    100, 100, 100, 100, 100, 100, 100, 100, 100, 100, 100, 100, 100, 100, 100, 100, 100, 100, 100,
+    100, 100, 100, 100, 100, 100, 100, 100, 100, 100, 100, 100, 100, 100, 100, 100, 100, 100, 100,
+    100, 100, 100, 100, 100, 100, 100, 100, 100, 100, 100, 100, 100, 100, 100, 100, 100, 100, 100,
+    100, 100, 100, 100, 100, 100, 100, 100, 100, 100, 100, 100, 100, 100, 100, 100, 100, 100, 100,
+    100, 100, 100, 100, 100, 100, 100, 100, 100, 100, 100, 100, 100, 100, 100, 100, 100, 100, 100,
+    100, 100, 100, 100, 100, 100, 100, 100, 100, 100, 100, 100, 100, 100, 100, 100, 100, 100, 100,
+    100, 100, 100, 100, 100, 100, 100, 100, 100, 100, 100, 100, 100, 100, 100, 100, 100, 100, 100,
+    100, 100, 100, 100, 100,
+];
+
+/// By a table, which takes two loads and no branch.
+#[inline(always)]
+fn digit(octet: u8) -> u32
+    ensures exact { result ≡ (if is_ascii_digit octet then octet - 48 else 100) }
+    ensures bound { result ≤ 100 }
+{
+    DIGITS[octet as usize] as u32
+}
+
+/// The number that two digits spell, and 100 or more where one is no digit.
+#[inline(always)]
+fn number(tens: u8, ones: u8) -> u32
+    ensures exact { pair_of tens ones ≡ (if nat_lt result 100 then Some result else None) }
+    ensures bound { result ≤ 1100 }
+{
+    digit(tens) * 10 + digit(ones)
+}
+
 /// The number that two digits spell.
 #[inline(always)]
 fn pair(tens: u8, ones: u8) -> Option<u8>
     ensures exact { result ≡ pair_of tens ones }
     ensures bound { IfSome result (λ n. n < 100) }
 {
-    if tens.is_ascii_digit() & ones.is_ascii_digit() {
-        Some((tens - b'0') * 10 + (ones - b'0'))
+    let number = number(tens, ones);
+    if number < 100 {
+        Some(number as u8)
     } else {
         None
     }
@@ -41,12 +79,13 @@ fn pair(tens: u8, ones: u8) -> Option<u8>
 
 /// The date, if the calendar has it.
 #[inline(always)]
-fn date(year: u16, month: u8, day: u8) -> Option<Date>
-    requires year { year < 10000 }
-    requires month { month < 100 }
-    requires day { day < 100 }
+fn date(year: u16, month: u32, day: u32) -> Option<Date>
+    requires { year < 10000 }
     ensures { option_map epoch_day result ≡ day_number_of year month day }
 {
+    if month > 12 || day > 31 {
+        return None;
+    }
     match Date::new(year as i16, month as i8, day as i8) {
         Err(_) => None,
         Ok(date) => Some(date),
@@ -56,17 +95,15 @@ fn date(year: u16, month: u8, day: u8) -> Option<Date>
 /// A date and a time of day, if they are valid.
 #[inline(always)]
 #[tactic(auto, unfolding(crate::specs::Time::moment_of))]
-fn moment(year: u16, month: u8, day: u8, hour: u8, minute: u8, second: u8) -> Option<DateTime>
-    requires year { year < 10000 }
-    requires month { month < 100 }
-    requires day { day < 100 }
+fn moment(year: u16, month: u32, day: u32, hour: u32, minute: u32, second: u32) -> Option<DateTime>
+    requires { year < 10000 }
     ensures { option_map unix_second result ≡ moment_of year month day hour minute second }
 {
     if hour > 23 || minute > 59 || second > 59 {
         return None;
     }
     let date = date(year, month, day)?;
-    let second = (hour as u32 * 60 + minute as u32) * 60 + second as u32;
+    let second = (hour * 60 + minute) * 60 + second;
     Some(DateTime { date, second })
 }
 
@@ -79,11 +116,11 @@ fn clock(year: u16, bytes: &[u8]) -> Option<DateTime>
 {
     match bytes {
         [m, mm, d, dd, h, hh, n, nn, s, ss, z] => {
-            let month = pair(*m, *mm)?;
-            let day = pair(*d, *dd)?;
-            let hour = pair(*h, *hh)?;
-            let minute = pair(*n, *nn)?;
-            let second = pair(*s, *ss)?;
+            let month = number(*m, *mm);
+            let day = number(*d, *dd);
+            let hour = number(*h, *hh);
+            let minute = number(*n, *nn);
+            let second = number(*s, *ss);
             if *z != b'Z' {
                 return None;
             }
