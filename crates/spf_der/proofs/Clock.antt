@@ -1,6 +1,7 @@
 -- Where octets of a time are no digits, what they spell by the table is past the ranges of its
 -- fields: so a time is what its ranges make of it, with no test of a digit.
-use Rattle.std.proofs.Common.{◌≡◌, ℕ, List, [], ◌∷◌, Bool, true, false, Option, Some, None, length, get_or, arith, refl, sym, ◌<◌, ◌≤◌}
+use Rattle.std.proofs.Common.{◌≡◌, ℕ, List, [], ◌∷◌, Bool, true, false, Option, Some, None, length}
+use Rattle.std.proofs.Common.{get_or, arith, refl, sym, ◌<◌, ◌≤◌}
 use Rattle.std.specs.Prelude.{ℤ, ◌&&◌, ◌==◌, if◌then◌else◌, nat_lt}
 use Rattle.std.proofs.lemmas.Bool.Decides.{nat_tests}
 use Rattle.spf_io.specs.Option.{◌>>=◌}
