@@ -263,7 +263,7 @@ bundle_exact domain der bundle all = (
 
 -- ---- the SVID of a chain
 
-chain_certs : (chain : List ℕ) (parts : List (Parts × List ℕ)) → IsBytes chain
+pub chain_certs : (chain : List ℕ) (parts : List (Parts × List ℕ)) → IsBytes chain
     → chain_rule chain ≡ Ok parts → Within 16 chain parts
 unfolding chain_rule
 chain_certs chain parts all is = chain_cut _ 16 chain parts all is

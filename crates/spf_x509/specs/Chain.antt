@@ -26,6 +26,13 @@ certificate_text_at bytes = do
 unfoldable pub chain_rule : List ℕ → Result (List (Parts × List ℕ)) CertificateError
 chain_rule chain = many certificate_text_at (TooManyCertificates 16) 16 chain
 
+-- the certificates of a chain, at most 16, whose first two are cut
+abbrev pub chain_after : Parts × List ℕ → Parts × List ℕ → List ℕ
+    → Result (List (Parts × List ℕ)) CertificateError
+chain_after leaf second others = do
+  more ← many certificate_text_at (TooManyCertificates 16) 14 others
+  Ok (leaf ∷ second ∷ more)
+
 -- the bytes of the certificate at the start, and what follows it
 unfoldable pub authority_at : List ℕ → Result (List ℕ × List ℕ) CertificateError
 authority_at bytes = do
@@ -39,6 +46,10 @@ authorities_rule der = many authority_at (ParseX509Certificate InvalidCertificat
 -- the bytes of certificates
 abbrev pub texts : List (Parts × List ℕ) → List (List ℕ)
 texts parts = map (λ (p : Parts × List ℕ). p.1) parts
+
+-- certificates that their own concatenation gives
+abbrev pub IsChain : List (Parts × List ℕ) → Type 0
+IsChain parts = chain_rule (joined (texts parts)) ≡ Ok parts
 
 -- the rule of each intermediate, in order: the first that breaks it decides
 abbrev pub intermediates_rule : List (Parts × List ℕ) → Result (Unit {0}) X509SvidError

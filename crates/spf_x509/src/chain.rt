@@ -4,7 +4,7 @@ ghost use Rattle.std.specs.Prelude.{◌≡◌, ◌↔◌, ◌<◌, ◌++◌, ◌
 ghost use Rattle.spf_der.specs.Grammar.{CertsOf, joined};
 ghost use Rattle.spf_io.specs.Rule.{Gives};
 ghost use Rattle.spf_x509.specs.Certificate.{IsCertificate};
-ghost use Rattle.spf_x509.specs.Chain.{certificate_text_at, chain_rule};
+ghost use Rattle.spf_x509.specs.Chain.{certificate_text_at, chain_after};
 ghost use Rattle.spf_x509.specs.Errors.{is_memory_certificate};
 
 use crate::certificate::Certificate;
@@ -65,12 +65,18 @@ pub(crate) fn cut_certificate(bytes: &[u8]) -> Result<(ChainPart<'_>, &[u8]), Ce
     Ok((ChainPart { scan, der }, after))
 }
 
-/// The certificates whose concatenation `chain` is.
-pub(crate) fn cut_chain(alloc: Global, chain: &[u8]) -> Result<Vec<ChainPart<'_>>, CertificateError>
-    ensures { Gives is_memory_certificate (λ v. v.items) result (chain_rule chain.now) }
+/// The certificates of a chain whose first two are cut, of which more are in `others`.
+pub(crate) fn cut_others<'a>(
+    alloc: Global,
+    leaf: ChainPart<'a>,
+    second: ChainPart<'a>,
+    others: &'a [u8],
+) -> Result<Vec<ChainPart<'a>>, CertificateError>
+    ensures { Gives is_memory_certificate (λ v. v.items) result
+        (chain_after leaf.entry second.entry others.now) }
 {
-    let mut parts = Vec::new(alloc);
-    let mut rest = chain;
+    let mut parts = Vec::from_array(alloc, [leaf, second])?;
+    let mut rest = others;
     while !rest.is_empty() {
         if parts.len() == MAX_CERTIFICATES {
             return Err(CertificateError::TooManyCertificates {

@@ -5,13 +5,16 @@ ghost use Rattle.std.specs.Option.{option_map};
 ghost use Rattle.std.specs.Arc.{arc_value};
 ghost use Rattle.spf_io.specs.Rule.{Gives};
 ghost use Rattle.spf_der.specs.Grammar.{CertText};
-ghost use Rattle.spf_x509.specs.Chain.{IsSvid, MayFollowLeaf, svid_of, svid_with_leaf, texts};
+ghost use Rattle.spf_x509.specs.Chain.{IsChain, IsSvid, MayFollowLeaf, svid_of, svid_of_parts};
+ghost use Rattle.spf_x509.specs.Chain.{svid_with_leaf, texts};
 ghost use Rattle.spf_x509.specs.Errors.{is_memory_key, is_memory_svid};
 ghost use Rattle.spf_x509.specs.Key.{key_rule};
 
 use crate::certificate::{Certificate, read_whole};
 use crate::certificates::Certificates;
-use crate::chain::{ChainPart, bytes_before, chain_with_leaf, cut_chain, is_concatenation};
+use crate::chain::{
+    ChainPart, bytes_before, chain_with_leaf, cut_certificate, cut_others, is_concatenation,
+};
 use crate::error::PrivateKeyError;
 use crate::private_key::PrivateKey;
 use crate::svid_error::X509SvidError;
@@ -21,6 +24,7 @@ use spf_id::{Shared, SpiffeId};
 use spf_io::{OutOfMemory, Text};
 use std::alloc::Global;
 use std::marker::Model;
+use std::slice;
 use std::sync::Arc;
 
 /// An X.509 SVID (SPIFFE X.509-SVID section 2). Its
@@ -69,12 +73,17 @@ impl Model for X509Svid {
     } };
 }
 
-/// Copies of the certificates of a chain, one after another.
-fn listed_certificates(alloc: Global, parts: &[ChainPart<'_>]) -> Result<Certificates, OutOfMemory>
-    ensures { IfOk result (λ c. c ≡ texts parts.now) }
+/// A leaf, and copies of the certificates after it.
+fn listed_certificates(
+    alloc: Global,
+    leaf: Certificate,
+    others: &[ChainPart<'_>],
+) -> Result<Certificates, OutOfMemory>
+    ensures { IfOk result (λ c. c ≡ leaf ∷ texts others.now) }
 {
-    let mut certificates = Certificates::with_capacity(alloc, parts.len())?;
-    for part in parts {
+    let mut certificates = Certificates::with_capacity(alloc, others.len() + 1)?;
+    certificates.push(alloc, leaf)?;
+    for part in others {
         certificates.push(alloc, part.certificate(alloc)?)?;
     }
     Ok(certificates)
@@ -85,16 +94,16 @@ fn certificates_of(
     alloc: Global,
     leaf: &ChainPart<'_>,
     others: &[ChainPart<'_>],
-    parts: &[ChainPart<'_>],
 ) -> Result<Certificates, OutOfMemory>
-    requires { parts.now ≡ leaf.now ∷ others.now }
-    ensures { IfOk result (λ c. c ≡ texts parts.now) }
+    ensures { IfOk result (λ c. c ≡ texts (leaf.now ∷ others.now)) }
 {
+    let first = leaf.certificate(alloc)?;
     match others.split_first() {
+        None => Ok(Certificates::one(first)),
         Some((other, rest)) if rest.is_empty() => {
-            Ok(Certificates::two(leaf.certificate(alloc)?, other.certificate(alloc)?))
+            Ok(Certificates::two(first, other.certificate(alloc)?))
         }
-        _ => listed_certificates(alloc, parts),
+        Some(_) => listed_certificates(alloc, first, others),
     }
 }
 
@@ -156,7 +165,8 @@ impl X509Svid {
         X509Svid::parse_whole(alloc, chain, key, hint, None)
     }
 
-    /// The same, where an SVID may be given that most often has the same ID and key.
+    /// The same, where an SVID may be given that most often has the same ID and key. One or two
+    /// certificates take no list.
     #[tactic(auto, unfolding(crate::specs::Chain::svid_of))]
     fn parse_whole(
         alloc: Global,
@@ -167,14 +177,41 @@ impl X509Svid {
     ) -> Result<X509Svid, X509SvidError>
         ensures { Gives is_memory_svid (λ s. s) result (svid_of chain.now key.now hint) }
     {
-        let parts = cut_chain(alloc, chain)?;
+        if chain.is_empty() {
+            return Err(X509SvidError::EmptyChain);
+        }
+        let (leaf, rest) = cut_certificate(chain)?;
+        if rest.is_empty() {
+            return X509Svid::of_parts(alloc, &leaf, &[], key, hint, known);
+        }
+        let (second, after) = cut_certificate(rest)?;
+        if after.is_empty() {
+            return X509Svid::of_parts(alloc, &leaf, slice::from_ref(&second), key, hint, known);
+        }
+        let parts = cut_others(alloc, leaf, second, after)?;
         let Some((leaf, intermediates)) = parts.split_first() else {
             return Err(X509SvidError::EmptyChain);
         };
+        X509Svid::of_parts(alloc, leaf, intermediates, key, hint, known)
+    }
+
+    /// The SVID of a chain that is cut.
+    fn of_parts(
+        alloc: Global,
+        leaf: &ChainPart<'_>,
+        intermediates: &[ChainPart<'_>],
+        key: &[u8],
+        hint: Option<Text>,
+        known: Option<&X509Svid>,
+    ) -> Result<X509Svid, X509SvidError>
+        requires { IsChain (leaf.now ∷ intermediates.now) }
+        ensures { Gives is_memory_svid (λ s. s) result
+            (svid_of_parts key.now hint (leaf.now ∷ intermediates.now)) }
+    {
         let (spiffe_id, expiry) = leaf_rule(alloc, leaf.scan(), id_of(known))?;
         intermediate_rules(alloc, intermediates)?;
         let private_key = key_from(alloc, key, known)?;
-        let cert_chain = certificates_of(alloc, leaf, intermediates, parts.as_slice())?;
+        let cert_chain = certificates_of(alloc, leaf, intermediates)?;
         Ok(X509Svid {
             spiffe_id,
             hint,
