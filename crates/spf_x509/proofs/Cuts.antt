@@ -95,7 +95,7 @@ text_cut b p after all is =
       sym (take-append-drop a.0.1 b),
     )
 
-authority_cut : (b text after : List ℕ) → IsBytes b → authority_at b ≡ Ok (text, after)
+pub authority_cut : (b text after : List ℕ) → IsBytes b → authority_at b ≡ Ok (text, after)
     → (parts : Parts) × CertText text parts × (b ≡ text ++ after)
 unfolding authority_at
 authority_cut b text after all is =

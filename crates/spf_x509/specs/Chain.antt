@@ -43,6 +43,12 @@ authority_at bytes = do
 unfoldable pub authorities_rule : List ℕ → Result (List (List ℕ)) CertificateError
 authorities_rule der = many authority_at (ParseX509Certificate InvalidCertificate) (length der) der
 
+-- the same after other certificates
+abbrev pub authorities_after : List (List ℕ) → List ℕ → Result (List (List ℕ)) CertificateError
+authorities_after certificates der = do
+  more ← authorities_rule der
+  Ok (certificates ++ more)
+
 -- the bytes of certificates
 abbrev pub texts : List (Parts × List ℕ) → List (List ℕ)
 texts parts = map (λ (p : Parts × List ℕ). p.1) parts

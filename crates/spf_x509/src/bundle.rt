@@ -4,7 +4,7 @@ ghost use Rattle.std.specs.Prelude.{◌≡◌, ◌↔◌, ◌<◌, ◌++◌, [],
 ghost use Rattle.std.specs.Prelude.{OnOk};
 ghost use Rattle.spf_io.specs.Rule.{Gives, each};
 ghost use Rattle.spf_x509.specs.Certificate.{certificate_of};
-ghost use Rattle.spf_x509.specs.Chain.{authorities_rule, authority_at};
+ghost use Rattle.spf_x509.specs.Chain.{authorities_after, authorities_rule, authority_at};
 ghost use Rattle.spf_x509.specs.Errors.{is_memory_bundle, is_memory_certificate};
 ghost use Rattle.spf_x509.specs.BundleRule.{added_to, bundle_of};
 
@@ -154,11 +154,16 @@ fn cut_authority(alloc: Global, der: &[u8]) -> Result<(Certificate, &[u8]), Cert
     Ok((certificate, rest))
 }
 
-/// Copies of the certificates whose concatenation the bytes are.
-fn cut_authorities(alloc: Global, der: &[u8]) -> Result<Certificates, CertificateError>
-    ensures { Gives is_memory_certificate (λ c. c) result (authorities_rule der.now) }
+/// The certificates, and after them copies of those whose concatenation the bytes are.
+fn with_authorities(
+    alloc: Global,
+    certificates: Certificates,
+    der: &[u8],
+) -> Result<Certificates, CertificateError>
+    ensures { Gives is_memory_certificate (λ c. c) result
+        (authorities_after certificates der.now) }
 {
-    let mut authorities = Certificates::new();
+    let mut authorities = certificates;
     let mut rest = der;
     while !rest.is_empty() {
         let (authority, after) = cut_authority(alloc, rest)?;
@@ -166,6 +171,25 @@ fn cut_authorities(alloc: Global, der: &[u8]) -> Result<Certificates, Certificat
         rest = after;
     }
     Ok(authorities)
+}
+
+/// Copies of the certificates whose concatenation the bytes are.
+fn cut_authorities(alloc: Global, der: &[u8]) -> Result<Certificates, CertificateError>
+    ensures { Gives is_memory_certificate (λ c. c) result (authorities_rule der.now) }
+{
+    if der.is_empty() {
+        return Ok(Certificates::new());
+    }
+    let (first, rest) = cut_authority(alloc, der)?;
+    if rest.is_empty() {
+        return Ok(Certificates::one(first));
+    }
+    let (second, others) = cut_authority(alloc, rest)?;
+    let two = Certificates::two(first, second);
+    if others.is_empty() {
+        return Ok(two);
+    }
+    with_authorities(alloc, two, others)
 }
 
 impl PartialEq for X509Bundle {

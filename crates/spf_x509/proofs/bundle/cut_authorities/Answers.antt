@@ -1,41 +1,66 @@
-use Rattle.std.proofs.Common.{◌≡◌, ◌<◌, ◌==◌, ℕ, Bool, false, length, arith}
-use Rattle.std.proofs.lemmas.Bool.Decides.{nat_tests}
+use Rattle.std.proofs.Common.{◌<◌, ℕ, [], ◌∷◌, ap, sym, ◌∙◌, Ok, arith}
+use Rattle.std.proofs.lemmas.List.Elements.{All-from_get_or}
 use Rattle.std.proofs.lemmas.Result.{err_from_is_err_and}
-use Rattle.spf_der.specs.declared.error.X509ParseKind.TheVariants.{InvalidCertificate}
-use Rattle.spf_x509.specs.declared.error.CertificateError.TheVariants.{ParseX509Certificate}
-use Rattle.spf_io.proofs.Each.{unless}
-use Rattle.spf_io.proofs.Many.{many_starts, many_more, many_fails}
-use Rattle.spf_x509.specs.Chain.{authority_at, authorities_rule}
-use Rattle.spf_x509.specs.Errors.{is_memory_certificate}
+use Rattle.spf_der.specs.Value.{IsBytes}
+use Rattle.spf_x509.proofs.Authorities.{all_taken, none_taken, octets_after, one_taken}
+use Rattle.spf_x509.proofs.Authorities.{rest_decides, rest_fails, two_taken}
+use Rattle.spf_x509.proofs.Heads.{is_left, none_left}
 use Rattle.spf_x509.proofs.bundle.cut_authorities.Goals as goal
 
-is_left : (n : ℕ) (b : Bool) → b ≡ (n == 0) → b ≡ false → 0 < n
-is_left n b is off = grind (arith, nat_tests, is, off)
+pub returns-then-is_empty : goal.returns-then-is_empty
+returns-then-is_empty c =
+    all_taken _ _ _ (none_taken _) (none_left _ _ c.is_empty.ensures c.if-is_empty.true)
+    ∙ ap Ok (sym c.new.ensures)
 
-pub loop-rest-init : goal.loop-rest-init
-unfolding authorities_rule
-loop-rest-init c =
-    rw c.new-authorities.ensures
-    (many_starts authority_at (ParseX509Certificate InvalidCertificate) c.args.der.now)
-
-pub loop-rest-preserved : goal.loop-rest-preserved
-loop-rest-preserved c =
-    let some : 0 < length c.loop-rest.rest.now = grind arith in
-    rw c.in_ok-push.ensures.ok
-    (many_more authority_at (ParseX509Certificate InvalidCertificate) c.loop-rest.authorities
-    c.loop-rest.rest.now (authorities_rule c.args.der.now) c.in_ok-authority.authority
-    c.in_ok-authority.after.now
-    some c.in_ok-authority.ensures.gives c.in_ok-authority.ensures.shorter c.loop-rest.invariant)
-
-pub returns-in_err-authority : goal.returns-in_err-authority
-returns-in_err-authority c =
-    let some : 0 < length c.loop-rest.rest.now =
-    is_left _ _ c.is_empty.ensures c.loop-rest-test.true in
+pub returns-in_err-first : goal.returns-in_err-first
+returns-in_err-first c =
     let p = err_from_is_err_and c.from_residual.result c.from_residual.ensures.1 in
-    let e = c.in_err-authority.field-0.0 in
     rw (p.1, p.2)
-    (unless (is_memory_certificate e)
-    (λ broken.
-    many_fails authority_at (ParseX509Certificate InvalidCertificate) c.loop-rest.authorities
-    c.loop-rest.rest.now (authorities_rule c.args.der.now) e some broken c.loop-rest.invariant)
-    c.in_err-authority.ensures.gives)
+    (rest_fails _ _ [] c.in_err-first.field-0.0 (none_taken _)
+    (is_left _ _ c.is_empty.ensures c.if-is_empty.false) c.in_err-first.ensures.gives)
+
+pub returns-then-is_empty-2 : goal.returns-then-is_empty-2
+returns-then-is_empty-2 c =
+    let one =
+    one_taken _ _ _ (is_left _ _ c.is_empty.ensures c.if-is_empty.false)
+    c.in_ok-first.ensures.gives c.in_ok-first.ensures.shorter in
+    all_taken _ _ _ one (none_left _ _ c.is_empty-2.ensures c.if-is_empty-2.true)
+    ∙ ap Ok (sym c.one.ensures)
+
+pub returns-in_err-second : goal.returns-in_err-second
+returns-in_err-second c =
+    let one =
+    one_taken _ _ _ (is_left _ _ c.is_empty.ensures c.if-is_empty.false)
+    c.in_ok-first.ensures.gives c.in_ok-first.ensures.shorter in
+    let p =
+    err_from_is_err_and c.from_residual-in_err-second.result
+    c.from_residual-in_err-second.ensures.1 in
+    rw (p.1, p.2)
+    (rest_fails _ _ (c.in_ok-first.first ∷ []) c.in_err-second.field-0.0 one
+    (is_left _ _ c.is_empty-2.ensures c.if-is_empty-2.false) c.in_err-second.ensures.gives)
+
+pub returns-then-is_empty-3 : goal.returns-then-is_empty-3
+returns-then-is_empty-3 c =
+    let one =
+    one_taken _ _ _ (is_left _ _ c.is_empty.ensures c.if-is_empty.false)
+    c.in_ok-first.ensures.gives c.in_ok-first.ensures.shorter in
+    let two =
+    two_taken _ _ _ _ _ one (is_left _ _ c.is_empty-2.ensures c.if-is_empty-2.false)
+    c.in_ok-second.ensures.gives c.in_ok-second.ensures.shorter in
+    all_taken _ _ _ two (none_left _ _ c.is_empty-3.ensures c.if-is_empty-3.true)
+    ∙ ap Ok (sym c.two-two.ensures)
+
+pub returns : goal.returns
+returns c =
+    let one =
+    one_taken _ _ _ (is_left _ _ c.is_empty.ensures c.if-is_empty.false)
+    c.in_ok-first.ensures.gives c.in_ok-first.ensures.shorter in
+    let two =
+    two_taken _ _ _ _ _ one (is_left _ _ c.is_empty-2.ensures c.if-is_empty-2.false)
+    c.in_ok-second.ensures.gives c.in_ok-second.ensures.shorter in
+    let octets : IsBytes c.args.der.now =
+    All-from_get_or (λ (b : ℕ). b < 256) c.args.der.now 0 (λ i lt. omega (arith, c.type_inv.der i)) in
+    let after =
+    octets_after _ _ _ (octets_after _ _ _ octets c.in_ok-first.ensures.gives)
+    c.in_ok-second.ensures.gives in
+    rw (rest_decides _ _ (c.in_ok-first.first ∷ c.in_ok-second.second ∷ []) after two) (rw c.two-two.ensures at c.with_authorities.ensures)
