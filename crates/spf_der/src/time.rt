@@ -1,5 +1,5 @@
 //! Times (RFC 5280 section 4.1.2.5), which are in UTC.
-ghost use Rattle.std.specs.Prelude.{◌≡◌, ◌-◌, ◌<◌, ◌≤◌, IfSome, None, Some, if◌then◌else◌, nat_lt};
+ghost use Rattle.std.specs.Prelude.{◌≡◌, ◌-◌, ◌*◌, ◌<◌, ◌≤◌, IfSome, None, Some, if◌then◌else◌, nat_lt};
 ghost use Rattle.std.specs.Char.{is_ascii_digit};
 ghost use Rattle.std.specs.Option.{option_map};
 ghost use Rattle.spf_der.specs.Time as spec;
@@ -28,7 +28,7 @@ impl DateTime {
 }
 
 /// For each octet its number as a digit, or 100, so that a field with it is past every range.
-const DIGITS: [u8; 256] = [
+const ONES: [u8; 256] = [
     100, 100, 100, 100, 100, 100, 100, 100, 100, 100, 100, 100, 100, 100, 100, 100, 100, 100, 100,
     100, 100, 100, 100, 100, 100, 100, 100, 100, 100, 100, 100, 100, 100, 100, 100, 100, 100, 100,
     100, 100, 100, 100, 100, 100, 100, 100, 100, 100, 0, 1, 2, 3, 4, 5, 6, 7, 8, 9, 100, 100, 100,
@@ -45,31 +45,58 @@ const DIGITS: [u8; 256] = [
     100, 100, 100, 100, 100,
 ];
 
-/// By a table, which takes two loads and no branch.
+/// For each octet ten times its number as a digit, or 100.
+const TENS: [u8; 256] = [
+    100, 100, 100, 100, 100, 100, 100, 100, 100, 100, 100, 100, 100, 100, 100, 100, 100, 100, 100,
+    100, 100, 100, 100, 100, 100, 100, 100, 100, 100, 100, 100, 100, 100, 100, 100, 100, 100, 100,
+    100, 100, 100, 100, 100, 100, 100, 100, 100, 100, 0, 10, 20, 30, 40, 50, 60, 70, 80, 90, 100,
+    100, 100, 100, 100, 100, 100, 100, 100, 100, 100, 100, 100, 100, 100, 100, 100, 100, 100, 100,
+    100, 100, 100, 100, 100, 100, 100, 100, 100, 100, 100, 100, 100, 100, 100, 100, 100, 100, 100,
+    100, 100, 100, 100, 100, 100, 100, 100, 100, 100, 100, 100, 100, 100, 100, 100, 100, 100, 100,
+    100, 100, 100, 100, 100, 100, 100, 100, 100, 100, 100, 100, 100, 100, 100, 100, 100, 100, 100,
+    100, 100, 100, 100, 100, 100, 100, 100, 100, 100, 100, 100, 100, 100, 100, 100, 100, 100, 100,
+    100, 100, 100, 100, 100, 100, 100, 100, 100, 100, 100, 100, 100, 100, 100, 100, 100, 100, 100,
+    100, 100, 100, 100, 100, 100, 100, 100, 100, 100, 100, 100, 100, 100, 100, 100, 100, 100, 100,
+    100, 100, 100, 100, 100, 100, 100, 100, 100, 100, 100, 100, 100, 100, 100, 100, 100, 100, 100,
+    100, 100, 100, 100, 100, 100, 100, 100, 100, 100, 100, 100, 100, 100, 100, 100, 100, 100, 100,
+    100, 100, 100, 100, 100, 100, 100, 100, 100, 100, 100, 100, 100, 100, 100, 100, 100, 100, 100,
+    100, 100, 100, 100, 100, 100, 100,
+];
+
+/// The number of a digit, or 100.
 #[inline(always)]
-fn digit(octet: u8) -> u32
+fn ones(octet: u8) -> u8
     ensures exact { result ≡ (if is_ascii_digit octet then octet - 48 else 100) }
     ensures bound { result ≤ 100 }
 {
-    DIGITS[octet as usize] as u32
+    ONES[octet as usize]
+}
+
+/// Ten times the number of a digit, or 100.
+#[inline(always)]
+fn tens(octet: u8) -> u8
+    ensures exact { result ≡ (if is_ascii_digit octet then (octet - 48) * 10 else 100) }
+    ensures bound { result ≤ 100 }
+{
+    TENS[octet as usize]
 }
 
 /// The number that two digits spell, and 100 or more where one is no digit.
 #[inline(always)]
-fn number(tens: u8, ones: u8) -> u32
-    ensures exact { pair_of tens ones ≡ (if nat_lt result 100 then Some result else None) }
-    ensures bound { result ≤ 1100 }
+fn number(first: u8, second: u8) -> u32
+    ensures exact { pair_of first second ≡ (if nat_lt result 100 then Some result else None) }
+    ensures bound { result ≤ 200 }
 {
-    digit(tens) * 10 + digit(ones)
+    (tens(first) + ones(second)) as u32
 }
 
 /// The number that two digits spell.
 #[inline(always)]
-fn pair(tens: u8, ones: u8) -> Option<u8>
-    ensures exact { result ≡ pair_of tens ones }
+fn pair(first: u8, second: u8) -> Option<u8>
+    ensures exact { result ≡ pair_of first second }
     ensures bound { IfSome result (λ n. n < 100) }
 {
-    let number = number(tens, ones);
+    let number = number(first, second);
     if number < 100 {
         Some(number as u8)
     } else {

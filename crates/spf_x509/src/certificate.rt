@@ -222,6 +222,13 @@ fn is_text_of(uri: &str, id: &SpiffeId) -> bool
     uri == id.as_str() && uri.len() <= MAX_URI_BYTES && uri_has_spiffe_scheme(uri)
 }
 
+/// Whether the text of the ID is not too long for a URI name.
+fn is_short(id: &SpiffeId) -> bool
+    ensures { IsTrue result → uri_rule (id_text id.now) ≡ Ok (Some id.now) }
+{
+    id.as_str().len() <= MAX_URI_BYTES
+}
+
 /// Whether the only URI is the text of the ID.
 fn are_text_of(mut uris: SanUris<'_>, id: &SpiffeId) -> bool
     ensures { IsTrue result → uris_rule uris.entry ≡ Ok id.now }
@@ -265,7 +272,7 @@ pub(crate) fn is_named(certificate: &CertScan<'_>, id: &SpiffeId) -> bool
         return false;
     };
     if is_only_name(contents, id) {
-        return is_text_of(id.as_str(), id);
+        return is_short(id);
     }
     match read_san_uri_views(contents) {
         None => false,
