@@ -257,10 +257,10 @@ fn add_named(
     Ok(())
 }
 
-/// Returns the context of the response that the view holds, where a later bundle of a
-/// trust domain replaces an earlier one. What `held` holds of the same bytes, SVIDs
-/// at the same index or beside it and bundles of the same trust domain, is shared
-/// with it and not read again: the result is the same with any context or none.
+/// Returns the context of the response that the view holds, where a later bundle of a trust domain
+/// replaces an earlier one. What `held` holds of the same bytes is shared with it and not read
+/// again: SVIDs of the ID that the entry names, at the same index or beside it, and bundles of the
+/// same trust domain. The result is the same with any context or none.
 #[tactic(auto, unfolding(crate::specs::Parsed::parsed_of, crate::specs::Parsed::pairs_of))]
 pub fn context_from_view_sharing(
     alloc: Global,
