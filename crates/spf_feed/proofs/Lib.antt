@@ -6,7 +6,6 @@ pub mod EventLemmas
 pub mod FailureLemmas
 pub mod HandLemmas
 pub mod HexLemmas
-pub mod HexSteps
 pub mod LineLemmas
 pub mod Loop
 pub mod Mapped

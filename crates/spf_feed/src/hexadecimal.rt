@@ -13,8 +13,7 @@ fn digit(number: u8) -> u8
     number + b'0' + if number < 10 { 0 } else { 39 }
 }
 
-/// Two digits for each octet. The compiler turns it into steps of [`STEP`] octets.
-#[inline(always)]
+/// Two digits for each octet. The compiler turns it into steps of several octets.
 fn write_hex(octets: &[u8], out: &mut [u8])
     requires { length out.old ≡ 2 * length octets.now }
     ensures { out.new ≡ encode_lower octets.now }
@@ -24,25 +23,6 @@ fn write_hex(octets: &[u8], out: &mut [u8])
         out[2 * i] = digit(octet / 16);
         out[2 * i + 1] = digit(octet % 16);
     }
-}
-
-/// How many octets make a step.
-const STEP: usize = 16;
-
-/// Two digits for each octet, in whole steps. Where octets are left after
-/// them, the last step begins among the octets of the one before it.
-fn write_steps(octets: &[u8], out: &mut [u8])
-    requires { length out.old ≡ 2 * length octets.now }
-    ensures { out.new ≡ encode_lower octets.now }
-{
-    if octets.len() < STEP {
-        write_hex(octets, out);
-        return;
-    }
-    let whole = octets.len() / STEP * STEP;
-    let last = octets.len() - STEP;
-    write_hex(&octets[..whole], &mut out[..2 * whole]);
-    write_hex(&octets[last..], &mut out[2 * last..]);
 }
 
 /// Appends two digits for each octet.
@@ -58,6 +38,6 @@ pub(crate) fn push_hex(line: &mut Vec<u8>, octets: &[u8]) -> Result<(), OutOfMem
         return Err(OutOfMemory);
     };
     line.resize(end, 0)?;
-    write_steps(octets, &mut line[start..]);
+    write_hex(octets, &mut line[start..]);
     Ok(())
 }
