@@ -46,7 +46,8 @@ bundle_in : (entry : SvidEntry) (m : Svid × Bundle) → pair_of entry ≡ Ok m
 unfolding pair_of
 bundle_in entry m is =
     let s = ok_bind {E = WorkloadApiError} (svid_of_entry entry)
-    (λ (svid : Svid). bundle_for svid.id.domain entry.bundle >>= λ bundle. Ok (svid, bundle)) m is in
+    (λ (svid : Svid). bundle_for svid.id.domain entry.bundle >>= λ bundle. Ok (svid, bundle)) m is
+    in
     let b = ok_bind {E = WorkloadApiError} (bundle_for s.0.id.domain entry.bundle)
     (λ (bundle : Bundle). Ok (s.0, bundle)) m s.2 in
     let same : (s.0, b.0) ≡ m = cc (b.2) in

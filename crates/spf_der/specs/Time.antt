@@ -1,6 +1,6 @@
 -- Times (RFC 5280 section 4.1.2.5), as Unix seconds.
-use Rattle.std.specs.Prelude.{ℕ, ◌+◌, ◌-◌, ◌*◌, List, [], ◌∷◌, Option, Some, None, Bool, ◌&&◌}
-use Rattle.std.specs.Prelude.{nat_le, ◌==◌, if◌then◌else◌, ℤ, pos, ◌+ℤ◌, ◌*ℤ◌}
+use Rattle.std.specs.Prelude.{ℕ, ◌+◌, ◌-◌, ◌*◌, List, [], ◌∷◌, length, Option, Some, None, Bool}
+use Rattle.std.specs.Prelude.{◌&&◌, nat_le, ◌==◌, if◌then◌else◌, ℤ, pos, ◌+ℤ◌, ◌*ℤ◌}
 use Rattle.std.specs.Char.{is_ascii_digit}
 use Rattle.jiff_core.specs.Calendar.{days_from_civil, days_in_month}
 use Rattle.spf_io.specs.Option.{◌>>=◌}
@@ -64,3 +64,15 @@ time_at bytes = do
   v ← value_at bytes
   moment ← unix_of v.0 v.1
   Some (moment, v.2)
+
+-- the Time that the bytes are
+abbrev pub whole_time_at : List ℕ → Option ℤ
+whole_time_at bytes = do
+  moment ← time_at bytes
+  if length moment.1 == 0 then Some moment.0 else None
+
+-- the second of the two Times that the bytes are
+abbrev pub second_time_at : List ℕ → Option ℤ
+second_time_at bytes = do
+  start ← time_at bytes
+  whole_time_at start.1

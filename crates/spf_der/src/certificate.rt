@@ -14,7 +14,7 @@ ghost use Rattle.spf_der.specs.Read.{unique_rule};
 ghost use Rattle.spf_der.specs.Value.{seen};
 
 use crate::error::{CertReadError, X509ParseError, X509ParseKind};
-use crate::time::time;
+use crate::time::second_time;
 use crate::types::{
     after_algorithm, after_bit_string, default_false, integer, object_identifier, small_integer,
 };
@@ -60,13 +60,8 @@ fn validity(bytes: &[u8]) -> Option<(i64, &[u8])>
     ensures { option_map (λ x. (x.0, x.1.now)) result ≡ validity_at bytes.now }
 {
     let (times, rest) = tagged(SEQUENCE, bytes)?;
-    let (_start, times) = time(times)?;
-    let (expiry, end) = time(times)?;
-    if end.is_empty() {
-        Some((expiry.unix_second(), rest))
-    } else {
-        None
-    }
+    let expiry = second_time(times)?;
+    Some((expiry, rest))
 }
 
 /// What follows a public key (section 4.1.2.7).

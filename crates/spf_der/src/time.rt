@@ -1,11 +1,13 @@
 //! Times (RFC 5280 section 4.1.2.5), which are in UTC.
-ghost use Rattle.std.specs.Prelude.{◌≡◌, ◌-◌, ◌*◌, ◌<◌, ◌≤◌, IfSome, None, Some, if◌then◌else◌, nat_lt};
+ghost use Rattle.std.specs.Prelude.{◌≡◌, ◌-◌, ◌*◌, ◌<◌, ◌≤◌, IfSome, None, Some, nat_lt};
+ghost use Rattle.std.specs.Prelude.{if◌then◌else◌};
 ghost use Rattle.std.specs.Char.{is_ascii_digit};
 ghost use Rattle.std.specs.Option.{option_map};
 ghost use Rattle.spf_der.specs.Time as spec;
 ghost use Rattle.jiff_core.specs.Date.{epoch_day};
 ghost use Rattle.spf_der.specs.DateTime.{unix_second};
-ghost use Rattle.spf_der.specs.Time.{clock_of, day_number_of, moment_of, pair_of, time_at, unix_of};
+ghost use Rattle.spf_der.specs.Time.{clock_of, day_number_of, moment_of, pair_of, second_time_at};
+ghost use Rattle.spf_der.specs.Time.{time_at, unix_of, whole_time_at};
 
 use crate::value::{GENERALIZED_TIME, UTC_TIME, value};
 use jiff_core::civil::Date;
@@ -209,4 +211,71 @@ pub fn time(bytes: &[u8]) -> Option<(DateTime, &[u8])>
     let (tag, contents, rest) = value(bytes)?;
     let moment = tagged_time(tag, contents)?;
     Some((moment, rest))
+}
+
+/// The Time that the bytes are, in any form.
+#[cold]
+#[inline(never)]
+fn any_whole_time(bytes: &[u8]) -> Option<i64>
+    ensures { result ≡ whole_time_at bytes.now }
+{
+    let (moment, end) = time(bytes)?;
+    if end.is_empty() {
+        Some(moment.unix_second())
+    } else {
+        None
+    }
+}
+
+/// The Time that the bytes are. A UTCTime takes 15 octets, two of them for its tag and length.
+#[inline(always)]
+#[tactic(auto, unfolding(crate::specs::Time::time_at, crate::specs::Value::value_at, crate::specs::Value::contents_at, crate::specs::Value::length_at))]
+fn whole_time(bytes: &[u8]) -> Option<i64>
+    ensures { result ≡ whole_time_at bytes.now }
+{
+    if bytes.len() != 15 {
+        return any_whole_time(bytes);
+    }
+    match bytes {
+        [UTC_TIME, 13, rest @ ..] => {
+            let (contents, end) = rest.split_at(13);
+            let moment = utc_time(contents)?;
+            if end.is_empty() {
+                Some(moment.unix_second())
+            } else {
+                None
+            }
+        }
+        _ => any_whole_time(bytes),
+    }
+}
+
+/// The second of the two Times that the bytes are, in any form.
+#[cold]
+#[inline(never)]
+fn any_second_time(bytes: &[u8]) -> Option<i64>
+    ensures { result ≡ second_time_at bytes.now }
+{
+    let (_start, rest) = time(bytes)?;
+    any_whole_time(rest)
+}
+
+/// The second of the two Times that the bytes are, which most often are UTCTimes. It stands apart
+/// from its caller, which would lack registers for it.
+#[inline(never)]
+#[tactic(auto, unfolding(crate::specs::Time::time_at, crate::specs::Value::value_at, crate::specs::Value::contents_at, crate::specs::Value::length_at))]
+pub(crate) fn second_time(bytes: &[u8]) -> Option<i64>
+    ensures { result ≡ second_time_at bytes.now }
+{
+    if bytes.len() != 30 {
+        return any_second_time(bytes);
+    }
+    match bytes {
+        [UTC_TIME, 13, rest @ ..] => {
+            let (contents, rest) = rest.split_at(13);
+            let _start = utc_time(contents)?;
+            whole_time(rest)
+        }
+        _ => any_second_time(bytes),
+    }
 }

@@ -1,8 +1,8 @@
 //! Values of DER: a tag octet, the shortest length, and
 //! that many contents octets (X.690 sections 8.1 and 10.1).
-ghost use Rattle.std.specs.Prelude.{◌≡◌, ◌-◌, ◌<◌, ◌≤◌, length, IfSome};
+ghost use Rattle.std.specs.Prelude.{◌≡◌, ◌-◌, ◌<◌, ◌≤◌, ◌∷◌, length, IfSome};
 ghost use Rattle.std.specs.Option.{option_map};
-ghost use Rattle.spf_der.specs.Value.{MeetsRest, contents_at, four_octets, length_at};
+ghost use Rattle.spf_der.specs.Value.{MeetsRest, contents_at, four_octets};
 ghost use Rattle.spf_der.specs.Value.{long_length_at, one_octet, optional_at, seen, seen_optional};
 ghost use Rattle.spf_der.specs.Value.{seen_two, seen_value, tagged_at, three_octets, two_octets};
 ghost use Rattle.spf_der.specs.Value.{value_at, whole_at};
@@ -81,29 +81,22 @@ fn long_length(first: u8, rest: &[u8]) -> Option<usize>
     }
 }
 
-/// A length at the start, and what follows it.
+/// The contents and what follows them, after the first octet of their length.
 #[inline(always)]
-#[tactic(auto, unfolding(crate::specs::Value::length_at))]
-fn length_prefix(bytes: &[u8]) -> Option<(usize, &[u8])>
-    ensures exact { option_map (λ x. (x.0, x.1.now)) result ≡ length_at bytes.now }
-    ensures shorter { IfSome result (λ x. length x.1.now < length bytes.now) }
+#[tactic(auto, unfolding(crate::specs::Value::contents_at, crate::specs::Value::length_at))]
+fn contents_after(first: u8, rest: &[u8]) -> Option<(&[u8], &[u8])>
+    ensures exact { seen_two result ≡ contents_at (first ∷ rest.now) }
+    ensures shorter { IfSome result (λ x. length x.1.now ≤ length rest.now) }
 {
-    let (first, rest) = bytes.split_first()?;
-    if *first < 128 {
-        return Some((*first as usize, rest));
+    if first < 128 {
+        if rest.len() < first as usize {
+            return None;
+        }
+        let (contents, rest) = rest.split_at(first as usize);
+        return Some((contents, rest));
     }
-    let length = long_length(*first, rest)?;
-    Some((length, &rest[(*first - 128) as usize..]))
-}
-
-/// Returns the contents of a value after its tag, and what follows them.
-#[inline(always)]
-#[tactic(auto, unfolding(crate::specs::Value::contents_at))]
-pub fn contents(bytes: &[u8]) -> Option<(&[u8], &[u8])>
-    ensures exact { seen_two result ≡ contents_at bytes.now }
-    ensures shorter { IfSome result (λ x. length x.1.now < length bytes.now) }
-{
-    let (length, rest) = length_prefix(bytes)?;
+    let length = long_length(first, rest)?;
+    let rest = &rest[(first - 128) as usize..];
     if rest.len() < length {
         return None;
     }
@@ -111,33 +104,48 @@ pub fn contents(bytes: &[u8]) -> Option<(&[u8], &[u8])>
     Some((contents, rest))
 }
 
+/// Returns the contents of a value after its tag, and what follows them.
+#[inline(always)]
+#[tactic(auto, unfolding(crate::specs::Value::contents_at, crate::specs::Value::length_at))]
+pub fn contents(bytes: &[u8]) -> Option<(&[u8], &[u8])>
+    ensures exact { seen_two result ≡ contents_at bytes.now }
+    ensures shorter { IfSome result (λ x. length x.1.now < length bytes.now) }
+{
+    let (first, rest) = bytes.split_first()?;
+    contents_after(*first, rest)
+}
+
 /// Returns the value at the start: its tag, its contents, and what follows it.
 #[inline(always)]
-#[tactic(auto, unfolding(crate::specs::Value::value_at))]
+#[tactic(auto, unfolding(crate::specs::Value::value_at, crate::specs::Value::contents_at, crate::specs::Value::length_at))]
 pub fn value(bytes: &[u8]) -> Option<(u8, &[u8], &[u8])>
     ensures exact { seen_value result ≡ value_at bytes.now }
     ensures shorter { IfSome result (λ x. length x.2.now < length bytes.now) }
 {
-    let (tag, rest) = bytes.split_first()?;
+    let [tag, first, rest @ ..] = bytes else {
+        return None;
+    };
     if *tag & 0x1f == 0x1f {
         return None;
     }
-    let (contents, rest) = contents(rest)?;
+    let (contents, rest) = contents_after(*first, rest)?;
     Some((*tag, contents, rest))
 }
 
 /// Returns the contents of the value of that tag at the start, and what follows it.
 #[inline(always)]
-#[tactic(auto, unfolding(crate::specs::Value::tagged_at))]
+#[tactic(auto, unfolding(crate::specs::Value::tagged_at, crate::specs::Value::contents_at, crate::specs::Value::length_at))]
 pub fn tagged(tag: u8, bytes: &[u8]) -> Option<(&[u8], &[u8])>
     ensures exact { seen_two result ≡ tagged_at tag bytes.now }
     ensures shorter { IfSome result (λ x. length x.1.now < length bytes.now) }
 {
-    let (first, rest) = bytes.split_first()?;
-    if *first != tag {
+    let [octet, first, rest @ ..] = bytes else {
+        return None;
+    };
+    if *octet != tag {
         return None;
     }
-    contents(rest)
+    contents_after(*first, rest)
 }
 
 /// Returns the contents of the value of that tag, where the bytes are exactly one.

@@ -17,7 +17,7 @@ use Rattle.spf_x509.specs.Chain.{IsChain, IsSvid, certificate_text_at, chain_aft
 use Rattle.spf_x509.specs.Chain.{svid_of, svid_of_parts, texts}
 use Rattle.spf_x509.specs.Errors.{is_memory_certificate, is_memory_svid, svid_of_certificate}
 use Rattle.spf_x509.specs.Svid.{Svid}
-use Rattle.spf_x509.proofs.Cuts.{chain_certs, certs_joined, kept_of}
+use Rattle.spf_x509.proofs.Cuts.{chain_certs, certs_joined, kept_of, ok_bind, ok_is}
 use Rattle.spf_x509.proofs.Within.{GoesWithin, within_done, within_fails, within_more}
 use Rattle.spf_x509.proofs.Within.{within_starts}
 
@@ -78,6 +78,16 @@ others_decide chain after leaf second cut =
     ∙ ap (λ (n : ℕ). with_front (leaf ∷ second ∷ [])
     (many certificate_text_at (TooManyCertificates 16) n after)) left
 
+-- of a chain whose first two are cut, there are some
+pub some_after : (leaf second : Parts × List ℕ) (others : List ℕ) (parts : List (Parts × List ℕ))
+    → chain_after leaf second others ≡ Ok parts → 0 < length parts
+some_after leaf second others parts is =
+    let after : List (Parts × List ℕ) → List (Parts × List ℕ) = λ more. leaf ∷ second ∷ more in
+    let more = ok_bind {E = CertificateError}
+    (many certificate_text_at (TooManyCertificates 16) 14 others) (λ more. Ok (after more)) parts is in
+    subst (λ (ps : List (Parts × List ℕ)). 0 < length ps)
+    (ok_is {E = CertificateError} (after more.0) parts (Ok (after more.0)) refl more.2) (omega arith)
+
 -- the SVID of a chain is that of the certificates that are read of it
 pub parts_decide : (chain key : List ℕ) (hint : Option (List ℕ)) (parts : List (Parts × List ℕ))
     → chain_rule chain ≡ Ok parts → svid_of chain key hint ≡ svid_of_parts key hint parts
@@ -90,7 +100,8 @@ pub none_decide : (chain key : List ℕ) (hint : Option (List ℕ)) (parts : Lis
 none_decide chain key hint [] is none = parts_decide chain key hint [] is
 none_decide chain key hint (p ∷ ps) is none = absurd (omega arith)
 
-memory_stays : (e : CertificateError) → is_memory_svid (svid_of_certificate e) ≡ is_memory_certificate e
+memory_stays : (e : CertificateError)
+    → is_memory_svid (svid_of_certificate e) ≡ is_memory_certificate e
 memory_stays OutOfMemory = refl
 memory_stays _ = refl
 

@@ -13,7 +13,7 @@ use Rattle.spf_io.specs.Rule.{broken_as}
 use Rattle.spf_io.proofs.Exact.{bytes_exact}
 use Rattle.spf_x509.specs.declared.error.X509BundleError.{X509BundleError}
 use Rattle.spf_x509.specs.Bundle.{Bundle, find_entry, with_entry}
-use Rattle.spf_x509.specs.BundleRule.{IsIn, bundle_of}
+use Rattle.spf_x509.specs.BundleRule.{ChangesNothing, IsIn, bundle_of}
 use Rattle.spf_x509.specs.Chain.{authorities_rule}
 use Rattle.spf_x509.specs.Errors.{bundle_of_certificate}
 use Rattle.spf_x509.proofs.Cuts.{ok_bind, ok_is}
@@ -70,12 +70,11 @@ domain_of domain der bundle is =
     let same = ok_is {E = X509BundleError} (made a.0) bundle (Ok (made a.0)) refl a.2 in
     ap (λ (b : Bundle). b.domain) (sym same)
 
-pub is_in : (set : List (List ℕ × Bundle)) (domain der : List ℕ) (bundle : Bundle) → Rises set
-    → find_entry domain set ≡ Some bundle → bundle_of domain (authorities_rule der) ≡ Ok bundle
-    → IsIn set domain der
-is_in set domain der bundle rises found read = record {
-  bundle = bundle;
-  read = read;
-  stays = ap (λ (k : List ℕ). with_entry set k bundle) (domain_of domain der bundle read)
-      ∙ put_again set domain bundle rises found;
-}
+-- where a bundle is found that the bytes are, adding it changes nothing
+pub unchanged : (set : List (List ℕ × Bundle)) (domain der : List ℕ) → Rises set
+    → IsIn set domain der → ChangesNothing set domain der
+unchanged set domain der rises is bundle read =
+    let same : is.bundle ≡ bundle =
+    ok_is is.bundle bundle (bundle_of domain (authorities_rule der)) is.read read in
+    ap (λ (k : List ℕ). with_entry set k bundle) (domain_of domain der bundle read)
+    ∙ put_again set domain bundle rises (is.found ∙ ap Some same)

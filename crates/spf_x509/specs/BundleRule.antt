@@ -1,10 +1,10 @@
 -- How a bundle comes from certificates (SPIFFE Trust Domain and Bundle section 4).
-use Rattle.std.specs.Prelude.{◌≡◌, ℕ, List, [], ◌∷◌, ◌++◌, Result, Ok}
+use Rattle.std.specs.Prelude.{◌≡◌, ℕ, List, [], ◌∷◌, ◌++◌, Result, Ok, Some}
 use Rattle.spf_io.specs.Rule.{◌>>=◌, broken_as}
 use Rattle.spf_x509.specs.declared.error.CertificateError.{CertificateError}
 use Rattle.spf_x509.specs.declared.error.X509BundleError.{X509BundleError}
 use Rattle.spf_x509.specs.Errors.{bundle_of_certificate}
-use Rattle.spf_x509.specs.Bundle.{Bundle, with_entry}
+use Rattle.spf_x509.specs.Bundle.{Bundle, find_entry, with_entry}
 use Rattle.spf_x509.specs.Chain.{authorities_rule}
 
 -- the bundle of a trust domain and the certificates that were read, or why they were not
@@ -21,8 +21,14 @@ added_to bundle read =
     >>= λ authority.
     Ok (record { domain = bundle.domain; authorities = bundle.authorities ++ authority ∷ [] })
 
--- the bundle of a trust domain that the bytes are is in a set: adding it changes nothing
+-- the bundle of a trust domain in a set is the one that the bytes are
 pub record IsIn (set : List (List ℕ × Bundle)) (domain der : List ℕ) : Type 0 where
   pub bundle : Bundle
+  pub found : find_entry domain set ≡ Some bundle
   pub read : bundle_of domain (authorities_rule der) ≡ Ok bundle
-  pub stays : with_entry set bundle.domain bundle ≡ set
+
+-- adding the bundle of a trust domain that the bytes are changes nothing
+abbrev pub ChangesNothing : List (List ℕ × Bundle) → List ℕ → List ℕ → Type 0
+ChangesNothing set domain der =
+    (bundle : Bundle) → bundle_of domain (authorities_rule der) ≡ Ok bundle
+    → with_entry set bundle.domain bundle ≡ set

@@ -1,11 +1,12 @@
 //! The bundles of several trust domains.
 
-ghost use Rattle.std.specs.Prelude.{◌≡◌, ◌==◌, [], IfOk, IsTrue, Some, OnErr, OnOk, length};
+ghost use Rattle.std.specs.Prelude.{◌≡◌, ◌↔◌, ◌==◌, [], IfOk, IsTrue, Some, OnErr, OnOk};
+ghost use Rattle.std.specs.Prelude.{length};
 ghost use Rattle.std.specs.Option.{option_map};
 ghost use Rattle.std.specs.Arc.{arc_value};
 ghost use Rattle.spf_x509.specs.Bundle.{HoldsFront, IsInDomainOrder, KeepsOthers, find_entry};
 ghost use Rattle.spf_x509.specs.Bundle.{with_bundles, with_entry};
-ghost use Rattle.spf_x509.specs.BundleRule.{IsIn};
+ghost use Rattle.spf_x509.specs.BundleRule.{ChangesNothing, IsIn};
 
 use crate::bundle::X509Bundle;
 use crate::bundle_map::{BundleMap, BundleMapIter};
@@ -67,10 +68,11 @@ impl X509BundleSet {
         self.bundles.insert(self.alloc, trust_domain, bundle)
     }
 
-    /// Returns whether the bundle of that trust domain and those bytes stands in the set already.
-    /// Adding it would then change nothing. It allocates nothing.
+    /// Returns whether the bundle of exactly that trust domain and those bytes is in the set, so
+    /// that adding it would change nothing. It allocates nothing.
     pub fn holds_parsed(&self, trust_domain: &TrustDomain, der: &[u8]) -> bool
-        ensures { IsTrue result → IsIn self.now trust_domain.now der.now }
+        ensures is_in { IsTrue result ↔ IsIn self.now trust_domain.now der.now }
+        ensures unchanged { IsTrue result → ChangesNothing self.now trust_domain.now der.now }
     {
         match self.bundles.get(trust_domain) {
             Some(bundle) => bundle.is_parsed_from(trust_domain, der),

@@ -190,7 +190,7 @@ impl X509Svid {
         }
         let parts = cut_others(alloc, leaf, second, after)?;
         let Some((leaf, intermediates)) = parts.split_first() else {
-            return Err(X509SvidError::EmptyChain);
+            unreachable!();
         };
         X509Svid::of_parts(alloc, leaf, intermediates, key, hint, known)
     }

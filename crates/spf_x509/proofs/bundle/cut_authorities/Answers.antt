@@ -59,8 +59,10 @@ returns c =
     two_taken _ _ _ _ _ one (is_left _ _ c.is_empty-2.ensures c.if-is_empty-2.false)
     c.in_ok-second.ensures.gives c.in_ok-second.ensures.shorter in
     let octets : IsBytes c.args.der.now =
-    All-from_get_or (λ (b : ℕ). b < 256) c.args.der.now 0 (λ i lt. omega (arith, c.type_inv.der i)) in
+    All-from_get_or (λ (b : ℕ). b < 256) c.args.der.now 0
+    (λ i lt. omega (arith, c.type_inv.der i)) in
     let after =
     octets_after _ _ _ (octets_after _ _ _ octets c.in_ok-first.ensures.gives)
     c.in_ok-second.ensures.gives in
-    rw (rest_decides _ _ (c.in_ok-first.first ∷ c.in_ok-second.second ∷ []) after two) (rw c.two-two.ensures at c.with_authorities.ensures)
+    rw (rest_decides _ _ (c.in_ok-first.first ∷ c.in_ok-second.second ∷ []) after two)
+    (rw c.two-two.ensures at c.with_authorities.ensures)

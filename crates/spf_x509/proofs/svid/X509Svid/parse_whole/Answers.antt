@@ -4,7 +4,7 @@ use Rattle.std.proofs.lemmas.Result.{err_from_is_err_and}
 use Rattle.spf_der.specs.Value.{IsBytes}
 use Rattle.spf_x509.proofs.Heads.{all_cut, is_left, none_cut, none_decide, none_given, none_left}
 use Rattle.spf_x509.proofs.Heads.{one_cut, others_decide, parts_decide, read_is_chain}
-use Rattle.spf_x509.proofs.Heads.{rest_refused, two_cut}
+use Rattle.spf_x509.proofs.Heads.{rest_refused, some_after, two_cut}
 use Rattle.spf_x509.proofs.svid.X509Svid.parse_whole.Goals as goal
 
 pub returns-then-is_empty : goal.returns-then-is_empty
@@ -82,14 +82,10 @@ returns-in_err-parts c =
     (none_given _ _ _ c.in_err-parts.field-0.0
     (rw (others_decide _ _ _ _ cut) c.in_err-parts.ensures))
 
-pub returns-in_default : goal.returns-in_default
-returns-in_default c =
-    let cut =
-    two_cut _ _ _ _ _ (is_left _ _ c.is_empty.ensures c.if-is_empty.false)
-    c.in_ok-leaf.ensures.gives (is_left _ _ c.is_empty-2.ensures c.if-is_empty-2.false)
-    c.in_ok-second.ensures.gives in
-    none_decide _ _ _ _ (others_decide _ _ _ _ cut ∙ c.in_ok-parts.ensures)
-    (ap length (sym c.deref.ensures.value) ∙ c.in_default.ensures.cases)
+pub unreachable-requires : goal.unreachable-requires
+unreachable-requires c =
+    let some = some_after _ _ _ _ c.in_ok-parts.ensures in
+    omega (arith, some, ap length (sym c.deref.ensures.value) ∙ c.in_default.ensures.cases)
 
 pub of_parts-requires-2 : goal.of_parts-requires-2
 of_parts-requires-2 c =
