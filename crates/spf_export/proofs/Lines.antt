@@ -5,7 +5,8 @@ use Rattle.std.proofs.Common.{◌+◌, get_or}
 use Rattle.spf_disk.specs.declared.generation.AuthorityList.{AuthorityList}
 use Rattle.std.specs.Prelude.{codes}
 use Rattle.std.proofs.lemmas.List.{append_assoc, append-nil, drop_min, drop_more, take_min}
-use Rattle.spf_export.specs.Pem.{authorities_in, authorities_of, block, certificates_text, lines_of, rest_of_line}
+use Rattle.spf_export.specs.Pem.{authorities_in, authorities_of, block, certificates_text, lines_of}
+use Rattle.spf_export.specs.Pem.{rest_of_line}
 
 rest_is : (left : ℕ) (text : List ℕ)
     → rest_of_line left text ≡ take left text ++ 10 ∷ lines_of (drop left text)
@@ -76,6 +77,7 @@ one_more_list name lists i list out more all lt is put so_far =
     ap (λ (l : List ℕ). l ++ later) put
     ∙ append_assoc out (certificates_text (authorities_in name list)) later
     ∙ ap (λ (l : List ℕ). out ++ l)
-    (sym (certificates_append (authorities_in name list) (authorities_of name (drop (i + 1) lists))))
+    (sym
+    (certificates_append (authorities_in name list) (authorities_of name (drop (i + 1) lists))))
     ∙ sym (ap (λ (ls : List AuthorityList). out ++ certificates_text (authorities_of name ls)) cut)
     ∙ so_far

@@ -12,8 +12,10 @@ pub opened-requires-clause-once : goal.opened-requires-clause-once
 opened-requires-clause-once g c =
     subst IsOneStep
     (sym (ap (λ p. p.steps) c.publisher.ensures.publisher ∙ c.publisher.ensures.published
-    ∙ ap (λ core. steps_of (kind_by g.P.SvidPicker.picks core.rules).subject core.run) c.session.ensures))
-    (one_step (rules_by g.P.SvidPicker.picks c.args.feeder.core.rules) c.args.feeder.core.run c.requires.once)
+    ∙ ap (λ core. steps_of (kind_by g.P.SvidPicker.picks core.rules).subject core.run)
+    c.session.ensures))
+    (one_step (rules_by g.P.SvidPicker.picks c.args.feeder.core.rules) c.args.feeder.core.run
+    c.requires.once)
 
 pub new-publisher-requires : goal.new-publisher-requires
 new-publisher-requires g c = c.in-Ok.ensures.kept

@@ -12,7 +12,8 @@ use Rattle.spiffe.proofs.opening.synchronised.Goals as goal
 
 pub returns-in-Err-clause-failed : goal.returns-in-Err-clause-failed
 returns-in-Err-clause-failed g c =
-    subst (SyncFails g.P.SvidPicker.picks c.args.settings (g.C.Connector.validates c.args.connector))
+    subst
+    (SyncFails g.P.SvidPicker.picks c.args.settings (g.C.Connector.validates c.args.connector))
     (sym c.refused_endpoint.ensures)
     (refused_fails g.P.SvidPicker.picks c.args.settings _ c.in-Err.e c.in-Err.ensures.result)
 
@@ -28,9 +29,11 @@ returns-in-Ok-clause-opened g c =
 pub returns-in-Err-opened-clause-failed : goal.returns-in-Err-opened-clause-failed
 returns-in-Err-opened-clause-failed g c =
     let ended = c.in-Err-opened.ensures.ended in
-    subst (SyncFails g.P.SvidPicker.picks c.args.settings (g.C.Connector.validates c.args.connector))
+    subst
+    (SyncFails g.P.SvidPicker.picks c.args.settings (g.C.Connector.validates c.args.connector))
     (sym c.stopped.ensures)
-    (stopped_fails g.P.SvidPicker.picks c.args.settings _ c.in-Err-opened.stop c.in_default.ensures.result
+    (stopped_fails g.P.SvidPicker.picks c.args.settings _ c.in-Err-opened.stop
+    c.in_default.ensures.result
     (record {
       deadline = c.deadline_of.result;
       counts = search rules;

@@ -20,7 +20,8 @@ returns-then-eq c =
     let latest = c.args.self.now in
     let at : latest.read.payload_at ≡ Some c.in_ok-at.at = search rules in
     let items = latest.frames.items in
-    let cut : c.in_ok-get.field-0.now ≡ slice_range items c.in_ok-at.at (length items) = search rules in
+    let cut : c.in_ok-get.field-0.now ≡ slice_range items c.in_ok-at.at (length items) =
+    search rules in
     let rest : c.in_ok-get.field-0.now ≡ drop c.in_ok-at.at items =
     cut ∙ tail_is c.in_ok-at.at items in
     let same : c.in_ok-get.field-0.now ≡ c.args.payload.now = search rules in
