@@ -1,6 +1,7 @@
 pub mod Alike
 pub mod Counted
 pub mod Differences
+pub mod Digits
 pub mod EqualLemmas
 pub mod EventLemmas
 pub mod FailureLemmas

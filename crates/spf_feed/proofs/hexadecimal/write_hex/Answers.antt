@@ -5,8 +5,9 @@ use Rattle.spf_feed.proofs.hexadecimal.write_hex.Goals as goal
 
 pub loop-i-preserved : goal.loop-i-preserved
 loop-i-preserved c =
-    two_more c.args.octets.now c.loop-i.out c.loop-i.i c.digit.result c.digit-in-loop-i.result
-    c.loop-i-test.true (search rules) c.loop-i.invariant c.digit.ensures c.digit-in-loop-i.ensures
+    two_more c.args.octets.now c.loop-i.out c.loop-i.i c.digits-first.result.0
+    c.digits-first.result.1 c.loop-i-test.true (search rules) c.loop-i.invariant
+    c.digits-first.ensures.first c.digits-first.ensures.second
 
 pub returns : goal.returns
 returns c =
