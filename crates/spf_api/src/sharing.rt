@@ -7,6 +7,7 @@ ghost use Rattle.std.specs.Option.{option_map};
 ghost use Rattle.spf_io.specs.Rule.{Gives};
 ghost use Rattle.spf_x509.specs.BundleRule.{bundle_of};
 ghost use Rattle.spf_x509.specs.Chain.{authorities_rule};
+ghost use Rattle.spf_x509.specs.Errors.{is_memory_bundle};
 ghost use Rattle.spf_api.specs.Errors.{is_memory_api};
 ghost use Rattle.spf_api.specs.Views.{svid_entry_of};
 ghost use Rattle.spf_api.specs.Parsed.{hint_rule, svid_of_entry, bundle_for};
@@ -15,7 +16,7 @@ use crate::error::WorkloadApiError;
 use crate::response::SvidEntryView;
 use spf_id::TrustDomain;
 use spf_io::{OutOfMemory, Text};
-use spf_x509::{X509Bundle, X509Context, X509Svid};
+use spf_x509::{X509Bundle, X509BundleError, X509Context, X509Svid};
 use std::alloc::Global;
 use std::sync::Arc;
 
@@ -173,6 +174,20 @@ pub(crate) fn shared_svid(
     }
 }
 
+/// Reads the bundle of a trust domain, with the error of its own rules. It stands apart, since its
+/// result would be moved piece by piece within a caller.
+#[inline(never)]
+fn read_bundle(
+    alloc: Global,
+    trust_domain: TrustDomain,
+    der: &[u8],
+) -> Result<X509Bundle, X509BundleError>
+    ensures { Gives is_memory_bundle (λ b. b) result
+        (bundle_of trust_domain (authorities_rule der.now)) }
+{
+    X509Bundle::parse_from_der(alloc, trust_domain, der)
+}
+
 /// Reads the bundle of a trust domain.
 #[tactic(auto, unfolding(crate::specs::Parsed::bundle_for))]
 pub(crate) fn parse_bundle(
@@ -183,7 +198,7 @@ pub(crate) fn parse_bundle(
     ensures { Gives is_memory_api (λ b. b) result (bundle_for trust_domain.now der.now) }
 {
     let trust_domain = trust_domain.try_clone(alloc)?;
-    Ok(X509Bundle::parse_from_der(alloc, trust_domain, der)?)
+    Ok(read_bundle(alloc, trust_domain, der)?)
 }
 
 /// Returns the bundle, where it is that of the trust domain and was read from these bytes.
@@ -219,6 +234,9 @@ pub(crate) fn shared_bundle(
     if let Some(bundle) = share_of(held, trust_domain, der)? {
         return Ok(bundle);
     }
-    let bundle = parse_bundle(alloc, trust_domain, der)?;
-    Ok(Arc::new(alloc, bundle)?)
+    let trust_domain = trust_domain.try_clone(alloc)?;
+    match read_bundle(alloc, trust_domain, der) {
+        Ok(bundle) => Ok(Arc::new(alloc, bundle)?),
+        Err(error) => Err(WorkloadApiError::from(error)),
+    }
 }
