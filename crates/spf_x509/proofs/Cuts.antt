@@ -380,11 +380,8 @@ Begun der rest done = (front : List ℕ) × (der ≡ front ++ rest) × CertsOf f
 pub begun_more : (certs : List (List ℕ)) (i : ℕ) (item der rest after : List ℕ)
     → Begun der rest (take i certs) → i < length certs → item ≡ get_or certs i item
     → IsCertificate item
-    → take (length item) rest ≡ item → after ≡ drop (length item) rest
-    → Begun der after (take (i + 1) certs)
-begun_more certs i item der rest after (front, cut, done) lt is (parts, text) head tail =
-    let whole : rest ≡ item ++ after =
-    sym (take-append-drop (length item) rest) ∙ (λ k. head k ++ sym tail k) in
+    → rest ≡ item ++ after → Begun der after (take (i + 1) certs)
+begun_more certs i item der rest after (front, cut, done) lt is (parts, text) whole =
     let more : take (i + 1) certs ≡ take i certs ++ item ∷ [] =
     take_more certs i item lt ∙ ap (λ (z : List ℕ). take i certs ++ z ∷ []) (sym is) in (
       front ++ item,

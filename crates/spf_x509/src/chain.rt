@@ -1,6 +1,7 @@
 //! Concatenated certificates: how a chain is cut.
 
-ghost use Rattle.std.specs.Prelude.{◌≡◌, ◌↔◌, ◌<◌, ◌++◌, ◌∷◌, length, IfOk, IfSome, IsTrue};
+ghost use Rattle.std.specs.Prelude.{◌≡◌, ◌≢◌, ◌↔◌, ◌<◌, ◌++◌, ◌∷◌, length, take, IfOk, IfSome};
+ghost use Rattle.std.specs.Prelude.{IsTrue, MatchOption};
 ghost use Rattle.spf_der.specs.Grammar.{CertsOf, joined};
 ghost use Rattle.spf_io.specs.Rule.{Gives};
 ghost use Rattle.spf_x509.specs.Certificate.{IsCertificate};
@@ -90,15 +91,34 @@ pub(crate) fn cut_others<'a>(
     Ok(parts)
 }
 
+/// What follows the text in the bytes, if they begin with it. Two certificates of one name differ
+/// most often in their first octets, which hold the serial number and the dates.
+#[inline(always)]
+fn after<'a>(bytes: &'a [u8], text: &[u8]) -> Option<&'a [u8]>
+    ensures { MatchOption result (take (length text.now) bytes.now ≢ text.now)
+        (λ rest. bytes.now ≡ text.now ++ rest.now) }
+{
+    match (bytes.split_first_chunk::<64>(), text.split_first_chunk::<64>()) {
+        (Some((head, others)), Some((start, end))) => {
+            if head == start {
+                others.strip_prefix(end)
+            } else {
+                None
+            }
+        }
+        _ => bytes.strip_prefix(text),
+    }
+}
+
 /// Whether `der` is these certificates, one after another.
 pub(crate) fn is_concatenation(certificates: &[Certificate], der: &[u8]) -> bool
     ensures { IsTrue result ↔ CertsOf der.now certificates.now }
 {
     let mut rest = der;
     for certificate in certificates {
-        match rest.strip_prefix(certificate.as_bytes()) {
+        match after(rest, certificate.as_bytes()) {
             None => return false,
-            Some(after) => rest = after,
+            Some(others) => rest = others,
         }
     }
     rest.is_empty()
