@@ -65,8 +65,20 @@ impl SpiffeId {
     pub fn new(alloc: Global, text: &str) -> Result<SpiffeId, SpiffeIdError>
         ensures { Gives is_memory (λ id. id) result (id_rule text.now) }
     {
+        SpiffeId::new_sharing(alloc, text, None)
+    }
+
+    /// The same as `new`, where a trust domain may be given that most often is that of the ID: the
+    /// result then shares its name.
+    pub fn new_sharing(
+        alloc: Global,
+        text: &str,
+        known: Option<&TrustDomain>,
+    ) -> Result<SpiffeId, SpiffeIdError>
+        ensures { Gives is_memory (λ id. id) result (id_rule text.now) }
+    {
         let (domain, _) = parts(text)?;
-        let domain = TrustDomain::copy_of(alloc, domain)?;
+        let domain = TrustDomain::named(alloc, domain, known)?;
         let text = Text::copy_of(alloc, text)?;
         Ok(SpiffeId { text, domain })
     }

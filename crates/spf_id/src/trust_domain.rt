@@ -105,10 +105,7 @@ impl TrustDomain {
         ensures { Gives is_memory (λ t. t) result (name_rule text.now) }
     {
         let name = name_in(text)?;
-        match known {
-            Some(known) if known.as_str() == name => Ok(known.try_clone(alloc)?),
-            _ => Ok(TrustDomain::copy_of(alloc, name)?),
-        }
+        Ok(TrustDomain::named(alloc, name, known)?)
     }
 
     /// The same as `new`, keeping the text where it is the name.
@@ -131,6 +128,20 @@ impl TrustDomain {
     {
         let name = Shared::new(alloc, Text::copy_of(alloc, name)?)?;
         Ok(TrustDomain { name })
+    }
+
+    /// The same, which shares the name of a trust domain that is given, where it is the same.
+    pub(crate) fn named(
+        alloc: Global,
+        name: &str,
+        known: Option<&TrustDomain>,
+    ) -> Result<TrustDomain, OutOfMemory>
+        ensures { IfOk result (λ t. t ≡ name.now) }
+    {
+        match known {
+            Some(known) if known.as_str() == name => known.try_clone(alloc),
+            _ => TrustDomain::copy_of(alloc, name),
+        }
     }
 
     pub fn as_str(&self) -> &str

@@ -1,5 +1,5 @@
 use Rattle.spf_id.proofs.Ids.{kept}
-use Rattle.spf_id.proofs.spiffe_id.SpiffeId.new.Goals as goal
+use Rattle.spf_id.proofs.spiffe_id.SpiffeId.new_sharing.Goals as goal
 
 pub invariant_of-result : goal.invariant_of-result
 invariant_of-result c =
