@@ -78,6 +78,12 @@ abbrev pub readable_names : Option (List (List ℕ)) → Result (List (List ℕ)
 readable_names None = Err (UnexpectedExtension (codes "SubjectAlternativeName"))
 readable_names (Some uris) = Ok uris
 
+-- the one ID of a subject alternative name by its contents
+abbrev pub names_rule : List ℕ → Result Id CertificateError
+names_rule contents = do
+  uris ← readable_names (san_uris_of contents)
+  uris_rule uris
+
 -- SanRule: the one SPIFFE ID of the subject alternative
 -- name (RFC 5280 section 4.2.1.6), or the first broken rule
 unfoldable pub san_rule : Parts → Result Id CertificateError

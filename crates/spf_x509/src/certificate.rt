@@ -10,8 +10,8 @@ ghost use Rattle.spf_der.specs.Value.{seen};
 ghost use Rattle.spf_id.specs.Id.{id_text};
 ghost use Rattle.spf_io.specs.Rule.{Gives};
 ghost use Rattle.spf_x509.specs.Certificate.{IsCertificate, certificate_of, extension_rule, oid_of};
-ghost use Rattle.spf_x509.specs.Certificate.{san_rule, spiffe_id_rule, uri_rule, uris_rule};
-ghost use Rattle.spf_x509.specs.Certificate.{whole_rule};
+ghost use Rattle.spf_x509.specs.Certificate.{names_rule, san_rule, spiffe_id_rule, uri_rule};
+ghost use Rattle.spf_x509.specs.Certificate.{uris_rule, whole_rule};
 ghost use Rattle.spf_x509.specs.Errors.{is_memory_certificate};
 
 use crate::error::CertificateError;
@@ -19,7 +19,7 @@ use crate::extension::X509ExtensionId;
 use spf_der::{
     CertScan, SanUris, X509ParseError, X509ParseKind, read_san_uri_views, scan_certificate,
 };
-use spf_id::{SpiffeId, uri_has_spiffe_scheme};
+use spf_id::{SpiffeId, TrustDomain, uri_has_spiffe_scheme};
 use spf_io::{Bytes, OutOfMemory, Text};
 use std::alloc::Global;
 use std::marker::Model;
@@ -167,9 +167,13 @@ fn unexpected_names(alloc: Global) -> Result<CertificateError, OutOfMemory>
     Ok(CertificateError::UnexpectedExtension(extension))
 }
 
-/// The ID that a URI name is, where it is meant as one.
+/// The ID that a URI name is, where it is meant as one. Its trust domain most often is `known`.
 #[tactic(auto, unfolding(crate::specs::Certificate::uri_rule))]
-fn id_of_uri(alloc: Global, uri: &str) -> Result<Option<SpiffeId>, CertificateError>
+fn id_of_uri(
+    alloc: Global,
+    uri: &str,
+    known: Option<&TrustDomain>,
+) -> Result<Option<SpiffeId>, CertificateError>
     ensures { Gives is_memory_certificate (λ id. id) result (uri_rule uri.now) }
 {
     if uri.len() > MAX_URI_BYTES {
@@ -178,17 +182,21 @@ fn id_of_uri(alloc: Global, uri: &str) -> Result<Option<SpiffeId>, CertificateEr
     if !uri_has_spiffe_scheme(uri) {
         return Ok(None);
     }
-    Ok(Some(SpiffeId::new(alloc, uri)?))
+    Ok(Some(SpiffeId::new_sharing(alloc, uri, known)?))
 }
 
 /// The one SPIFFE ID of the URIs, taken in order.
-fn id_of_uris(alloc: Global, mut uris: SanUris<'_>) -> Result<SpiffeId, CertificateError>
+fn id_of_uris(
+    alloc: Global,
+    mut uris: SanUris<'_>,
+    known: Option<&TrustDomain>,
+) -> Result<SpiffeId, CertificateError>
     ensures { Gives is_memory_certificate (λ id. id) result (uris_rule uris.entry) }
 {
     let Some(first) = uris.next_uri() else {
         return Err(CertificateError::MissingSpiffeId);
     };
-    let id = id_of_uri(alloc, first)?;
+    let id = id_of_uri(alloc, first, known)?;
     if uris.next_uri().is_some() {
         return Err(CertificateError::MultipleUriSanEntries);
     }
@@ -198,20 +206,28 @@ fn id_of_uris(alloc: Global, mut uris: SanUris<'_>) -> Result<SpiffeId, Certific
     }
 }
 
-/// The SAN rule: the names can be read, and of their URIs, taken in order,
-/// the only one is a SPIFFE ID.
-#[tactic(auto, unfolding(crate::specs::Certificate::san_rule))]
-pub(crate) fn subject_id(
+/// The one SPIFFE ID of a subject alternative name: the names can be read, and of
+/// their URIs, taken in order, the only one is an ID. Its trust domain most often is `known`.
+pub(crate) fn id_of_names(
     alloc: Global,
-    certificate: &CertScan<'_>,
+    contents: &[u8],
+    known: Option<&TrustDomain>,
 ) -> Result<SpiffeId, CertificateError>
+    ensures { Gives is_memory_certificate (λ id. id) result (names_rule contents.now) }
+{
+    match read_san_uri_views(contents) {
+        None => Err(unexpected_names(alloc)?),
+        Some(uris) => id_of_uris(alloc, uris, known),
+    }
+}
+
+/// The SAN rule.
+#[tactic(auto, unfolding(crate::specs::Certificate::san_rule))]
+fn subject_id(alloc: Global, certificate: &CertScan<'_>) -> Result<SpiffeId, CertificateError>
     ensures { Gives is_memory_certificate (λ id. id) result (san_rule certificate.now) }
 {
     let contents = extension_contents(certificate, X509ExtensionId::SubjectAlternativeName)?;
-    match read_san_uri_views(contents) {
-        None => Err(unexpected_names(alloc)?),
-        Some(uris) => id_of_uris(alloc, uris),
-    }
+    id_of_names(alloc, contents, None)
 }
 
 /// Whether a URI name is the text of the ID.
@@ -252,27 +268,19 @@ fn only_uri(contents: &[u8]) -> Option<&[u8]>
     }
 }
 
-/// Whether the names are one URI, the text of the ID.
-fn is_only_name(contents: &[u8], id: &SpiffeId) -> bool
-    ensures { IsTrue result → san_uris_of contents.now ≡ Some (id_text id.now ∷ []) }
+/// Whether the octets are the text of the ID.
+fn is_ascii_text_of(uri: &[u8], id: &SpiffeId) -> bool
+    ensures { IsTrue result → IsAscii uri.now × (uri.now ≡ id_text id.now) }
 {
-    match only_uri(contents) {
-        Some(uri) => uri == id.as_str().as_bytes() && uri.is_ascii(),
-        None => false,
-    }
+    uri == id.as_str().as_bytes() && uri.is_ascii()
 }
 
-/// Whether the names of a certificate are found to be that ID. It allocates nothing.
-#[tactic(auto, unfolding(crate::specs::Certificate::san_rule))]
-pub(crate) fn is_named(certificate: &CertScan<'_>, id: &SpiffeId) -> bool
-    ensures { IsTrue result → san_rule certificate.now ≡ Ok id.now }
+/// Whether the names are found to be that ID. It allocates nothing.
+pub(crate) fn is_named(contents: &[u8], id: &SpiffeId) -> bool
+    ensures { IsTrue result → names_rule contents.now ≡ Ok id.now }
 {
-    let Ok(contents) = extension_contents(certificate, X509ExtensionId::SubjectAlternativeName)
-    else {
-        return false;
-    };
-    if is_only_name(contents, id) {
-        return is_short(id);
+    if let Some(uri) = only_uri(contents) {
+        return is_ascii_text_of(uri, id) && is_short(id);
     }
     match read_san_uri_views(contents) {
         None => false,

@@ -223,7 +223,8 @@ impl X509Svid {
 
     /// The same, shared, where SVIDs may be given that were read before: certificates after the
     /// leaf that are those of the chain of `near` are copied, and the ID and the key of `known` are
-    /// shared where they are the same. They are not read again.
+    /// shared where they are the same. They are not read again. Without `known`, `near` most often
+    /// has the same trust domain.
     pub fn parse_shared(
         alloc: Global,
         chain: &[u8],
@@ -236,7 +237,7 @@ impl X509Svid {
     {
         match near {
             None => X509Svid::parse_alone(alloc, chain, key, hint, known),
-            Some(near) => near.parse_beside(alloc, chain, key, hint, known),
+            Some(near) => near.parse_beside(alloc, chain, key, hint, known.or(Some(near))),
         }
     }
 

@@ -3,18 +3,18 @@
 ghost use Rattle.std.specs.Prelude.{◌≡◌, IfOk};
 ghost use Rattle.spf_io.specs.Rule.{Gives};
 ghost use Rattle.spf_x509.specs.Chain.{intermediates_rule};
-ghost use Rattle.spf_x509.specs.Certificate.{san_rule};
+ghost use Rattle.spf_x509.specs.Certificate.{names_rule, san_rule};
 ghost use Rattle.spf_x509.specs.Errors.{is_memory_certificate, is_memory_svid};
 ghost use Rattle.spf_x509.specs.Rule.{ca_rule, leaf_rule, leaf_usage, intermediate_rule};
 ghost use Rattle.spf_x509.specs.Rule.{usage_rule};
 
-use crate::certificate::{extension_contents, is_named, subject_id};
+use crate::certificate::{extension_contents, id_of_names, is_named};
 use crate::chain::ChainPart;
 use crate::error::CertificateError;
 use crate::extension::X509ExtensionId;
 use crate::svid_error::X509SvidError;
 use spf_der::{CertScan, KeyUsageBits, read_basic_constraints, read_key_usage};
-use spf_id::{Shared, SpiffeId};
+use spf_id::{Shared, SpiffeId, TrustDomain};
 use spf_io::{OutOfMemory, Text};
 use std::alloc::Global;
 
@@ -67,7 +67,33 @@ fn leaf_usage_rule(usage: KeyUsageBits) -> Result<(), X509SvidError>
     Ok(())
 }
 
+/// The trust domain of an ID, if there is one.
+fn domain_of(id: Option<&Shared<SpiffeId>>) -> Option<&TrustDomain> {
+    match id {
+        Some(id) => Some(id.get().trust_domain()),
+        None => None,
+    }
+}
+
+/// The ID of a subject alternative name, which is shared with a known one where it is the same.
+/// Where only the trust domain is the same, its name is shared.
+#[inline(never)]
+fn shared_id(
+    alloc: Global,
+    names: &[u8],
+    known: Option<&Shared<SpiffeId>>,
+) -> Result<Shared<SpiffeId>, CertificateError>
+    ensures { Gives is_memory_certificate (λ id. id) result (names_rule names.now) }
+{
+    match known {
+        Some(known) if is_named(names, known.get()) => Ok(known.try_clone()?),
+        _ => Ok(Shared::new(alloc, id_of_names(alloc, names, domain_of(known))?)?),
+    }
+}
+
 /// The ID that a leaf names, which is shared with a known one where it is the same.
+#[inline(always)]
+#[tactic(auto, unfolding(crate::specs::Certificate::san_rule))]
 fn leaf_id(
     alloc: Global,
     leaf: &CertScan<'_>,
@@ -75,10 +101,8 @@ fn leaf_id(
 ) -> Result<Shared<SpiffeId>, CertificateError>
     ensures { Gives is_memory_certificate (λ id. id) result (san_rule leaf.now) }
 {
-    match known {
-        Some(known) if is_named(leaf, known.get()) => Ok(known.try_clone()?),
-        _ => Ok(Shared::new(alloc, subject_id(alloc, leaf)?)?),
-    }
+    let names = extension_contents(leaf, X509ExtensionId::SubjectAlternativeName)?;
+    shared_id(alloc, names, known)
 }
 
 /// The rule of the leaf (SPIFFE X.509-SVID section 4): its one ID, which is
