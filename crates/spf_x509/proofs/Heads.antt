@@ -84,9 +84,11 @@ pub some_after : (leaf second : Parts × List ℕ) (others : List ℕ) (parts : 
 some_after leaf second others parts is =
     let after : List (Parts × List ℕ) → List (Parts × List ℕ) = λ more. leaf ∷ second ∷ more in
     let more = ok_bind {E = CertificateError}
-    (many certificate_text_at (TooManyCertificates 16) 14 others) (λ more. Ok (after more)) parts is in
+    (many certificate_text_at (TooManyCertificates 16) 14 others) (λ more. Ok (after more)) parts
+    is in
     subst (λ (ps : List (Parts × List ℕ)). 0 < length ps)
-    (ok_is {E = CertificateError} (after more.0) parts (Ok (after more.0)) refl more.2) (omega arith)
+    (ok_is {E = CertificateError} (after more.0) parts (Ok (after more.0)) refl more.2)
+    (omega arith)
 
 -- the SVID of a chain is that of the certificates that are read of it
 pub parts_decide : (chain key : List ℕ) (hint : Option (List ℕ)) (parts : List (Parts × List ℕ))

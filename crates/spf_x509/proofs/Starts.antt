@@ -33,6 +33,7 @@ same_head now (Some x) head others end bytes text b t (equal, is, _) =
 
 -- bytes that begin otherwise do not begin with the text
 pub other_head : (n : ℕ) (head start bytes text : List ℕ) → n ≤ length text
-    → head ≡ take n bytes → start ≡ take n text → head ≢ start → take (length text) bytes ≢ text
+    → head ≡ take n bytes → start ≡ take n text → head ≢ start
+    → take (length text) bytes ≢ text
 other_head n head start bytes text long h s other same =
     other (h ∙ sym (take-take n (length text) bytes long) ∙ ap (take n) same ∙ sym s)

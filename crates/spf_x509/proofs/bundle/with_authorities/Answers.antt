@@ -22,7 +22,8 @@ loop-rest-preserved c =
     rw c.in_ok-push.ensures.ok
     (many_more authority_at (ParseX509Certificate InvalidCertificate) c.loop-rest.authorities
     c.loop-rest.rest.now (authorities_after c.args.certificates c.args.der.now)
-    c.in_ok-authority.authority c.in_ok-authority.after.now some c.in_ok-authority.ensures.gives c.in_ok-authority.ensures.shorter c.loop-rest.invariant)
+    c.in_ok-authority.authority c.in_ok-authority.after.now some c.in_ok-authority.ensures.gives
+    c.in_ok-authority.ensures.shorter c.loop-rest.invariant)
 
 pub returns-in_err-authority : goal.returns-in_err-authority
 returns-in_err-authority c =
