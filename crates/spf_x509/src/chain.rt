@@ -1,7 +1,7 @@
 //! Concatenated certificates: how a chain is cut.
 
-ghost use Rattle.std.specs.Prelude.{◌≡◌, ◌≢◌, ◌↔◌, ◌<◌, ◌++◌, ◌∷◌, length, take, IfOk, IfSome};
-ghost use Rattle.std.specs.Prelude.{IsTrue, MatchOption};
+ghost use Rattle.std.specs.Prelude.{◌≡◌, ◌≢◌, ◌↔◌, ◌<◌, ◌++◌, ◌∷◌, ℕ, List, length, take, IfOk};
+ghost use Rattle.std.specs.Prelude.{IfSome, IsTrue, MatchOption};
 ghost use Rattle.spf_der.specs.Grammar.{CertsOf, joined};
 ghost use Rattle.spf_io.specs.Rule.{Gives};
 ghost use Rattle.spf_x509.specs.Certificate.{IsCertificate};
@@ -91,22 +91,35 @@ pub(crate) fn cut_others<'a>(
     Ok(parts)
 }
 
-/// What follows the text in the bytes, if they begin with it. Two certificates of one name differ
-/// most often in their first octets, which hold the serial number and the dates.
+/// The octets without a first part that is the same in both, or `None` where the first octets
+/// differ. Those of two certificates of one name most often do, since they hold the serial number
+/// and the dates.
+#[inline(always)]
+fn past_head<'a, 'b>(bytes: &'a [u8], text: &'b [u8]) -> Option<(&'a [u8], &'b [u8])>
+    ensures { MatchOption result (take (length text.now) bytes.now ≢ text.now)
+        (λ p. (head : List ℕ) × (bytes.now ≡ head ++ p.0.now) × (text.now ≡ head ++ p.1.now)) }
+{
+    match (bytes.split_first_chunk::<64>(), text.split_first_chunk::<64>()) {
+        (Some((head, others)), Some((start, end))) => {
+            if head == start {
+                Some((others, end))
+            } else {
+                None
+            }
+        }
+        _ => Some((bytes, text)),
+    }
+}
+
+/// What follows the text in the bytes, if they begin with it.
 #[inline(always)]
 fn after<'a>(bytes: &'a [u8], text: &[u8]) -> Option<&'a [u8]>
     ensures { MatchOption result (take (length text.now) bytes.now ≢ text.now)
         (λ rest. bytes.now ≡ text.now ++ rest.now) }
 {
-    match (bytes.split_first_chunk::<64>(), text.split_first_chunk::<64>()) {
-        (Some((head, others)), Some((start, end))) => {
-            if head == start {
-                others.strip_prefix(end)
-            } else {
-                None
-            }
-        }
-        _ => bytes.strip_prefix(text),
+    match past_head(bytes, text) {
+        None => None,
+        Some((others, end)) => others.strip_prefix(end),
     }
 }
 

@@ -1,34 +1,8 @@
-use Rattle.std.proofs.Common.{◌≡◌, ◌≢◌, [], ◌++◌, take, drop, refl, sym, ◌∙◌, arith}
-use Rattle.std.proofs.lemmas.List.{take-append-drop}
-use Rattle.spf_io.proofs.Exact.{bytes_exact}
-use Rattle.spf_x509.proofs.Starts.{other_head, same_head}
+use Rattle.spf_x509.proofs.Starts.{same_head}
 use Rattle.spf_x509.proofs.chain.after.Goals as goal
 
-pub returns-then-eq : goal.returns-then-eq
-returns-then-eq c =
-    let bytes = c.args.bytes.now in
-    let text = c.args.text.now in
-    let some = c.in-Some-Some in
-    let b = some.ensures.cases in
-    let t = some.ensures'.cases in
-    let same = (bytes_exact some.head.now some.start.now).0 (cc (c.if-eq.true, c.eq.ensures)) in
-    same_head (λ r. r.now) c.strip_prefix.result some.head.now some.others.now some.end.now bytes
-        text (sym (take-append-drop 64 bytes) ∙ (λ i. sym b.0 i ++ sym b.1 i))
-        (sym (take-append-drop 64 text) ∙ (λ i. (sym t.0 ∙ sym same) i ++ sym t.1 i))
-        c.strip_prefix.ensures.cases
-
-pub returns-else-eq : goal.returns-else-eq
-returns-else-eq c =
-    let some = c.in-Some-Some in
-    let b = some.ensures.cases in
-    let t = some.ensures'.cases in
-    let exact = bytes_exact some.head.now some.start.now in
-    let other : some.head.now ≢ some.start.now =
-    λ same. absurd (cc (exact.1 same, c.if-eq.false, c.eq.ensures)) in
-    other_head 64 some.head.now some.start.now c.args.bytes.now c.args.text.now
-        (omega (arith, t.2)) b.0 t.0 other
-
-pub returns-in_default : goal.returns-in_default
-returns-in_default c =
-    same_head (λ r. r.now) c.strip_prefix-in_default.result [] c.args.bytes.now c.args.text.now
-        c.args.bytes.now c.args.text.now refl refl c.strip_prefix-in_default.ensures.cases
+pub returns-in-Some : goal.returns-in-Some
+returns-in-Some c =
+    let head = c.in-Some.ensures in
+    same_head (λ r. r.now) c.strip_prefix.result head.0 c.in-Some.others.now c.in-Some.end.now
+        c.args.bytes.now c.args.text.now head.1 head.2 c.strip_prefix.ensures.cases
