@@ -10,20 +10,20 @@ use Rattle.spf_io.proofs.Exact.{bytes_exact}
 pub same_head : {R : Type 0} (now : R → List ℕ) (r : Option R)
     (head others end bytes text : List ℕ) → bytes ≡ head ++ others → text ≡ head ++ end
     → MatchOption r (pointwise nat_eq (take (length end) others) end ≡ false)
-        (λ x. (pointwise nat_eq (take (length end) others) end ≡ true)
-          × (now x ≡ drop (length end) others) × (length (now x) + length end ≡ length others))
+    (λ x. (pointwise nat_eq (take (length end) others) end ≡ true)
+    × (now x ≡ drop (length end) others) × (length (now x) + length end ≡ length others))
     → MatchOption r (take (length text) bytes ≢ text) (λ x. bytes ≡ text ++ now x)
 same_head now None head others end bytes text b t unequal =
     λ same.
-      let left = drop (length text) bytes in
-      let whole : bytes ≡ text ++ left =
-      sym (take-append-drop (length text) bytes) ∙ ap (λ (z : List ℕ). z ++ left) same in
-      let both : head ++ others ≡ head ++ (end ++ left) =
-      sym b ∙ whole ∙ ap (λ (z : List ℕ). z ++ left) t ∙ append_assoc head end left in
-      let cut : others ≡ end ++ left = append_cancel_left head others (end ++ left) both in
-      let start : take (length end) others ≡ end =
-      ap (take (length end)) cut ∙ take_at end left (length end) refl in
-      absurd (cc ((bytes_exact _ _).1 start, unequal))
+    let left = drop (length text) bytes in
+    let whole : bytes ≡ text ++ left =
+    sym (take-append-drop (length text) bytes) ∙ ap (λ (z : List ℕ). z ++ left) same in
+    let both : head ++ others ≡ head ++ (end ++ left) =
+    sym b ∙ whole ∙ ap (λ (z : List ℕ). z ++ left) t ∙ append_assoc head end left in
+    let cut : others ≡ end ++ left = append_cancel_left head others (end ++ left) both in
+    let start : take (length end) others ≡ end =
+    ap (take (length end)) cut ∙ take_at end left (length end) refl in
+    absurd (cc ((bytes_exact _ _).1 start, unequal))
 same_head now (Some x) head others end bytes text b t (equal, is, _) =
     let start : take (length end) others ≡ end = (bytes_exact _ _).0 equal in
     let cut : others ≡ end ++ now x =

@@ -99,7 +99,10 @@ fn past_head<'a, 'b>(bytes: &'a [u8], text: &'b [u8]) -> Option<(&'a [u8], &'b [
     ensures { MatchOption result (take (length text.now) bytes.now ≢ text.now)
         (λ p. (head : List ℕ) × (bytes.now ≡ head ++ p.0.now) × (text.now ≡ head ++ p.1.now)) }
 {
-    match (bytes.split_first_chunk::<64>(), text.split_first_chunk::<64>()) {
+    match (
+        bytes.split_first_chunk::<64>(),
+        text.split_first_chunk::<64>(),
+    ) {
         (Some((head, others)), Some((start, end))) => {
             if head == start {
                 Some((others, end))

@@ -1,4 +1,4 @@
-use Rattle.std.proofs.Common.{◌≡◌, arith}
+use Rattle.std.proofs.Common.{arith}
 use Rattle.std.proofs.lemmas.Bool.Decides.{nat_tests}
 use Rattle.spf_x509.proofs.Cuts.{begun_done, begun_more, begun_not}
 use Rattle.spf_x509.proofs.chain.is_concatenation.Goals as goal

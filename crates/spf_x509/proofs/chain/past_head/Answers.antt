@@ -1,4 +1,4 @@
-use Rattle.std.proofs.Common.{◌≡◌, ◌≢◌, [], ◌++◌, take, drop, refl, sym, ◌∙◌, arith}
+use Rattle.std.proofs.Common.{◌≢◌, [], ◌++◌, refl, sym, ◌∙◌, arith}
 use Rattle.std.proofs.lemmas.List.{take-append-drop}
 use Rattle.spf_io.proofs.Exact.{bytes_exact}
 use Rattle.spf_x509.proofs.Starts.{other_head}
@@ -24,7 +24,7 @@ returns-else-eq c =
     let other : some.head.now ≢ some.start.now =
     λ same. absurd (cc (exact.1 same, c.if-eq.false, c.eq.ensures)) in
     other_head 64 some.head.now some.start.now c.args.bytes.now c.args.text.now
-        (omega (arith, t.2)) b.0 t.0 other
+    (omega (arith, t.2)) b.0 t.0 other
 
 pub returns-in_default : goal.returns-in_default
 returns-in_default c = ([], refl, refl)
