@@ -36,6 +36,18 @@ pub fn read_byte_field(bytes: &[u8]) -> Option<(&[u8], &[u8])>
     Some(rest.split_at(length))
 }
 
+/// The text that the octets are, where they are UTF-8. It stands apart, since most texts are ASCII.
+#[inline(never)]
+fn any_text(octets: &[u8]) -> Option<&str>
+    ensures { option_map (λ t. t.now) result
+        ≡ (if is_utf8 octets.now then Some octets.now else None) }
+{
+    match str::from_utf8(octets) {
+        Ok(text) => Some(text),
+        Err(_) => None,
+    }
+}
+
 /// The text that the octets are, where they are UTF-8.
 #[inline(always)]
 fn text_of(octets: &[u8]) -> Option<&str>
@@ -46,10 +58,7 @@ fn text_of(octets: &[u8]) -> Option<&str>
         // Octets below 128 are UTF-8.
         return Some(unsafe { str::from_utf8_unchecked(octets) });
     }
-    match str::from_utf8(octets) {
-        Ok(text) => Some(text),
-        Err(_) => None,
-    }
+    any_text(octets)
 }
 
 /// Returns the text field at the start of the bytes,

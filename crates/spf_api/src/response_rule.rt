@@ -1,6 +1,6 @@
 //! The meaning of a response: its SVIDs, bundles and CRLs, or the first rule that it breaks.
 
-ghost use Rattle.std.specs.Prelude.{◌≡◌, map, IsTrue, MatchBool};
+ghost use Rattle.std.specs.Prelude.{◌≡◌, map, IsTrue, MatchBool, Ok};
 ghost use Rattle.std.specs.Arc.{arc_value};
 ghost use Rattle.spf_io.specs.Rule.{Gives, each};
 ghost use Rattle.spf_x509.specs.Bundle.{with_bundles};
@@ -82,9 +82,41 @@ fn check_all_fields(alloc: Global, entries: &[SvidEntryView<'_>]) -> Result<(), 
     Ok(())
 }
 
-/// Checks that there is an SVID, and that no entry lacks a field.
+/// Whether the entry lacks no field.
+#[tactic(auto, unfolding(
+    crate::specs::Parsed::required,
+    crate::specs::Parsed::bundle_required,
+    crate::specs::Parsed::fields_required
+))]
+fn is_complete(entry: &SvidEntryView<'_>) -> bool
+    ensures bundle { IsTrue result → bundle_required (svid_entry_of entry.now) ≡ Ok tt }
+    ensures fields { IsTrue result → fields_required (svid_entry_of entry.now) ≡ Ok tt }
+{
+    !entry.bundle.is_empty()
+        && !entry.spiffe_id.as_bytes().is_empty()
+        && !entry.x509_svid.is_empty()
+        && !entry.x509_svid_key.is_empty()
+}
+
+/// Whether there is an SVID, and no entry lacks a field.
+fn are_complete(entries: &[SvidEntryView<'_>]) -> bool
+    ensures { IsTrue result → entries_rule (map svid_entry_of entries.now) ≡ Ok tt }
+{
+    if entries.is_empty() {
+        return false;
+    }
+    for entry in entries {
+        if !is_complete(entry) {
+            return false;
+        }
+    }
+    true
+}
+
+/// The first thing that the entries lack, if anything.
+#[inline(never)]
 #[tactic(auto, unfolding(crate::specs::Parsed::entries_rule))]
-fn check_entries(alloc: Global, entries: &[SvidEntryView<'_>]) -> Result<(), WorkloadApiError>
+fn first_missing(alloc: Global, entries: &[SvidEntryView<'_>]) -> Result<(), WorkloadApiError>
     ensures { Gives is_memory_api (λ _. tt) result (entries_rule (map svid_entry_of entries.now)) }
 {
     if entries.is_empty() {
@@ -92,6 +124,16 @@ fn check_entries(alloc: Global, entries: &[SvidEntryView<'_>]) -> Result<(), Wor
     }
     check_bundles(alloc, entries)?;
     check_all_fields(alloc, entries)
+}
+
+/// Checks that there is an SVID, and that no entry lacks a field.
+fn check_entries(alloc: Global, entries: &[SvidEntryView<'_>]) -> Result<(), WorkloadApiError>
+    ensures { Gives is_memory_api (λ _. tt) result (entries_rule (map svid_entry_of entries.now)) }
+{
+    if are_complete(entries) {
+        return Ok(());
+    }
+    first_missing(alloc, entries)
 }
 
 /// The held context's bundle of the trust domain.
@@ -211,30 +253,56 @@ fn shared_svids(
     Ok(svids)
 }
 
-/// The trust domain of a bundle of the held context, the next ones of which are `left`, where it
-/// has that name. An agent sends bundles most often in the order of their trust domains.
-fn near_domain<'a>(left: &mut Option<X509BundleIter<'a>>, name: &str) -> Option<&'a TrustDomain> {
+/// A trust domain of the held context, and its bundle.
+type NamedBundle<'a> = (&'a TrustDomain, &'a Arc<X509Bundle>);
+
+/// A bundle of the held context, the next ones of which are `left`: that of the name, where it is
+/// the next. An agent sends bundles most often in the order of their trust domains.
+fn near_bundle<'a>(
+    left: &mut Option<X509BundleIter<'a>>,
+    name: &str,
+) -> Option<NamedBundle<'a>> {
     let left = left.as_mut()?;
-    let (first, _) = left.next()?;
+    let (first, bundle) = left.next()?;
     if first.as_str() == name {
-        return Some(first);
+        return Some((first, bundle));
     }
-    let (second, _) = left.next()?;
-    Some(second)
+    left.next()
 }
 
-/// The bundle of the trust domain of that name, which is shared with `known` where it is the same.
+/// The trust domain of a bundle, if there is one.
+fn domain_of<'a>(near: Option<NamedBundle<'a>>) -> Option<&'a TrustDomain> {
+    match near {
+        Some((trust_domain, _)) => Some(trust_domain),
+        None => None,
+    }
+}
+
+/// The held context's bundle of the trust domain, which `near` most often is.
+fn held_or_near<'a>(
+    near: Option<NamedBundle<'a>>,
+    held: Option<&'a X509Context>,
+    trust_domain: &TrustDomain,
+) -> Option<&'a Arc<X509Bundle>> {
+    match near {
+        Some((name, bundle)) if name == trust_domain => Some(bundle),
+        _ => held_bundle(held, trust_domain),
+    }
+}
+
+/// The bundle of the trust domain of that name, which is shared with the held one where it is the
+/// same: with `near`, or with another of the held context.
 #[tactic(auto, unfolding(crate::specs::Parsed::named_bundle_of))]
-fn named_bundle(
+fn named_bundle<'a>(
     alloc: Global,
     entry: &BundleEntryView<'_>,
-    known: Option<&TrustDomain>,
-    held: Option<&X509Context>,
+    near: Option<NamedBundle<'a>>,
+    held: Option<&'a X509Context>,
 ) -> Result<Arc<X509Bundle>, WorkloadApiError>
     ensures { Gives is_memory_api arc_value result (named_bundle_of (bundle_entry_of entry.now)) }
 {
-    let trust_domain = TrustDomain::new_sharing(alloc, entry.name, known)?;
-    let held = held_bundle(held, &trust_domain);
+    let trust_domain = TrustDomain::new_sharing(alloc, entry.name, domain_of(near))?;
+    let held = held_or_near(near, held, &trust_domain);
     shared_bundle(alloc, &trust_domain, entry.bundle, held)
 }
 
@@ -250,8 +318,8 @@ fn add_named(
 {
     let mut left = held_bundles(held);
     for entry in entries {
-        let known = near_domain(&mut left, entry.name);
-        let bundle = named_bundle(alloc, entry, known, held)?;
+        let near = near_bundle(&mut left, entry.name);
+        let bundle = named_bundle(alloc, entry, near, held)?;
         bundles.add_shared(bundle)?;
     }
     Ok(())

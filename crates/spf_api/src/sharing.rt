@@ -201,23 +201,44 @@ pub(crate) fn parse_bundle(
     Ok(read_bundle(alloc, trust_domain, der)?)
 }
 
-/// Returns the bundle, where it is that of the trust domain and was read from these bytes.
-fn share_of(
-    bundle: Option<&Arc<X509Bundle>>,
+/// Reads the bundle of a trust domain, to be shared. It stands apart, since what is held is most
+/// often the same.
+#[inline(never)]
+#[tactic(auto, unfolding(crate::specs::Parsed::bundle_for))]
+fn read_shared_bundle(
+    alloc: Global,
     trust_domain: &TrustDomain,
     der: &[u8],
-) -> Result<Option<Arc<X509Bundle>>, OutOfMemory>
-    ensures { IfOk result
-        (λ o. IfSome o
-        (λ b. bundle_of trust_domain.now (authorities_rule der.now) ≡ Ok (arc_value b))) }
+) -> Result<Arc<X509Bundle>, WorkloadApiError>
+    ensures { Gives is_memory_api arc_value result (bundle_for trust_domain.now der.now) }
 {
-    let Some(bundle) = bundle else {
-        return Ok(None);
-    };
-    if !bundle.is_parsed_from(trust_domain, der) {
-        return Ok(None);
+    let trust_domain = trust_domain.try_clone(alloc)?;
+    match read_bundle(alloc, trust_domain, der) {
+        Ok(bundle) => Ok(Arc::new(alloc, bundle)?),
+        Err(error) => Err(WorkloadApiError::from(error)),
     }
-    Ok(Some(Arc::try_clone(bundle)?))
+}
+
+/// Returns the bundle, where it is that of the trust domain and was read from these bytes.
+#[inline(always)]
+fn bundle_read_from<'a>(
+    bundle: Option<&'a Arc<X509Bundle>>,
+    trust_domain: &TrustDomain,
+    der: &[u8],
+) -> Option<&'a Arc<X509Bundle>>
+    ensures { IfSome result
+        (λ b. bundle_of trust_domain.now (authorities_rule der.now) ≡ Ok (arc_value b.now)) }
+{
+    match bundle {
+        Some(bundle) => {
+            if bundle.is_parsed_from(trust_domain, der) {
+                Some(bundle)
+            } else {
+                None
+            }
+        }
+        None => None,
+    }
 }
 
 /// Returns the bundle of a trust domain, which is
@@ -231,12 +252,8 @@ pub(crate) fn shared_bundle(
 ) -> Result<Arc<X509Bundle>, WorkloadApiError>
     ensures { Gives is_memory_api arc_value result (bundle_for trust_domain.now der.now) }
 {
-    if let Some(bundle) = share_of(held, trust_domain, der)? {
-        return Ok(bundle);
-    }
-    let trust_domain = trust_domain.try_clone(alloc)?;
-    match read_bundle(alloc, trust_domain, der) {
-        Ok(bundle) => Ok(Arc::new(alloc, bundle)?),
-        Err(error) => Err(WorkloadApiError::from(error)),
+    match bundle_read_from(held, trust_domain, der) {
+        Some(bundle) => Ok(Arc::try_clone(bundle)?),
+        None => read_shared_bundle(alloc, trust_domain, der),
     }
 }

@@ -1,6 +1,5 @@
-use Rattle.std.proofs.Common.{refl, Some}
+use Rattle.std.proofs.Common.{refl}
 use Rattle.std.proofs.lemmas.Str.{IsUtf8-from_ascii, is_utf8-from_IsUtf8}
-use Rattle.spf_api.proofs.Utf8.{is_utf8-false}
 use Rattle.spf_api.proofs.layout.text_of.Goals as goal
 
 pub from_utf8_unchecked-requires : goal.from_utf8_unchecked-requires
@@ -13,11 +12,3 @@ returns-then-is_ascii c =
           (IsUtf8-from_ascii c.args.octets.now c.if-is_ascii.ensures.cases),
       c.from_utf8_unchecked.ensures,
     ) refl
-
-pub returns-in-Ok : goal.returns-in-Ok
-returns-in-Ok c =
-    rw (is_utf8-from_IsUtf8 c.args.octets.now c.in-Ok.ensures.cases.1)
-    (λ i. Some (c.in-Ok.ensures.cases.0 i))
-
-pub returns-in-Err : goal.returns-in-Err
-returns-in-Err c = rw (is_utf8-false c.args.octets.now c.in-Err.ensures.cases.0) refl
