@@ -36,29 +36,27 @@ pub fn read_byte_field(bytes: &[u8]) -> Option<(&[u8], &[u8])>
     Some(rest.split_at(length))
 }
 
-/// The text that the octets are, where they are UTF-8. It stands apart, since most texts are ASCII.
+/// Whether the octets are UTF-8. It stands apart, since most texts are ASCII.
 #[inline(never)]
-fn any_text(octets: &[u8]) -> Option<&str>
-    ensures { option_map (λ t. t.now) result
-        ≡ (if is_utf8 octets.now then Some octets.now else None) }
+fn is_text(octets: &[u8]) -> bool
+    ensures { result ≡ is_utf8 octets.now }
 {
     match str::from_utf8(octets) {
-        Ok(text) => Some(text),
-        Err(_) => None,
+        Ok(_) => true,
+        Err(_) => false,
     }
 }
 
-/// The text that the octets are, where they are UTF-8.
+/// The text that the octets are, where they are UTF-8. Octets below 128 are.
 #[inline(always)]
 fn text_of(octets: &[u8]) -> Option<&str>
     ensures { option_map (λ t. t.now) result
         ≡ (if is_utf8 octets.now then Some octets.now else None) }
 {
-    if octets.is_ascii() {
-        // Octets below 128 are UTF-8.
+    if octets.is_ascii() || is_text(octets) {
         return Some(unsafe { str::from_utf8_unchecked(octets) });
     }
-    any_text(octets)
+    None
 }
 
 /// Returns the text field at the start of the bytes,

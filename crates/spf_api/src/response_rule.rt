@@ -83,11 +83,7 @@ fn check_all_fields(alloc: Global, entries: &[SvidEntryView<'_>]) -> Result<(), 
 }
 
 /// Whether the entry lacks no field.
-#[tactic(auto, unfolding(
-    crate::specs::Parsed::required,
-    crate::specs::Parsed::bundle_required,
-    crate::specs::Parsed::fields_required
-))]
+#[tactic(auto, unfolding(crate::specs::Parsed::required, crate::specs::Parsed::bundle_required, crate::specs::Parsed::fields_required))]
 fn is_complete(entry: &SvidEntryView<'_>) -> bool
     ensures bundle { IsTrue result → bundle_required (svid_entry_of entry.now) ≡ Ok tt }
     ensures fields { IsTrue result → fields_required (svid_entry_of entry.now) ≡ Ok tt }
@@ -258,10 +254,7 @@ type NamedBundle<'a> = (&'a TrustDomain, &'a Arc<X509Bundle>);
 
 /// A bundle of the held context, the next ones of which are `left`: that of the name, where it is
 /// the next. An agent sends bundles most often in the order of their trust domains.
-fn near_bundle<'a>(
-    left: &mut Option<X509BundleIter<'a>>,
-    name: &str,
-) -> Option<NamedBundle<'a>> {
+fn near_bundle<'a>(left: &mut Option<X509BundleIter<'a>>, name: &str) -> Option<NamedBundle<'a>> {
     let left = left.as_mut()?;
     let (first, bundle) = left.next()?;
     if first.as_str() == name {
