@@ -30,6 +30,9 @@ pub(crate) trait EntryView<'a>: Drop {
         ensures { IfOk result (λ e. e ≡ entry_of self.now) };
 }
 
+/// As many entries as a list has room for before any is read.
+const FEW_ENTRIES: usize = 4;
+
 /// Returns the list at the start of the bytes, and what follows it. Memory grows with the entries
 /// that are there, and not with the count.
 pub(crate) fn read_entries<'a, V: EntryView<'a>>(
@@ -43,7 +46,7 @@ pub(crate) fn read_entries<'a, V: EntryView<'a>>(
     let Some((count, mut rest)) = read_number(bytes) else {
         return Ok(None);
     };
-    let mut entries = Vec::new(alloc);
+    let mut entries = Vec::with_capacity(alloc, count.min(FEW_ENTRIES))?;
     'entries: for _ in 0..count {
         let Some((entry, after)) = V::read(rest) else {
             return Ok(None);
