@@ -43,11 +43,13 @@ entry_same p q =
 abbrev pub same_set : List (List ℕ × Bundle) → List (List ℕ × Bundle) → Bool
 same_set = pointwise entry_same
 
--- Same: equal choices, equal bags of SVIDs, the same trust
--- domains with equal bags of authorities, equal bags of CRLs
+-- equal bags of SVIDs, the same trust domains with equal bags of authorities, equal bags of CRLs
+abbrev pub same_members : Context → Context → Bool
+same_members a b =
+    same_bag same_svid a.svids b.svids
+    && (same_set a.bundles b.bundles && same_bag (pointwise nat_eq) a.crls b.crls)
+
+-- Same: equal choices, and the same members
 unfoldable pub same_material : Material → Material → Bool
 same_material a b =
-    option_eq same_choice (chosen_of a) (chosen_of b)
-    && (same_bag same_svid a.context.svids b.context.svids
-    && (same_set a.context.bundles b.context.bundles
-    && same_bag (pointwise nat_eq) a.context.crls b.context.crls))
+    option_eq same_choice (chosen_of a) (chosen_of b) && same_members a.context b.context

@@ -141,21 +141,19 @@ impl Prepared {
     pub(crate) fn is_same(&self, other: &Prepared) -> bool
         ensures { result ≡ is_same_step self.now other.now }
     {
-        match (&self.step, self.orders(), &other.step, other.orders()) {
+        match (&self.step, &other.step) {
             (
                 Step::Accept {
                     context: a,
                     choice: a_choice,
                     ..
                 },
-                Some(a_orders),
                 Step::Accept {
                     context: b,
                     choice: b_choice,
                     ..
                 },
-                Some(b_orders),
-            ) => is_same(a, *a_choice, a_orders, b, *b_choice, b_orders),
+            ) => is_same(a, *a_choice, &self.indices, b, *b_choice, &other.indices),
             _ => false,
         }
     }
