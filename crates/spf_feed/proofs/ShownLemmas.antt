@@ -1,10 +1,11 @@
 -- The texts of lines: of sorted indices, at two moments, and of material that is the same.
-use Rattle.std.proofs.Common.{◌≡◌, ℕ, ◌+◌, ◌≤◌, Bool, true, false, not, cond, ◌&&◌, List, [], ◌∷◌}
+use Rattle.std.proofs.Common.{◌≡◌, ℕ, suc, ◌+◌, ◌-◌, ◌≤◌, Bool, true, false, not, cond, ◌&&◌, List, [], ◌∷◌}
 use Rattle.std.proofs.Common.{◌++◌, length, map, take, Option, None, Some, refl, sym, ap, ◌∙◌}
 use Rattle.std.proofs.Common.{subst, append_assoc, length-take-le, arith}
 use Rattle.std.specs.Prelude.{ℤ, int_lt, codes, nat_eq, slice_get, is_some, decimal, drop, ◌==◌}
 use Rattle.std.proofs.Math.Bool.{beq}
 use Rattle.std.proofs.lemmas.List.{drop_at, drop_all, drop-drop, append-nil, take_all}
+use Rattle.std.proofs.lemmas.List.{drop-take}
 use Rattle.std.specs.List.{flat_map}
 use Rattle.std.specs.Ordering.{nat_cmp, int_eq, is_eq}
 use Rattle.std.specs.declared.cmp.Ordering.{Ordering}
@@ -123,6 +124,33 @@ pub number_before : (old new digits : List ℕ) (start end : ℕ) → start + le
 number_before old new digits start end size written =
     ap (λ n. drop n new) (sym size) ∙ sym (drop-drop (length digits) start new)
     ∙ ap (drop (length digits)) written ∙ drop_at digits (drop end old) (length digits) refl
+
+-- so it does in a front of the buffer
+pub cut_after : (old new : List ℕ) (room end : ℕ) → room ≤ end → drop room new ≡ drop room old
+    → drop room (take end new) ≡ drop room (take end old)
+cut_after old new room end le same =
+    let on : room + (end - room) ≡ end = omega arith in
+    ap (λ n. drop room (take n new)) (sym on) ∙ drop-take room (end - room) new
+    ∙ ap (take (end - room)) same ∙ sym (drop-take room (end - room) old)
+    ∙ ap (λ n. drop room (take n old)) on
+
+take_past : (xs ys : List ℕ) (n : ℕ) → take (length xs + n) (xs ++ ys) ≡ xs ++ take n ys
+take_past [] ys n = ap (λ m. take m ys) (omega arith)
+take_past (x ∷ xs) ys n =
+    let more : length (x ∷ xs) + n ≡ suc (length xs + n) = omega arith in
+    ap (λ m. take m (x ∷ (xs ++ ys))) more ∙ ap (λ l. x ∷ l) (take_past xs ys n)
+
+-- a number, and what follows it up to the end
+pub numbered : (old new digits : List ℕ) (start room end : ℕ) → start + length digits ≡ room
+    → room ≤ end → drop start new ≡ digits ++ drop room old
+    → take (end - start) (drop start new) ≡ digits ++ drop room (take end old)
+numbered old new digits start room end size le written =
+    let on : room + (end - room) ≡ end = omega arith in
+    let long : end - start ≡ length digits + (end - room) = omega (arith, size, le) in
+    ap (take (end - start)) written ∙ ap (λ n. take n (digits ++ drop room old)) long
+    ∙ take_past digits (drop room old) (end - room)
+    ∙ ap (λ l. digits ++ l)
+    (sym (drop-take room (end - room) old) ∙ ap (λ n. drop room (take n old)) on)
 
 -- ---- one view at two moments
 

@@ -1,10 +1,7 @@
 //! Octets in hexadecimal, in lower case.
 
-ghost use Rattle.std.specs.Prelude.{◌≡◌, ◌≤◌, ◌*◌, ◌/◌, ◌%◌, ◌++◌, length, OnOk, slice_index};
-ghost use Rattle.std.specs.Prelude.{vec_len};
+ghost use Rattle.std.specs.Prelude.{◌≡◌, ◌*◌, ◌/◌, ◌%◌, length, slice_index};
 ghost use Rattle.hex.specs.Hex.{lower_digits, encode_lower};
-
-use spf_io::OutOfMemory;
 
 /// The two digits of an octet. Both halves become digits within one number: in the steps of several
 /// octets that the compiler makes, this takes fewer instructions than two numbers would.
@@ -22,7 +19,7 @@ fn digits(octet: u8) -> (u8, u8)
 }
 
 /// Two digits for each octet. The compiler turns it into steps of several octets.
-fn write_hex(octets: &[u8], out: &mut [u8])
+pub(crate) fn write_hex(octets: &[u8], out: &mut [u8])
     requires { length out.old ≡ 2 * length octets.now }
     ensures { out.new ≡ encode_lower octets.now }
 {
@@ -31,21 +28,4 @@ fn write_hex(octets: &[u8], out: &mut [u8])
         out[2 * i] = first;
         out[2 * i + 1] = second;
     }
-}
-
-/// Appends two digits for each octet.
-pub(crate) fn push_hex(line: &mut Vec<u8>, octets: &[u8]) -> Result<(), OutOfMemory>
-    ensures text { OnOk result (line.new.items ≡ line.old.items ++ encode_lower octets.now) }
-    ensures grows { vec_len line.old ≤ vec_len line.new }
-{
-    let start = line.len();
-    let Some(size) = octets.len().checked_mul(2) else {
-        return Err(OutOfMemory);
-    };
-    let Some(end) = start.checked_add(size) else {
-        return Err(OutOfMemory);
-    };
-    line.resize(end, 0)?;
-    write_hex(octets, &mut line[start..]);
-    Ok(())
 }

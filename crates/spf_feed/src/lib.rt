@@ -11,6 +11,7 @@ mod indices;
 pub mod laws;
 mod limits;
 mod line;
+mod line_buffer;
 mod payload;
 mod phase;
 mod picker;

@@ -1,7 +1,7 @@
 //! The lines that show a session.
 
 ghost use Rattle.std.specs.Prelude.{◌≡◌, ◌≤◌, ◌++◌, ◌∷◌, ℕ, ℤ, false, Bool, List, Option, None};
-ghost use Rattle.std.specs.Prelude.{IsTrue, IfOk, OnOk, decimal, vec_len};
+ghost use Rattle.std.specs.Prelude.{IsTrue, IfOk, OnOk, decimal, length};
 ghost use Rattle.std.specs.List.{flat_map};
 ghost use Rattle.std.specs.Option.{option_map};
 ghost use Rattle.std.specs.Arc.{arc_value};
@@ -21,8 +21,8 @@ ghost use Rattle.spf_feed.specs.Standing.{view_in, IsKept};
 ghost use Rattle.spf_feed.specs.Steps.{is_accept};
 ghost use Rattle.spf_feed.specs.Numbered.{ShowsKept};
 
-use crate::hexadecimal::push_hex;
 use crate::indices::Indices;
+use crate::line_buffer::LineBuffer;
 use crate::picker::usable;
 use crate::prepared::Prepared;
 use crate::snapshot::Snapshot;
@@ -66,53 +66,53 @@ impl Octets for Bytes {
 }
 
 /// Appends each item with a comma before it.
-fn push_others<T: Octets>(line: &mut Vec<u8>, items: &[T]) -> Result<(), OutOfMemory>
+fn push_others<T: Octets>(line: &mut LineBuffer, items: &[T]) -> Result<(), OutOfMemory>
     ensures text { OnOk result
-        (line.new.items ≡ line.old.items ++ flat_map (λ x. after_comma (T.shown x)) items.now) }
-    ensures grows { vec_len line.old ≤ vec_len line.new }
+        (line.new ≡ line.old ++ flat_map (λ x. after_comma (T.shown x)) items.now) }
+    ensures grows { length line.old ≤ length line.new }
 {
     for item in items {
         line.push(b',')?;
-        push_hex(line, item.octets())?;
+        line.push_hex(item.octets())?;
     }
     Ok(())
 }
 
 /// Appends the items in order, with commas between them.
-fn push_list<T: Octets>(line: &mut Vec<u8>, items: &[T]) -> Result<(), OutOfMemory>
-    ensures text { OnOk result (line.new.items ≡ line.old.items ++ hex_list T.shown items.now) }
-    ensures grows { vec_len line.old ≤ vec_len line.new }
+fn push_list<T: Octets>(line: &mut LineBuffer, items: &[T]) -> Result<(), OutOfMemory>
+    ensures text { OnOk result (line.new ≡ line.old ++ hex_list T.shown items.now) }
+    ensures grows { length line.old ≤ length line.new }
 {
     let Some((first, others)) = items.split_first() else {
         return Ok(());
     };
-    push_hex(line, first.octets())?;
+    line.push_hex(first.octets())?;
     push_others(line, others)?;
     Ok(())
 }
 
-fn push_at<T: Octets>(line: &mut Vec<u8>, items: &[T], index: usize) -> Result<(), OutOfMemory>
+fn push_at<T: Octets>(line: &mut LineBuffer, items: &[T], index: usize) -> Result<(), OutOfMemory>
     ensures text { OnOk result
-        (line.new.items ≡ line.old.items ++ encode_lower (shown_at T.shown items.now index)) }
-    ensures grows { vec_len line.old ≤ vec_len line.new }
+        (line.new ≡ line.old ++ encode_lower (shown_at T.shown items.now index)) }
+    ensures grows { length line.old ≤ length line.new }
 {
     match items.get(index) {
-        Some(item) => push_hex(line, item.octets()),
+        Some(item) => line.push_hex(item.octets()),
         None => Ok(()),
     }
 }
 
 /// Appends the items at the indices, each with a comma before it.
 fn push_other_indices<T: Octets>(
-    line: &mut Vec<u8>,
+    line: &mut LineBuffer,
     items: &[T],
     indices: &[usize],
 ) -> Result<(), OutOfMemory>
     ensures text { OnOk result
-        (line.new.items
-        ≡ line.old.items
+        (line.new
+        ≡ line.old
         ++ flat_map (λ p. after_comma (shown_at T.shown items.now p)) indices.now) }
-    ensures grows { vec_len line.old ≤ vec_len line.new }
+    ensures grows { length line.old ≤ length line.new }
 {
     for index in indices {
         line.push(b',')?;
@@ -123,13 +123,13 @@ fn push_other_indices<T: Octets>(
 
 /// Appends the items at the indices in order, with commas between them.
 fn push_indices<T: Octets>(
-    line: &mut Vec<u8>,
+    line: &mut LineBuffer,
     items: &[T],
     indices: &[usize],
 ) -> Result<(), OutOfMemory>
     ensures text { OnOk result
-        (line.new.items ≡ line.old.items ++ hex_list (shown_at T.shown items.now) indices.now) }
-    ensures grows { vec_len line.old ≤ vec_len line.new }
+        (line.new ≡ line.old ++ hex_list (shown_at T.shown items.now) indices.now) }
+    ensures grows { length line.old ≤ length line.new }
 {
     let Some((first, others)) = indices.split_first() else {
         return Ok(());
@@ -141,19 +141,19 @@ fn push_indices<T: Octets>(
 
 /// Appends a trust domain, and its authorities at the indices.
 fn push_bundle(
-    line: &mut Vec<u8>,
+    line: &mut LineBuffer,
     domain: &TrustDomain,
     authorities: &[Certificate],
     order: &[usize],
 ) -> Result<(), OutOfMemory>
     ensures text { OnOk result
-        (line.new.items
-        ≡ line.old.items ++ 32 ∷ domain.now
+        (line.new
+        ≡ line.old ++ 32 ∷ domain.now
         ++ 61 ∷ hex_list (shown_at (λ c. c) authorities.now) order.now) }
-    ensures grows { vec_len line.old ≤ vec_len line.new }
+    ensures grows { length line.old ≤ length line.new }
 {
     line.push(b' ')?;
-    line.extend_from_slice(domain.as_str().as_bytes())?;
+    line.extend(domain.as_str().as_bytes())?;
     line.push(b'=')?;
     push_indices(line, authorities, order)?;
     Ok(())
@@ -161,13 +161,13 @@ fn push_bundle(
 
 /// Appends, for each trust domain in order, its name and its authorities, sorted.
 fn push_bundles(
-    line: &mut Vec<u8>,
+    line: &mut LineBuffer,
     set: &X509BundleSet,
     orders: &[Indices],
 ) -> Result<(), OutOfMemory>
     requires { AreIndexed set.now orders.now }
-    ensures text { OnOk result (line.new.items ≡ line.old.items ++ flat_map entry_text set.now) }
-    ensures grows { vec_len line.old ≤ vec_len line.new }
+    ensures text { OnOk result (line.new ≡ line.old ++ flat_map entry_text set.now) }
+    ensures grows { length line.old ≤ length line.new }
 {
     let mut left = orders;
     for (domain, bundle) in set.iter() {
@@ -179,34 +179,34 @@ fn push_bundles(
 }
 
 /// Appends the revocation lists, sorted, where there is one.
-fn push_crls(line: &mut Vec<u8>, crls: &[Bytes], order: &[usize]) -> Result<(), OutOfMemory>
+fn push_crls(line: &mut LineBuffer, crls: &[Bytes], order: &[usize]) -> Result<(), OutOfMemory>
     requires { IsSortedIndices (slice_cmp nat_cmp) crls.now order.now }
-    ensures text { OnOk result (line.new.items ≡ line.old.items ++ revocations_text crls.now) }
-    ensures grows { vec_len line.old ≤ vec_len line.new }
+    ensures text { OnOk result (line.new ≡ line.old ++ revocations_text crls.now) }
+    ensures grows { length line.old ≤ length line.new }
 {
     if crls.is_empty() {
         return Ok(());
     }
-    line.extend_from_slice(b" #")?;
+    line.extend(b" #")?;
     push_indices(line, crls, order)?;
     Ok(())
 }
 
 /// Appends the ID, the expiry and the chain of an SVID, or three dashes.
-fn push_choice(line: &mut Vec<u8>, svid: Option<&Arc<X509Svid>>) -> Result<(), OutOfMemory>
+fn push_choice(line: &mut LineBuffer, svid: Option<&Arc<X509Svid>>) -> Result<(), OutOfMemory>
     ensures text { OnOk result
-        (line.new.items
-        ≡ line.old.items ++ choice_text (option_map (λ a. arc_value a.now) svid.entry)) }
-    ensures grows { vec_len line.old ≤ vec_len line.new }
+        (line.new
+        ≡ line.old ++ choice_text (option_map (λ a. arc_value a.now) svid.entry)) }
+    ensures grows { length line.old ≤ length line.new }
 {
     let Some(svid) = svid else {
-        line.extend_from_slice(b" - - -")?;
+        line.extend(b" - - -")?;
         return Ok(());
     };
     line.push(b' ')?;
-    line.extend_from_slice(svid.spiffe_id().as_str().as_bytes())?;
+    line.extend(svid.spiffe_id().as_str().as_bytes())?;
     line.push(b' ')?;
-    line.extend_from_slice(Buffer::new().format(svid.expiry_unix()).as_bytes())?;
+    line.extend(Buffer::new().format(svid.expiry_unix()).as_bytes())?;
     line.push(b' ')?;
     push_list(line, svid.cert_chain())?;
     Ok(())
@@ -214,30 +214,34 @@ fn push_choice(line: &mut Vec<u8>, svid: Option<&Arc<X509Svid>>) -> Result<(), O
 
 /// Appends a context by its orders, and the choice that is shown.
 fn push_context(
-    line: &mut Vec<u8>,
+    line: &mut LineBuffer,
     context: &X509Context,
     orders: Orders<'_>,
     choice: Option<&Arc<X509Svid>>,
 ) -> Result<(), OutOfMemory>
     requires { AreSorted context.now (listed orders) }
     ensures text { OnOk result
-        (line.new.items
-        ≡ line.old.items
+        (line.new
+        ≡ line.old
         ++ context_text context.now (option_map (λ a. arc_value a.now) choice.entry)) }
-    ensures grows { vec_len line.old ≤ vec_len line.new }
+    ensures grows { length line.old ≤ length line.new }
 {
-    line.extend_from_slice(b" permitted")?;
+    line.extend(b" permitted")?;
     push_choice(line, choice)?;
     push_bundles(line, context.bundle_set(), orders.authorities)?;
     push_crls(line, context.crls(), orders.crls)?;
     Ok(())
 }
 
-fn push_permitted(line: &mut Vec<u8>, held: &Prepared, now: Option<i64>) -> Result<(), OutOfMemory>
+fn push_permitted(
+    line: &mut LineBuffer,
+    held: &Prepared,
+    now: Option<i64>,
+) -> Result<(), OutOfMemory>
     requires { IsTrue (is_accept held.now) }
     ensures text { OnOk result
-        (line.new.items ≡ line.old.items ++ visible_text (shown_by held.now) now) }
-    ensures grows { vec_len line.old ≤ vec_len line.new }
+        (line.new ≡ line.old ++ visible_text (shown_by held.now) now) }
+    ensures grows { length line.old ≤ length line.new }
 {
     let choice = usable(held.chosen(), now);
     match (held.context(), held.orders()) {
@@ -246,15 +250,15 @@ fn push_permitted(line: &mut Vec<u8>, held: &Prepared, now: Option<i64>) -> Resu
     }
 }
 
-fn push_withdrawn(line: &mut Vec<u8>, reason: &Denial) -> Result<(), OutOfMemory>
-    ensures text { OnOk result (line.new.items ≡ line.old.items ++ withdrawn_text reason.now) }
-    ensures grows { vec_len line.old ≤ vec_len line.new }
+fn push_withdrawn(line: &mut LineBuffer, reason: &Denial) -> Result<(), OutOfMemory>
+    ensures text { OnOk result (line.new ≡ line.old ++ withdrawn_text reason.now) }
+    ensures grows { length line.old ≤ length line.new }
 {
     match reason {
-        Denial::NoIdentityIssued => line.extend_from_slice(b" withdrawn no_identity_issued")?,
+        Denial::NoIdentityIssued => line.extend(b" withdrawn no_identity_issued")?,
         Denial::PermissionDenied(message) => {
-            line.extend_from_slice(b" withdrawn permission_denied:")?;
-            push_hex(line, message.as_str().as_bytes())?;
+            line.extend(b" withdrawn permission_denied:")?;
+            line.push_hex(message.as_str().as_bytes())?;
         }
     }
     Ok(())
@@ -262,14 +266,14 @@ fn push_withdrawn(line: &mut Vec<u8>, reason: &Denial) -> Result<(), OutOfMemory
 
 /// Appends what is visible, which follows the revision.
 fn push_visible(
-    line: &mut Vec<u8>,
+    line: &mut LineBuffer,
     standing: &Standing,
     now: Option<i64>,
 ) -> Result<(), OutOfMemory>
     requires { IsKept standing.now }
     ensures text { OnOk result
-        (line.new.items ≡ line.old.items ++ visible_text (view_in standing.now) now) }
-    ensures grows { vec_len line.old ≤ vec_len line.new }
+        (line.new ≡ line.old ++ visible_text (view_in standing.now) now) }
+    ensures grows { length line.old ≤ length line.new }
 {
     match standing {
         Standing::Permitted(held) => push_permitted(line, held, now),
@@ -280,17 +284,17 @@ fn push_visible(
 /// Appends the revision, what is visible, and a line feed.
 #[tactic(auto, unfolding(crate::specs::Shown::view_line))]
 fn push_view(
-    line: &mut Vec<u8>,
+    line: &mut LineBuffer,
     revision: u64,
     standing: &Standing,
     now: Option<i64>,
 ) -> Result<(), OutOfMemory>
     requires { IsKept standing.now }
     ensures text { OnOk result
-        (line.new.items ≡ line.old.items ++ view_line (view_in standing.now) revision now) }
-    ensures grows { vec_len line.old ≤ vec_len line.new }
+        (line.new ≡ line.old ++ view_line (view_in standing.now) revision now) }
+    ensures grows { length line.old ≤ length line.new }
 {
-    line.extend_from_slice(Buffer::new().format(revision).as_bytes())?;
+    line.extend(Buffer::new().format(revision).as_bytes())?;
     push_visible(line, standing, now)?;
     line.push(b'\n')?;
     Ok(())
@@ -305,9 +309,9 @@ pub fn state_line(
 ) -> Result<Text, OutOfMemory>
     ensures { IfOk result (λ t. t ≡ view_line state.now.view state.now.revision now) }
 {
-    let mut line = Vec::new(alloc);
+    let mut line = LineBuffer::new(alloc);
     push_view(&mut line, state.revision(), state.standing(), now)?;
-    match String::from_utf8(line) {
+    match String::from_utf8(line.into_octets()) {
         Ok(text) => Ok(Text::new(text)),
         Err(_) => Err(OutOfMemory),
     }
@@ -317,19 +321,19 @@ pub fn state_line(
 /// written anew only where that changes.
 #[derive(Debug, Drop)]
 pub(crate) struct NumberedLine {
-    octets: Vec<u8>,
+    octets: LineBuffer,
     shows_choice: bool,
 }
 
 impl Model for NumberedLine {
-    ghost use Rattle.std.specs.Prelude.{◌≤◌, drop, vec_len};
+    ghost use Rattle.std.specs.Prelude.{◌≤◌, drop, length};
     ghost use Rattle.spf_feed.specs.Numbered.{LineView};
 
     ghost Value = { LineView };
 
-    ghost view = { λ l. record { text = drop 20 l.octets.items; shows_choice = l.shows_choice } };
+    ghost view = { λ l. record { text = drop 20 l.octets; shows_choice = l.shows_choice } };
 
-    ghost invariant = { λ l. 20 ≤ vec_len l.octets };
+    ghost invariant = { λ l. 20 ≤ length l.octets };
 }
 
 impl NumberedLine {
@@ -338,8 +342,9 @@ impl NumberedLine {
     pub(crate) fn new(alloc: Global) -> Result<NumberedLine, OutOfMemory>
         ensures text { IfOk result (λ l. l.text ≡ shown_text Waiting 0 None) }
     {
-        let mut octets = vec![in alloc; b' '; NUMBER_ROOM]?;
-        octets.extend_from_slice(b" waiting\n")?;
+        let mut octets = LineBuffer::new(alloc);
+        octets.extend(&[b' '; NUMBER_ROOM])?;
+        octets.extend(b" waiting\n")?;
         Ok(NumberedLine {
             octets,
             shows_choice: false,
@@ -353,7 +358,7 @@ impl NumberedLine {
             (self.new.text ≡ shown_text snapshot.now.view snapshot.now.revision now) }
         ensures choice { self.new.shows_choice ≡ self.old.shows_choice }
     {
-        self.octets.truncate(NUMBER_ROOM);
+        self.octets.cut(NUMBER_ROOM);
         self.octets.push(b' ')?;
         push_view(
             &mut self.octets,
@@ -392,7 +397,6 @@ impl NumberedLine {
         ensures choice { self.new.shows_choice ≡ self.old.shows_choice }
         ensures cause { HasCause (K.failures sink.old) (K.failures sink.new) result }
     {
-        let start = itoa::write_digits(number, &mut self.octets, NUMBER_ROOM);
-        sink.put(&self.octets[start..])
+        self.octets.put_numbered(sink, number, NUMBER_ROOM)
     }
 }

@@ -7,5 +7,5 @@ pub returns-in-None-clause-text : goal.returns-in-None-clause-text
 returns-in-None-clause-text g c =
     let items = c.args.items.now in
     let past : length items ≤ c.args.index = search rules in
-    nothing_shown g.T.Octets.shown items c.args.index c.args.line.now.items
+    nothing_shown g.T.Octets.shown items c.args.index c.args.line.now
     (slice_get_past items c.args.index past)

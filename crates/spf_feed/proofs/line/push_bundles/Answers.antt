@@ -6,7 +6,7 @@ use Rattle.spf_feed.proofs.line.push_bundles.Goals as goal
 
 pub loop-domain-preserved : goal.loop-domain-preserved
 loop-domain-preserved c =
-    let more = bundles_more _ _ c.push_bundle.new.line.items c.in-Some.domain.now
+    let more = bundles_more _ _ c.push_bundle.new.line c.in-Some.domain.now
     (arc_value c.in-Some.bundle.now) c.deref.result.now c.next.new.self
     c.loop-domain.domain-iterator c.next_order.result.0.now c.loop-domain.left.now
     c.next_order.result.1.now c.authorities.result.now c.in-Some.ensures.steps

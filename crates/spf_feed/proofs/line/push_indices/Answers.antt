@@ -8,4 +8,4 @@ returns-clause-text g c =
     let others = c.in-Some.others.now in
     rw c.in-Some.ensures.cases.0
     (hex_list_made (shown_at g.T.Octets.shown c.args.items.now) first others _
-    c.push_at.new.line.items _ c.in_ok-push_at.ensures.text c.in_ok-push_other_indices.ensures.text)
+    c.push_at.new.line _ c.in_ok-push_at.ensures.text c.in_ok-push_other_indices.ensures.text)

@@ -4,8 +4,8 @@ use Rattle.spf_feed.proofs.line.NumberedLine.write.Goals as goal
 
 pub returns-clause-text : goal.returns-clause-text
 returns-clause-text c =
-    let room : 20 ≤ length c.self.inside.octets.items = search rules in
-    line_written c.self.inside.octets.items c.truncate.new.self.items c.push.new.self.items
-    c.push_view.new.line.items _ _ _ _ c.args.now room c.truncate.ensures.items
-    c.in_ok-push.ensures.items
+    let room : 20 ≤ length c.self.inside.octets = search rules in
+    line_written c.self.inside.octets c.cut.new.self c.push.new.self
+    c.push_view.new.line _ _ _ _ c.args.now room c.cut.ensures
+    c.in_ok-push.ensures.text
     c.standing.ensures.view c.revision.ensures c.in_ok-push_view.ensures.text
