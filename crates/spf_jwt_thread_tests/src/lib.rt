@@ -5,6 +5,5 @@
 mod fetch;
 #[cfg(test)]
 mod live;
+#[cfg(test)]
 mod on_thread;
-
-pub use on_thread::{JwtAgentJob, JwtOnThread, start_on_thread};

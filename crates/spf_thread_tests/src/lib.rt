@@ -3,8 +3,7 @@
 
 #[cfg(test)]
 mod live;
+#[cfg(test)]
 mod on_thread;
 #[cfg(test)]
 mod opening;
-
-pub use on_thread::{AgentJob, OnThread, start_on_thread};
