@@ -142,6 +142,7 @@ impl<R: Read> Source for StdSource<R> {
 
     ghost failures = { λ s. s.failed };
 
+    #[inline(always)]
     fn read(&mut self, buf: &mut [u8]) -> Result<usize, Failed>
         ensures bound { ReadsAtMost result buf.new }
         ensures bytes { ReadConsumes (⟦<StdSource<R> as Source>⟧.left self.old)
