@@ -18,12 +18,12 @@ use Rattle.spf_id.proofs.FirstIndex.{front_length}
 use Rattle.spf_id.proofs.Parts.{halves_rule, parts_by_halves, rest_after}
 
 -- a rule that was not broken
-past : {A E : Type 0} (b : Bool) (e : E) (r : Result A E) (x : A) → cond b (Err e) r ≡ Ok x
+pub past : {A E : Type 0} (b : Bool) (e : E) (r : Result A E) (x : A) → cond b (Err e) r ≡ Ok x
     → (b ≡ false) × (r ≡ Ok x)
 past true e r x h = absurd (cc)
 past false e r x h = (refl, h)
 
-after : {A B E : Type 0} (r : Result A E) (f : A → Result B E) (x : B) → (r >>= f) ≡ Ok x
+pub after : {A B E : Type 0} (r : Result A E) (f : A → Result B E) (x : B) → (r >>= f) ≡ Ok x
     → (y : A) × (r ≡ Ok y) × (f y ≡ Ok x)
 after (Ok y) f x h = (y, refl, h)
 after (Err e) f x h = absurd (cc)

@@ -1,6 +1,8 @@
 pub mod Exact
 mod ColonSlash
 mod FirstIndex
+mod Ascii
 mod Ids
+mod Names
 mod Parts
 mod Rows

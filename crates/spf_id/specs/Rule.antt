@@ -110,6 +110,10 @@ name_rule text =
     else (if length text == 0 then Err Empty
     else (domain_rule text >>= λ _. Ok text))
 
+-- a name by itself: it names the trust domain that it is
+abbrev pub IsName : List ℕ → Type 0
+IsName name = name_rule name ≡ Ok name
+
 -- whether the first seven octets are `spiffe:`, ASCII case apart
 unfoldable pub has_spiffe_scheme : List ℕ → Bool
 has_spiffe_scheme uri = str_eq_ignore_ascii_case (take 7 uri) (codes "spiffe:")

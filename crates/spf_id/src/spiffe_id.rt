@@ -1,4 +1,5 @@
 ghost use Rattle.std.specs.Prelude.{◌≡◌, IfOk, IsTrue, codes};
+ghost use Rattle.std.specs.Str.{IsAscii};
 ghost use Rattle.spf_io.specs.Rule.{Gives};
 ghost use Rattle.spf_id.specs.Id.{id_text};
 ghost use Rattle.spf_id.specs.Rule.{is_memory, id_rule, has_spiffe_scheme};
@@ -116,6 +117,7 @@ impl SpiffeId {
     pub fn as_str(&self) -> &str
         ensures text { result.now ≡ id_text self.now }
         ensures rule { id_rule result.now ≡ Ok self.now }
+        ensures ascii { IsAscii result.now }
     {
         self.text.as_str()
     }

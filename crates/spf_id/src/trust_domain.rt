@@ -1,7 +1,8 @@
-ghost use Rattle.std.specs.Prelude.{◌≡◌, IfOk, MatchResult, codes, nat_eq, string_bytes};
+ghost use Rattle.std.specs.Prelude.{◌≡◌, ◌↔◌, IfOk, IsTrue, MatchResult, Ok, codes, nat_eq};
+ghost use Rattle.std.specs.Prelude.{string_bytes};
 ghost use Rattle.std.specs.List.{starts_with};
 ghost use Rattle.spf_io.specs.Rule.{Gives};
-ghost use Rattle.spf_id.specs.Rule.{is_memory, holds_colon_slash, name_rule};
+ghost use Rattle.spf_id.specs.Rule.{IsName, is_memory, holds_colon_slash, name_rule};
 
 use crate::domain::check_domain;
 use crate::error::SpiffeIdError;
@@ -25,6 +26,10 @@ impl Model for TrustDomain {
     ghost Value = { List ℕ };
 
     ghost view = { λ t. t.name };
+
+    ghost use Rattle.spf_id.specs.Rule.{IsName};
+
+    ghost invariant = { λ t. IsName t.name };
 
     ghost inverse = { λ s. record { name = s } };
 }
@@ -95,19 +100,6 @@ impl TrustDomain {
         TrustDomain::new(alloc, text)
     }
 
-    /// The same as `new`, where a trust domain may be given that most often is the same: the result
-    /// then shares its name.
-    pub fn new_sharing(
-        alloc: Global,
-        text: &str,
-        known: Option<&TrustDomain>,
-    ) -> Result<TrustDomain, SpiffeIdError>
-        ensures { Gives is_memory (λ t. t) result (name_rule text.now) }
-    {
-        let name = name_in(text)?;
-        Ok(TrustDomain::named(alloc, name, known)?)
-    }
-
     /// The same as `new`, keeping the text where it is the name.
     #[tactic(auto, unfolding(crate::specs::Rule::name_rule))]
     pub fn try_from_owned(alloc: Global, text: String) -> Result<TrustDomain, SpiffeIdError>
@@ -124,6 +116,7 @@ impl TrustDomain {
 
     /// The trust domain of a name that is known to be one.
     pub(crate) fn copy_of(alloc: Global, name: &str) -> Result<TrustDomain, OutOfMemory>
+        requires { IsName name.now }
         ensures { IfOk result (λ t. t ≡ name.now) }
     {
         let name = Shared::new(alloc, Text::copy_of(alloc, name)?)?;
@@ -136,10 +129,11 @@ impl TrustDomain {
         name: &str,
         known: Option<&TrustDomain>,
     ) -> Result<TrustDomain, OutOfMemory>
+        requires { IsName name.now }
         ensures { IfOk result (λ t. t ≡ name.now) }
     {
         match known {
-            Some(known) if known.as_str() == name => known.try_clone(alloc),
+            Some(known) if known.is_named(name) => known.try_clone(alloc),
             _ => TrustDomain::copy_of(alloc, name),
         }
     }
@@ -148,6 +142,15 @@ impl TrustDomain {
         ensures { result.now ≡ self.now }
     {
         self.name.get().as_str()
+    }
+
+    /// Returns whether the text is the name, so that it names this trust domain.
+    #[inline]
+    pub fn is_named(&self, text: &str) -> bool
+        ensures same { IsTrue result ↔ (text.now ≡ self.now) }
+        ensures rule { IsTrue result → name_rule text.now ≡ Ok self.now }
+    {
+        self.name.get().as_str() == text
     }
 
     /// Returns a copy of the trust domain, which shares its name. The allocator is not used.
