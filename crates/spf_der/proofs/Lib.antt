@@ -1,4 +1,3 @@
-pub mod Days
 pub mod Digits
 pub mod Clock
 pub mod Steps
@@ -11,6 +10,7 @@ pub mod CivilDays
 pub mod Values
 pub mod Pieces
 pub mod Certificates
+pub mod Late
 pub mod Texts
 pub mod Exact
 pub mod Keys

@@ -73,6 +73,15 @@ after_issuer_at bytes = do
   validity ← tagged_at SEQUENCE issuer
   Some validity.1
 
+-- the text of the extensions, after the validity (sections 4.1.2.6 to 4.1.2.9)
+unfoldable pub text_after_validity_at : List ℕ → Option (List ℕ)
+text_after_validity_at bytes = do
+  key ← tagged_at SEQUENCE bytes
+  issuer_id ← after_public_key_at key.1
+  subject_id ← after_unique_id_at 1 issuer_id
+  extensions ← after_unique_id_at 2 subject_id
+  extension_text_at extensions
+
 -- the expiry and the text of the extensions of the
 -- tbsCertificate that the bytes are (section 4.1.2)
 unfoldable pub tbs_of : List ℕ → Option (ℤ × List ℕ)

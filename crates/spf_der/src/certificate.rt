@@ -5,7 +5,7 @@ ghost use Rattle.spf_io.specs.Rule.{Gives};
 ghost use Rattle.spf_der.specs.Certificate.{after_issuer_at, after_public_key_at};
 ghost use Rattle.spf_der.specs.Certificate.{after_unique_id_at, after_version_at, certificate_at};
 ghost use Rattle.spf_der.specs.Certificate.{ends, extension_at, extension_text_at, is_version};
-ghost use Rattle.spf_der.specs.Certificate.{tbs_of, validity_at};
+ghost use Rattle.spf_der.specs.Certificate.{tbs_of, text_after_validity_at};
 ghost use Rattle.spf_der.specs.Error.{is_memory};
 ghost use Rattle.spf_der.specs.Grammar.{CertText};
 ghost use Rattle.spf_der.specs.Part.{plain};
@@ -51,17 +51,6 @@ fn after_version(bytes: &[u8]) -> Option<&[u8]>
         }
         None => Some(rest),
     }
-}
-
-/// The second of the two times, and what follows the validity (section 4.1.2.5).
-#[inline(always)]
-#[tactic(auto, unfolding(crate::specs::Certificate::validity_at))]
-fn validity(bytes: &[u8]) -> Option<(i64, &[u8])>
-    ensures { option_map (λ x. (x.0, x.1.now)) result ≡ validity_at bytes.now }
-{
-    let (times, rest) = tagged(SEQUENCE, bytes)?;
-    let expiry = second_time(times)?;
-    Some((expiry, rest))
 }
 
 /// What follows a public key (section 4.1.2.7).
@@ -121,19 +110,30 @@ fn after_issuer(bytes: &[u8]) -> Option<&[u8]>
     Some(rest)
 }
 
-/// The expiry and the text of the extensions of a tbsCertificate (section 4.1.2).
+/// The text of the extensions, after the validity (sections 4.1.2.6 to 4.1.2.9).
 #[inline(always)]
-#[tactic(auto, unfolding(crate::specs::Certificate::tbs_of))]
+#[tactic(auto, unfolding(crate::specs::Certificate::text_after_validity_at))]
+fn text_after_validity(bytes: &[u8]) -> Option<&[u8]>
+    ensures { seen result ≡ text_after_validity_at bytes.now }
+{
+    let (_subject, rest) = tagged(SEQUENCE, bytes)?;
+    let rest = after_public_key(rest)?;
+    let rest = after_unique_id(1, rest)?;
+    let rest = after_unique_id(2, rest)?;
+    extension_text(rest)
+}
+
+/// The expiry and the text of the extensions of a tbsCertificate (section 4.1.2). The times are
+/// read last: what is read before them keeps its registers.
+#[inline(always)]
+#[tactic(auto, using(crate::proofs::Late::tbs_late))]
 fn tbs_certificate(bytes: &[u8]) -> Option<(i64, &[u8])>
     ensures { option_map (λ x. (x.0, x.1.now)) result ≡ tbs_of bytes.now }
 {
     let rest = after_issuer(bytes)?;
-    let (expiry, rest) = validity(rest)?;
-    let (_subject, rest) = tagged(SEQUENCE, rest)?;
-    let rest = after_public_key(rest)?;
-    let rest = after_unique_id(1, rest)?;
-    let rest = after_unique_id(2, rest)?;
-    let text = extension_text(rest)?;
+    let (times, rest) = tagged(SEQUENCE, rest)?;
+    let text = text_after_validity(rest)?;
+    let expiry = second_time(times)?;
     Some((expiry, text))
 }
 

@@ -29,7 +29,7 @@ pub struct KeyUsageBits {
 }
 
 /// Returns the bits of a key usage (section 4.2.1.3), or `None` where it is unreadable.
-#[inline]
+#[inline(always)]
 #[tactic(auto, unfolding(crate::specs::Extensions::key_usage_of))]
 pub fn read_key_usage(contents: &[u8]) -> Option<KeyUsageBits>
     ensures { result ≡ key_usage_of contents.now }
@@ -50,7 +50,7 @@ pub fn read_key_usage(contents: &[u8]) -> Option<KeyUsageBits>
 }
 
 /// Returns the CA flag of basic constraints (section 4.2.1.9), or `None` where they are unreadable.
-#[inline]
+#[inline(always)]
 #[tactic(auto, unfolding(crate::specs::Extensions::basic_constraints_of))]
 pub fn read_basic_constraints(contents: &[u8]) -> Option<bool>
     ensures { result ≡ basic_constraints_of contents.now }

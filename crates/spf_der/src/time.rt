@@ -4,13 +4,12 @@ ghost use Rattle.std.specs.Prelude.{if◌then◌else◌};
 ghost use Rattle.std.specs.Char.{is_ascii_digit};
 ghost use Rattle.std.specs.Option.{option_map};
 ghost use Rattle.spf_der.specs.Time as spec;
-ghost use Rattle.jiff_core.specs.Date.{epoch_day};
 ghost use Rattle.spf_der.specs.DateTime.{unix_second};
-ghost use Rattle.spf_der.specs.Time.{clock_of, day_number_of, moment_of, pair_of, second_time_at};
+ghost use Rattle.spf_der.specs.Time.{clock_of, moment_of, pair_of, second_time_at};
 ghost use Rattle.spf_der.specs.Time.{time_at, unix_of, whole_time_at};
 
 use crate::value::{GENERALIZED_TIME, UTC_TIME, value};
-use jiff_core::civil::Date;
+use jiff_core::civil::{self, Date};
 
 /// A date and a second of its day.
 #[derive(Clone, Copy, Debug)]
@@ -106,32 +105,41 @@ fn pair(first: u8, second: u8) -> Option<u8>
     }
 }
 
-/// The date, if the calendar has it.
-#[inline(always)]
-fn date(year: u16, month: u32, day: u32) -> Option<Date>
+/// Whether the calendar has the day.
+#[cold]
+#[inline(never)]
+fn is_calendar_day(year: u16, month: u32, day: u32) -> bool
     requires { year < 10000 }
-    ensures { option_map epoch_day result ≡ day_number_of year month day }
+    ensures { result ≡ spec.is_day year month day }
 {
-    if month > 12 || day > 31 {
-        return None;
-    }
-    match Date::new(year as i16, month as i8, day as i8) {
-        Err(_) => None,
-        Ok(date) => Some(date),
-    }
+    let has_month = month >= 1 && month <= 12;
+    has_month && day >= 1 && day <= civil::days_in_month(year as i16, month as u8) as u32
+}
+
+/// Whether the calendar has the day, which it is not asked up to the 28th, as each month has these.
+#[inline(always)]
+fn is_day(year: u16, month: u32, day: u32) -> bool
+    requires { year < 10000 }
+    ensures { result ≡ spec.is_day year month day }
+{
+    (month >= 1 && month <= 12 && day >= 1 && day <= 28) || is_calendar_day(year, month, day)
 }
 
 /// A date and a time of day, if they are valid.
 #[inline(always)]
-#[tactic(auto, unfolding(crate::specs::Time::moment_of))]
+#[tactic(auto, unfolding(crate::specs::Time::moment_of, crate::specs::Time::day_number_of))]
 fn moment(year: u16, month: u32, day: u32, hour: u32, minute: u32, second: u32) -> Option<DateTime>
     requires { year < 10000 }
     ensures { option_map unix_second result ≡ moment_of year month day hour minute second }
 {
-    if hour > 23 || minute > 59 || second > 59 {
+    if hour > 23 || minute > 59 || second > 59 || !is_day(year, month, day) {
         return None;
     }
-    let date = date(year, month, day)?;
+    let date = Date {
+        year: year as i16,
+        month: month as u8,
+        day: day as u8,
+    };
     let second = (hour * 60 + minute) * 60 + second;
     Some(DateTime { date, second })
 }
