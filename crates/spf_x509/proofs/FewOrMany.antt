@@ -1,6 +1,7 @@
 -- Entries in a list or in a tree, with one more put in.
 use Rattle.std.proofs.Common.{◌≡◌, ◌≢◌, ◌<◌, ◌≤◌, ℕ, Bool, true, false, ◌&&◌, List, [], ◌∷◌, ◌++◌}
 use Rattle.std.proofs.Common.{◌+◌, length, map, inl, inr, refl, sym, ap, ◌∙◌, subst, arith}
+use Rattle.std.proofs.Common.{Result, Ok, Err}
 use Rattle.std.specs.declared.cmp.Ordering.{Ordering}
 use Rattle.std.specs.declared.cmp.Ordering.TheVariants.{Less, Equal, Greater}
 use Rattle.std.specs.declared.sync.Arc.{Arc}
@@ -11,6 +12,7 @@ use Rattle.std.specs.List.{AllByRecursion, insert}
 use Rattle.std.specs.List.Sorted.{IsStrictlySortedBy}
 use Rattle.std.specs.Map.{keys_of}
 use Rattle.std.specs.Ordering.{match_ordering, ordering_reverse}
+use Rattle.std.specs.Result.{OnErr, OnOk}
 use Rattle.std.specs.Cmp.Lexicographic.{nat_list_cmp_total, unequal}
 use Rattle.std.proofs.lemmas.List.{append-nil, length-map}
 use Rattle.std.proofs.lemmas.List.Edits.{length-insert}
@@ -105,6 +107,15 @@ few_are few many new k v are none is small = record {
   either = inl (ap plain none);
 }
 
+-- the list takes an entry, unless memory runs out
+pub few_tried : {T E : Type 0} (r : Result T E) (few many new : List Shared) (k : List ℕ)
+    (v : Arc Bundle Global) (i : ℕ) → Are few many → many ≡ [] → GoesAt few k i
+    → length few < FEW → OnOk r (new ≡ insert few i (k, v)) → OnErr r (new ≡ few) → Are new many
+few_tried (Ok _) few many new k v i are none goes room is same =
+    let longer = length-insert few i (k, v) goes.within in
+    few_are few many new k v are none (is ∙ sym (goes.put v)) (omega (arith, ap length is, longer))
+few_tried (Err _) few many new k v i are none goes room is same = rw same are
+
 no_few : (few many : List Shared) → Are few many → length many ≢ 0
     → (plain few ≡ []) × (FEW < length many)
 no_few few many are some =
@@ -140,12 +151,10 @@ moved_put old tree new k v same is =
     ap plain is ∙ insert_plain tree k v
     ∙ ap (λ (es : Entries). with_entry es k (arc_value v)) same
 
-pub moved_are : (few many tree new : List Shared) (k : List ℕ) (v : Arc Bundle Global) (i : ℕ)
+pub moved_are : (few many new : List Shared) (k : List ℕ) (v : Arc Bundle Global) (i : ℕ)
     → Are few many → many ≡ [] → GoesAt few k i → FEW ≤ length few
-    → plain tree ≡ plain few ++ plain many → new ≡ insert_entry name_cmp tree k v → Are [] new
-moved_are few many tree new k v i are none goes full same is =
-    let old = plain few ++ plain many in
-    let put = moved_put old tree new k v same is in
+    → plain new ≡ with_entry (plain few ++ plain many) k (arc_value v) → Are [] new
+moved_are few many new k v i are none goes full put =
     let in_list : plain new ≡ plain (insert few i (k, v)) =
     put ∙ sym (few_put few many (with_entry few k v) k v none refl)
     ∙ alone (with_entry few k v) many none ∙ ap plain (goes.put v) in
@@ -154,7 +163,7 @@ moved_are few many tree new k v i are none goes full same is =
     ∙ length-insert few i (k, v) goes.within in
     record {
       order = subst (λ (es : Entries). Rises es) (sym put)
-          (rises_with old k (arc_value v) are.order);
+          (rises_with (plain few ++ plain many) k (arc_value v) are.order);
       small = omega arith;
       either = inr (refl, omega arith);
     }

@@ -89,8 +89,7 @@ names_rule contents = do
 unfoldable pub san_rule : Parts → Result Id CertificateError
 san_rule parts = do
   contents ← extension_rule (oid_of SubjectAlternativeName) SubjectAlternativeName parts
-  uris ← readable_names (san_uris_of contents)
-  uris_rule uris
+  names_rule contents
 
 -- the one SPIFFE ID of the certificate that the bytes are
 unfoldable pub spiffe_id_rule : List ℕ → Result Id CertificateError

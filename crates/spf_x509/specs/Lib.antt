@@ -9,7 +9,7 @@ pub mod Bag
 pub mod Order
 pub mod Lead
 pub mod Certificate
-pub mod Certificates
+pub mod Few
 pub mod Key
 pub mod Rule
 pub mod Chain

@@ -2,6 +2,7 @@
 
 ghost use Rattle.std.specs.Prelude.{◌≡◌, ◌↔◌, ◌<◌, ◌++◌, [], ◌∷◌, length, IfOk, IsTrue, Ok, OnErr};
 ghost use Rattle.std.specs.Prelude.{OnOk};
+ghost use Rattle.std.specs.Arc.{arc_value};
 ghost use Rattle.spf_io.specs.Rule.{Gives, each};
 ghost use Rattle.spf_x509.specs.Certificate.{certificate_of};
 ghost use Rattle.spf_x509.specs.Chain.{authorities_after, authorities_rule, authority_at};
@@ -16,6 +17,7 @@ use spf_id::TrustDomain;
 use spf_io::{Bytes, OutOfMemory};
 use std::alloc::Global;
 use std::marker::Model;
+use std::sync::Arc;
 
 /// A trust domain, and its authorities in the order in which
 /// they came (SPIFFE Trust Domain and Bundle section 4).
@@ -80,6 +82,24 @@ impl X509Bundle {
         })
     }
 
+    /// The same, shared.
+    pub fn parse_shared(
+        alloc: Global,
+        trust_domain: TrustDomain,
+        der: &[u8],
+    ) -> Result<Arc<X509Bundle>, X509BundleError>
+        ensures { Gives is_memory_bundle arc_value result
+            (bundle_of trust_domain (authorities_rule der.now)) }
+    {
+        let authorities = cut_authorities(alloc, der)?;
+        let bundle = X509Bundle {
+            trust_domain,
+            authorities,
+            alloc,
+        };
+        Ok(Arc::new(alloc, bundle)?)
+    }
+
     /// Appends one authority. An error leaves the bundle as it was.
     pub fn add_authority(&mut self, der: &[u8]) -> Result<(), X509BundleError>
         ensures ok { OnOk result
@@ -109,6 +129,7 @@ impl X509Bundle {
 
     /// Returns whether this is the bundle of exactly that trust domain and those bytes. It
     /// allocates nothing.
+    #[inline]
     pub fn is_parsed_from(&self, trust_domain: &TrustDomain, der: &[u8]) -> bool
         ensures { IsTrue result
             ↔ (bundle_of trust_domain.now (authorities_rule der.now) ≡ Ok self.now) }

@@ -5,8 +5,10 @@ ghost use Rattle.std.specs.Option.{option_map};
 ghost use Rattle.std.specs.Arc.{arc_value};
 ghost use Rattle.spf_x509.specs.Bundle.{IsInDomainOrder, find_entry, plain_entry, with_entry};
 ghost use Rattle.spf_x509.specs.BundleMap.{GoesAt, StandsAt};
+ghost use Rattle.spf_x509.specs.Few.{few_items};
 
 use crate::bundle::X509Bundle;
+use crate::few::Few;
 use spf_id::TrustDomain;
 use spf_io::OutOfMemory;
 use std::alloc::Global;
@@ -23,7 +25,7 @@ const FEW: usize = 8;
 /// in a list, or more of them in a tree. The other one is empty.
 #[derive(Drop)]
 pub(crate) struct BundleMap {
-    few: Vec<(TrustDomain, Arc<X509Bundle>)>,
+    few: Few<(TrustDomain, Arc<X509Bundle>)>,
     many: BTreeMap<TrustDomain, Arc<X509Bundle>>,
 }
 
@@ -31,13 +33,14 @@ impl Model for BundleMap {
     ghost use Rattle.std.specs.Prelude.{List, ℕ, ◌++◌, map};
     ghost use Rattle.spf_x509.specs.Bundle.{Bundle, plain_entry};
     ghost use Rattle.spf_x509.specs.BundleMap.{AreFewOrMany};
+    ghost use Rattle.spf_x509.specs.Few.{few_items};
 
     ghost Value = { List (List ℕ × Bundle) };
 
-    ghost view = { λ m. map plain_entry m.few.items ++ map plain_entry m.many.entries };
+    ghost view = { λ m. map plain_entry (few_items m.few) ++ map plain_entry m.many.entries };
 
     ghost invariant = { λ m.
-        AreFewOrMany (map plain_entry m.few.items) (map plain_entry m.many.entries) };
+        AreFewOrMany (map plain_entry (few_items m.few)) (map plain_entry m.many.entries) };
 }
 
 /// Where the trust domain stands among the entries, or where it is to go.
@@ -64,12 +67,15 @@ fn place_of(
 fn shared_entries(
     alloc: Global,
     entries: &[(TrustDomain, Arc<X509Bundle>)],
-) -> Result<Vec<(TrustDomain, Arc<X509Bundle>)>, OutOfMemory>
-    ensures { IfOk result (λ v. map plain_entry v.items ≡ map plain_entry entries.now) }
+) -> Result<Few<(TrustDomain, Arc<X509Bundle>)>, OutOfMemory>
+    ensures { IfOk result (λ f. map plain_entry (few_items f) ≡ map plain_entry entries.now) }
 {
-    let mut shared = Vec::with_capacity(alloc, entries.len())?;
+    let mut shared = Few::with_capacity(alloc, entries.len())?;
     for (trust_domain, bundle) in entries {
-        shared.push((trust_domain.try_clone(alloc)?, Arc::try_clone(bundle)?))?;
+        shared.push(
+            alloc,
+            (trust_domain.try_clone(alloc)?, Arc::try_clone(bundle)?),
+        )?;
     }
     Ok(shared)
 }
@@ -79,7 +85,7 @@ impl BundleMap {
         ensures { result ≡ [] }
     {
         BundleMap {
-            few: Vec::new(alloc),
+            few: Few::Nothing,
             many: BTreeMap::new(alloc),
         }
     }
@@ -98,23 +104,39 @@ impl BundleMap {
             self.many.insert(trust_domain, bundle)?;
             return Ok(());
         }
-        match place_of(&self.few, &trust_domain) {
+        match place_of(self.few.as_slice(), &trust_domain) {
             Ok(index) => {
-                self.few[index] = (trust_domain, bundle);
+                self.few.set(index, (trust_domain, bundle));
                 Ok(())
             }
             Err(index) if self.few.len() < FEW => {
-                self.few.insert(index, (trust_domain, bundle))?;
-                Ok(())
+                self.few.insert(alloc, index, (trust_domain, bundle))
             }
             Err(_) => {
-                let mut many = self.to_tree(alloc)?;
-                many.insert(trust_domain, bundle)?;
-                self.few = Vec::new(alloc);
-                self.many = many;
+                let many = self.tree_with(alloc, trust_domain, bundle)?;
+                *self = BundleMap {
+                    few: Few::Nothing,
+                    many,
+                };
                 Ok(())
             }
         }
+    }
+
+    /// The entries and the bundle in a tree, which share their bundles.
+    #[inline(never)]
+    fn tree_with(
+        &self,
+        alloc: Global,
+        trust_domain: TrustDomain,
+        bundle: Arc<X509Bundle>,
+    ) -> Result<BTreeMap<TrustDomain, Arc<X509Bundle>>, OutOfMemory>
+        ensures { IfOk result (λ m. map plain_entry m.entries
+            ≡ with_entry self.now trust_domain (arc_value bundle)) }
+    {
+        let mut tree = self.to_tree(alloc)?;
+        tree.insert(trust_domain, bundle)?;
+        Ok(tree)
     }
 
     /// The entries in a tree, which share their bundles.
@@ -134,12 +156,12 @@ impl BundleMap {
     {
         if self.many.is_empty() {
             return Ok(BundleMap {
-                few: shared_entries(alloc, &self.few)?,
+                few: shared_entries(alloc, self.few.as_slice())?,
                 many: BTreeMap::new(alloc),
             });
         }
         Ok(BundleMap {
-            few: Vec::new(alloc),
+            few: Few::Nothing,
             many: self.to_tree(alloc)?,
         })
     }
@@ -149,7 +171,7 @@ impl BundleMap {
             ≡ find_entry trust_domain.now self.now }
         ensures order { IsInDomainOrder self.now }
     {
-        for (name, bundle) in &self.few {
+        for (name, bundle) in self.few.as_slice() {
             if trust_domain == name {
                 return Some(bundle);
             }
@@ -162,9 +184,14 @@ impl BundleMap {
         ensures pairs { result ≡ self.now }
         ensures order { IsInDomainOrder self.now }
     {
+        let many = if self.many.is_empty() {
+            None
+        } else {
+            Some(self.many.iter())
+        };
         BundleMapIter {
-            few: &self.few,
-            many: self.many.iter(),
+            few: self.few.as_slice(),
+            many,
         }
     }
 
@@ -193,7 +220,7 @@ impl PartialEq for BundleMap {
     ghost laws = { set_per };
 
     fn eq(&self, other: &BundleMap) -> bool {
-        self.few == other.few && self.many == other.many
+        self.few.as_slice() == other.few.as_slice() && self.many == other.many
     }
 }
 
@@ -201,16 +228,18 @@ impl PartialEq for BundleMap {
 #[derive(Debug, Drop)]
 pub(crate) struct BundleMapIter<'a> {
     few: &'a [(TrustDomain, Arc<X509Bundle>)],
-    many: btree_map::Iter<'a, TrustDomain, Arc<X509Bundle>>,
+    /// Those of the tree, where it has any.
+    many: Option<btree_map::Iter<'a, TrustDomain, Arc<X509Bundle>>>,
 }
 
 impl<'a> Model for BundleMapIter<'a> {
     ghost use Rattle.std.specs.Prelude.{List, ℕ, ◌++◌, map};
     ghost use Rattle.spf_x509.specs.Bundle.{Bundle, plain_entry};
+    ghost use Rattle.spf_x509.specs.BundleMap.{left_in};
 
     ghost Value = { List (List ℕ × Bundle) };
 
-    ghost view = { λ i. map plain_entry i.few.now ++ map plain_entry i.many };
+    ghost view = { λ i. map plain_entry i.few.now ++ left_in i.many };
 }
 
 impl<'a> Iterator for BundleMapIter<'a> {
@@ -230,7 +259,7 @@ impl<'a> Iterator for BundleMapIter<'a> {
                 self.few = rest;
                 Some((trust_domain, bundle))
             }
-            [] => self.many.next(),
+            [] => self.many.as_mut()?.next(),
         }
     }
 }

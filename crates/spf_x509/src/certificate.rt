@@ -145,6 +145,7 @@ fn look_up<'a>(
 }
 
 /// The contents of the one extension of that kind.
+#[inline(always)]
 #[tactic(auto, unfolding(crate::specs::Certificate::extension_rule))]
 pub(crate) fn extension_contents<'a>(
     certificate: &CertScan<'a>,
@@ -268,11 +269,11 @@ fn only_uri(contents: &[u8]) -> Option<&[u8]>
     }
 }
 
-/// Whether the octets are the text of the ID.
+/// Whether the octets are the text of the ID, which is ASCII.
 fn is_ascii_text_of(uri: &[u8], id: &SpiffeId) -> bool
     ensures { IsTrue result → IsAscii uri.now × (uri.now ≡ id_text id.now) }
 {
-    uri == id.as_str().as_bytes() && uri.is_ascii()
+    uri == id.as_str().as_bytes()
 }
 
 /// Whether the names are found to be that ID. It allocates nothing.

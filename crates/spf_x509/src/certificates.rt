@@ -1,58 +1,18 @@
 //! Certificates in order, of which most chains and bundles have one or two.
 
 ghost use Rattle.std.specs.Prelude.{◌≡◌, ◌++◌, ◌∷◌, [], IfOk, OnErr, OnOk};
-ghost use Rattle.spf_x509.specs.Certificates.{held_texts};
 
 use crate::certificate::Certificate;
+use crate::few::Few;
 use spf_io::OutOfMemory;
 use std::alloc::Global;
 use std::cmp::Ordering;
 use std::marker::Model;
-use std::{mem, slice};
 
 /// Certificates in order, of which one or two take no list.
 #[derive(Debug, Drop)]
 pub(crate) struct Certificates {
-    held: Held,
-}
-
-/// How certificates are held.
-#[derive(Debug, Drop)]
-enum Held {
-    Nothing,
-    One(Certificate),
-    Two([Certificate; 2]),
-    Listed(Vec<Certificate>),
-}
-
-impl Held {
-    /// Appends a certificate. An error leaves those that there are.
-    fn push(&mut self, alloc: Global, certificate: Certificate) -> Result<(), OutOfMemory>
-        ensures ok { OnOk result (held_texts self.new ≡ held_texts self.old ++ certificate ∷ []) }
-        ensures err { OnErr result (held_texts self.new ≡ held_texts self.old) }
-    {
-        match mem::replace(self, Held::Nothing) {
-            Held::Nothing => *self = Held::One(certificate),
-            Held::One(first) => *self = Held::Two([first, certificate]),
-            Held::Two(two) => match Vec::from_array(alloc, two) {
-                Ok(mut list) => {
-                    let pushed = list.push(certificate);
-                    *self = Held::Listed(list);
-                    pushed?;
-                }
-                Err(failed) => {
-                    *self = Held::Two(failed.value);
-                    return Err(OutOfMemory);
-                }
-            },
-            Held::Listed(mut list) => {
-                let pushed = list.push(certificate);
-                *self = Held::Listed(list);
-                pushed?;
-            }
-        }
-        Ok(())
-    }
+    held: Few<Certificate>,
 }
 
 impl Model for Certificates {
@@ -60,9 +20,9 @@ impl Model for Certificates {
 
     ghost Value = { List (List ℕ) };
 
-    ghost use Rattle.spf_x509.specs.Certificates.{held_texts};
+    ghost use Rattle.spf_x509.specs.Few.{few_items};
 
-    ghost view = { λ c. held_texts c.held };
+    ghost view = { λ c. few_items c.held };
 }
 
 impl Certificates {
@@ -71,9 +31,7 @@ impl Certificates {
     pub(crate) fn new() -> Certificates
         ensures { result ≡ [] }
     {
-        Certificates {
-            held: Held::Nothing,
-        }
+        Certificates { held: Few::Nothing }
     }
 
     /// One certificate.
@@ -82,7 +40,7 @@ impl Certificates {
         ensures { result ≡ certificate ∷ [] }
     {
         Certificates {
-            held: Held::One(certificate),
+            held: Few::One(certificate),
         }
     }
 
@@ -92,7 +50,7 @@ impl Certificates {
         ensures { result ≡ first ∷ second ∷ [] }
     {
         Certificates {
-            held: Held::Two([first, second]),
+            held: Few::Two([first, second]),
         }
     }
 
@@ -101,11 +59,8 @@ impl Certificates {
     pub(crate) fn with_capacity(alloc: Global, count: usize) -> Result<Certificates, OutOfMemory>
         ensures { IfOk result (λ c. c ≡ []) }
     {
-        if count <= 2 {
-            return Ok(Certificates::new());
-        }
         Ok(Certificates {
-            held: Held::Listed(Vec::with_capacity(alloc, count)?),
+            held: Few::with_capacity(alloc, count)?,
         })
     }
 
@@ -126,12 +81,7 @@ impl Certificates {
     pub(crate) fn as_slice(&self) -> &[Certificate]
         ensures { result.now ≡ self.now }
     {
-        match &self.held {
-            Held::Nothing => &[],
-            Held::One(one) => slice::from_ref(one),
-            Held::Two(two) => two.as_slice(),
-            Held::Listed(list) => list.as_slice(),
-        }
+        self.held.as_slice()
     }
 
     /// A copy of the certificates.

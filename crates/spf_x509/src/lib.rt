@@ -12,9 +12,11 @@ mod chain;
 mod context;
 mod error;
 mod extension;
+mod few;
 pub mod laws;
 mod order;
 mod private_key;
+mod sorted_few;
 mod source;
 mod svid;
 mod svid_error;
@@ -30,6 +32,7 @@ pub use order::{
     cmp_svid_for_update, sorted_authorities, sorted_indices, sorted_svids, sorted_texts,
 };
 pub use private_key::PrivateKey;
+pub use sorted_few::{FewIndices, few_indices};
 pub use source::{BundleSource, SvidSource};
 pub use svid::X509Svid;
 pub use svid_error::X509SvidError;

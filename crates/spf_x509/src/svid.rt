@@ -116,6 +116,7 @@ fn id_of(svid: Option<&X509Svid>) -> Option<&Shared<SpiffeId>> {
 }
 
 /// The key that the bytes are, which is shared with an SVID that has the same.
+#[inline(always)]
 fn key_from(
     alloc: Global,
     der: &[u8],
@@ -126,6 +127,26 @@ fn key_from(
     match known {
         Some(known) if known.private_key().as_bytes() == der => Ok(known.private_key.try_clone()?),
         _ => Ok(Shared::new(alloc, PrivateKey::try_from(alloc, der)?)?),
+    }
+}
+
+/// A copy of a hint, if there is one.
+fn owned_hint(alloc: Global, hint: Option<&str>) -> Result<Option<Text>, OutOfMemory>
+    ensures { IfOk result (λ h. h ≡ option_map (λ t. t.now) hint.entry) }
+{
+    match hint {
+        Some(hint) => Ok(Some(Text::copy_of(alloc, hint)?)),
+        None => Ok(None),
+    }
+}
+
+/// The text of a hint, if there is one.
+fn text_of(hint: &Option<Text>) -> Option<&str>
+    ensures { option_map (λ t. t.now) result ≡ hint.now }
+{
+    match hint {
+        Some(hint) => Some(hint.as_str()),
+        None => None,
     }
 }
 
@@ -150,7 +171,7 @@ impl X509Svid {
     ) -> Result<X509Svid, X509SvidError>
         ensures { Gives is_memory_svid (λ s. s) result (svid_of chain.now key.now None) }
     {
-        X509Svid::parse_from_der_with_hint(alloc, chain, key, None)
+        X509Svid::parse(alloc, chain, key, None, None)
     }
 
     /// The same with a hint.
@@ -162,20 +183,21 @@ impl X509Svid {
     ) -> Result<X509Svid, X509SvidError>
         ensures { Gives is_memory_svid (λ s. s) result (svid_of chain.now key.now hint) }
     {
-        X509Svid::parse_whole(alloc, chain, key, hint, None)
+        X509Svid::parse(alloc, chain, key, text_of(&hint), None)
     }
 
-    /// The same, where an SVID may be given that most often has the same ID and key. One or two
-    /// certificates take no list.
+    /// The same with a hint that is copied, where an SVID may be given that most often has the same
+    /// ID and key. One or two certificates take no list.
     #[tactic(auto, unfolding(crate::specs::Chain::svid_of))]
-    fn parse_whole(
+    pub fn parse(
         alloc: Global,
         chain: &[u8],
         key: &[u8],
-        hint: Option<Text>,
+        hint: Option<&str>,
         known: Option<&X509Svid>,
     ) -> Result<X509Svid, X509SvidError>
-        ensures { Gives is_memory_svid (λ s. s) result (svid_of chain.now key.now hint) }
+        ensures { Gives is_memory_svid (λ s. s) result
+            (svid_of chain.now key.now (option_map (λ t. t.now) hint.entry)) }
     {
         if chain.is_empty() {
             return Err(X509SvidError::EmptyChain);
@@ -196,17 +218,19 @@ impl X509Svid {
     }
 
     /// The SVID of a chain that is cut.
+    #[inline(always)]
     fn of_parts(
         alloc: Global,
         leaf: &ChainPart<'_>,
         intermediates: &[ChainPart<'_>],
         key: &[u8],
-        hint: Option<Text>,
+        hint: Option<&str>,
         known: Option<&X509Svid>,
     ) -> Result<X509Svid, X509SvidError>
         requires { IsChain (leaf.now ∷ intermediates.now) }
         ensures { Gives is_memory_svid (λ s. s) result
-            (svid_of_parts key.now hint (leaf.now ∷ intermediates.now)) }
+            (svid_of_parts key.now (option_map (λ t. t.now) hint.entry)
+            (leaf.now ∷ intermediates.now)) }
     {
         let (spiffe_id, expiry) = leaf_rule(alloc, leaf.scan(), id_of(known))?;
         intermediate_rules(alloc, intermediates)?;
@@ -214,7 +238,7 @@ impl X509Svid {
         let cert_chain = certificates_of(alloc, leaf, intermediates)?;
         Ok(X509Svid {
             spiffe_id,
-            hint,
+            hint: owned_hint(alloc, hint)?,
             cert_chain,
             private_key,
             expiry,
@@ -229,11 +253,12 @@ impl X509Svid {
         alloc: Global,
         chain: &[u8],
         key: &[u8],
-        hint: Option<Text>,
+        hint: Option<&str>,
         near: Option<&X509Svid>,
         known: Option<&X509Svid>,
     ) -> Result<Arc<X509Svid>, X509SvidError>
-        ensures { Gives is_memory_svid arc_value result (svid_of chain.now key.now hint) }
+        ensures { Gives is_memory_svid arc_value result
+            (svid_of chain.now key.now (option_map (λ t. t.now) hint.entry)) }
     {
         match near {
             None => X509Svid::parse_alone(alloc, chain, key, hint, known),
@@ -247,12 +272,13 @@ impl X509Svid {
         alloc: Global,
         chain: &[u8],
         key: &[u8],
-        hint: Option<Text>,
+        hint: Option<&str>,
         known: Option<&X509Svid>,
     ) -> Result<Arc<X509Svid>, X509SvidError>
-        ensures { Gives is_memory_svid arc_value result (svid_of chain.now key.now hint) }
+        ensures { Gives is_memory_svid arc_value result
+            (svid_of chain.now key.now (option_map (λ t. t.now) hint.entry)) }
     {
-        let svid = X509Svid::parse_whole(alloc, chain, key, hint, known)?;
+        let svid = X509Svid::parse(alloc, chain, key, hint, known)?;
         Ok(Arc::new(alloc, svid)?)
     }
 
@@ -263,10 +289,11 @@ impl X509Svid {
         alloc: Global,
         chain: &[u8],
         key: &[u8],
-        hint: Option<Text>,
+        hint: Option<&str>,
         known: Option<&X509Svid>,
     ) -> Result<Arc<X509Svid>, X509SvidError>
-        ensures { Gives is_memory_svid arc_value result (svid_of chain.now key.now hint) }
+        ensures { Gives is_memory_svid arc_value result
+            (svid_of chain.now key.now (option_map (λ t. t.now) hint.entry)) }
     {
         let others = self.intermediates();
         let Some(leaf) = bytes_before(chain, others) else {
@@ -286,20 +313,21 @@ impl X509Svid {
         scan: &CertScan<'_>,
         others: &[Certificate],
         key: &[u8],
-        hint: Option<Text>,
+        hint: Option<&str>,
         known: Option<&X509Svid>,
     ) -> Result<Arc<X509Svid>, X509SvidError>
         requires leaf { CertText leaf.now scan.now }
         requires others { MayFollowLeaf others.now }
         ensures { Gives is_memory_svid arc_value result
-            (svid_with_leaf scan.now leaf.now others.now key.now hint) }
+            (svid_with_leaf scan.now leaf.now others.now key.now
+            (option_map (λ t. t.now) hint.entry)) }
     {
         let (spiffe_id, expiry) = leaf_rule(alloc, scan, id_of(known))?;
         let kept_key = key_from(alloc, key, known)?;
         let cert_chain = chain_with_leaf(alloc, leaf, others)?;
         let svid = X509Svid {
             spiffe_id,
-            hint,
+            hint: owned_hint(alloc, hint)?,
             cert_chain,
             private_key: kept_key,
             expiry,
@@ -379,10 +407,7 @@ impl X509Svid {
     pub fn hint(&self) -> Option<&str>
         ensures { option_map (λ t. t.now) result ≡ self.now.hint }
     {
-        match &self.hint {
-            None => None,
-            Some(hint) => Some(hint.as_str()),
-        }
+        text_of(&self.hint)
     }
 
     /// Returns when the leaf expires, in Unix seconds.

@@ -13,4 +13,4 @@ returns-clause-found c =
     find_entry k (map plain_entry es ++ map plain_entry many) in
     seen_arc c.get.result _ c.get.ensures.value ∙ lookup_plain many k
     ∙ sym (c.loop-name.invariant
-    ∙ at_drop_all rest c.deref-name-items.result.now c.loop-name.name-index (omega arith))
+    ∙ at_drop_all rest c.as_slice-name-items.result.now c.loop-name.name-index (omega arith))

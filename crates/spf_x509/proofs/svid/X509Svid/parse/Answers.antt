@@ -1,11 +1,12 @@
 use Rattle.std.proofs.Common.{◌<◌, ℕ, [], Ok, length, sym, ◌∙◌, ap, arith}
+use Rattle.std.specs.Option.{option_map}
 use Rattle.std.proofs.lemmas.List.Elements.{All-from_get_or}
 use Rattle.std.proofs.lemmas.Result.{err_from_is_err_and}
 use Rattle.spf_der.specs.Value.{IsBytes}
 use Rattle.spf_x509.proofs.Heads.{all_cut, is_left, none_cut, none_decide, none_given, none_left}
 use Rattle.spf_x509.proofs.Heads.{one_cut, others_decide, parts_decide, read_is_chain}
 use Rattle.spf_x509.proofs.Heads.{rest_refused, some_after, two_cut}
-use Rattle.spf_x509.proofs.svid.X509Svid.parse_whole.Goals as goal
+use Rattle.spf_x509.proofs.svid.X509Svid.parse.Goals as goal
 
 pub returns-then-is_empty : goal.returns-then-is_empty
 returns-then-is_empty c =
@@ -35,7 +36,8 @@ returns-then-is_empty-2 c =
     let cut =
     one_cut _ _ _ (is_left _ _ c.is_empty.ensures c.if-is_empty.false) c.in_ok-leaf.ensures.gives in
     let whole = all_cut _ _ _ cut (none_left _ _ c.is_empty-2.ensures c.if-is_empty-2.true) in
-    rw (parts_decide c.args.chain.now c.args.key.now c.args.hint _ whole) c.of_parts.ensures
+    let hint = option_map (λ t. t.now) c.args.hint in
+    rw (parts_decide c.args.chain.now c.args.key.now hint _ whole) c.of_parts.ensures
 
 pub returns-in_err-second : goal.returns-in_err-second
 returns-in_err-second c =
@@ -67,7 +69,8 @@ returns-then-is_empty-3 c =
     c.in_ok-leaf.ensures.gives (is_left _ _ c.is_empty-2.ensures c.if-is_empty-2.false)
     c.in_ok-second.ensures.gives in
     let whole = all_cut _ _ _ cut (none_left _ _ c.is_empty-3.ensures c.if-is_empty-3.true) in
-    rw (parts_decide c.args.chain.now c.args.key.now c.args.hint _ whole)
+    let hint = option_map (λ t. t.now) c.args.hint in
+    rw (parts_decide c.args.chain.now c.args.key.now hint _ whole)
     (rw c.from_ref.ensures.value at c.of_parts-then-is_empty-3.ensures)
 
 pub returns-in_err-parts : goal.returns-in_err-parts
@@ -110,4 +113,5 @@ returns c =
     let whole =
     others_decide _ _ _ _ cut ∙ c.in_ok-parts.ensures
     ∙ ap Ok (sym c.deref.ensures.value ∙ c.in-Some.ensures.cases.0) in
-    rw (parts_decide c.args.chain.now c.args.key.now c.args.hint _ whole) c.of_parts-2.ensures
+    let hint = option_map (λ t. t.now) c.args.hint in
+    rw (parts_decide c.args.chain.now c.args.key.now hint _ whole) c.of_parts-2.ensures
