@@ -35,6 +35,7 @@ const FEW_ENTRIES: usize = 4;
 
 /// Returns the list at the start of the bytes, and what follows it. Memory grows with the entries
 /// that are there, and not with the count.
+#[inline(always)]
 pub(crate) fn read_entries<'a, V: EntryView<'a>>(
     alloc: Global,
     bytes: &'a [u8],

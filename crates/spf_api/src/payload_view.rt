@@ -73,6 +73,7 @@ impl<'a> EntryView<'a> for BundleEntryView<'a> {
     ghost entry_at = { bundle_entry_at };
 
     #[tactic(auto, unfolding(crate::specs::Reading::bundle_entry_at))]
+    #[inline(always)]
     fn read(bytes: &'a [u8]) -> Option<(BundleEntryView<'a>, &'a [u8])> {
         let (name, rest) = read_text_field(bytes)?;
         let (bundle, rest) = read_byte_field(rest)?;

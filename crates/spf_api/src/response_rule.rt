@@ -1,8 +1,9 @@
 //! The meaning of a response: its SVIDs, bundles and CRLs, or the first rule that it breaks.
 
-ghost use Rattle.std.specs.Prelude.{◌≡◌, map, IsTrue, MatchBool, Ok};
+ghost use Rattle.std.specs.Prelude.{◌≡◌, map, IfSome, IsTrue, MatchBool, Ok};
 ghost use Rattle.std.specs.Arc.{arc_value};
 ghost use Rattle.spf_io.specs.Rule.{Gives, each};
+ghost use Rattle.spf_id.specs.Rule.{name_rule};
 ghost use Rattle.spf_x509.specs.Bundle.{with_bundles};
 ghost use Rattle.spf_api.specs.Errors.{is_memory_api};
 ghost use Rattle.spf_api.specs.Views.{svid_entry_of, bundle_entry_of, context_of};
@@ -252,50 +253,40 @@ fn shared_svids(
 /// A trust domain of the held context, and its bundle.
 type NamedBundle<'a> = (&'a TrustDomain, &'a Arc<X509Bundle>);
 
-/// A bundle of the held context, the next ones of which are `left`: that of the name, where it is
-/// the next. An agent sends bundles most often in the order of their trust domains.
-fn near_bundle<'a>(left: &mut Option<X509BundleIter<'a>>, name: &str) -> Option<NamedBundle<'a>> {
+/// The bundle of the held context that the name names, where it is one of the next two, which are
+/// taken from `left`. An agent sends bundles most often in the order of their trust domains.
+fn near_bundle<'a>(left: &mut Option<X509BundleIter<'a>>, name: &str) -> Option<NamedBundle<'a>>
+    ensures { IfSome result (λ near. name_rule name.now ≡ Ok near.0.now) }
+{
     let left = left.as_mut()?;
     let (first, bundle) = left.next()?;
-    if first.as_str() == name {
+    if first.is_named(name) {
         return Some((first, bundle));
     }
-    left.next()
-}
-
-/// The trust domain of a bundle, if there is one.
-fn domain_of<'a>(near: Option<NamedBundle<'a>>) -> Option<&'a TrustDomain> {
-    match near {
-        Some((trust_domain, _)) => Some(trust_domain),
-        None => None,
+    let (second, bundle) = left.next()?;
+    if second.is_named(name) {
+        return Some((second, bundle));
     }
+    None
 }
 
-/// The held context's bundle of the trust domain, which `near` most often is.
-fn held_or_near<'a>(
-    near: Option<NamedBundle<'a>>,
-    held: Option<&'a X509Context>,
-    trust_domain: &TrustDomain,
-) -> Option<&'a Arc<X509Bundle>> {
-    match near {
-        Some((name, bundle)) if name == trust_domain => Some(bundle),
-        _ => held_bundle(held, trust_domain),
-    }
-}
-
-/// The bundle of the trust domain of that name, which is shared with the held one where it is the
-/// same: with `near`, or with another of the held context.
+/// The bundle of the trust domain that the entry names, which is shared with the held one where it
+/// is the same: with `near`, or with another of the held context.
 #[tactic(auto, unfolding(crate::specs::Parsed::named_bundle_of))]
-fn named_bundle<'a>(
+fn named_bundle(
     alloc: Global,
     entry: &BundleEntryView<'_>,
-    near: Option<NamedBundle<'a>>,
-    held: Option<&'a X509Context>,
+    near: Option<NamedBundle<'_>>,
+    held: Option<&X509Context>,
 ) -> Result<Arc<X509Bundle>, WorkloadApiError>
+    requires { IfSome near (λ near. name_rule entry.now.name.now ≡ Ok near.0.now) }
     ensures { Gives is_memory_api arc_value result (named_bundle_of (bundle_entry_of entry.now)) }
 {
-    let trust_domain = TrustDomain::new_sharing(alloc, entry.name, domain_of(near))?;
-    let held = held_or_near(near, held, &trust_domain);
+    if let Some((trust_domain, held)) = near {
+        return shared_bundle(alloc, trust_domain, entry.bundle, Some(held));
+    }
+    let trust_domain = TrustDomain::new(alloc, entry.name)?;
+    let held = held_bundle(held, &trust_domain);
     shared_bundle(alloc, &trust_domain, entry.bundle, held)
 }
 

@@ -1,13 +1,12 @@
 //! The SVIDs and bundles of entries. What was read before
 //! from the same bytes is shared, and not read again.
 
-ghost use Rattle.std.specs.Prelude.{◌≡◌, IfOk, IfSome, IsTrue, Ok};
+ghost use Rattle.std.specs.Prelude.{◌≡◌, IfSome, IsTrue, Ok};
 ghost use Rattle.std.specs.Arc.{arc_value};
 ghost use Rattle.std.specs.Option.{option_map};
 ghost use Rattle.spf_io.specs.Rule.{Gives};
 ghost use Rattle.spf_x509.specs.BundleRule.{bundle_of};
 ghost use Rattle.spf_x509.specs.Chain.{authorities_rule};
-ghost use Rattle.spf_x509.specs.Errors.{is_memory_bundle};
 ghost use Rattle.spf_api.specs.Errors.{is_memory_api};
 ghost use Rattle.spf_api.specs.Views.{svid_entry_of};
 ghost use Rattle.spf_api.specs.Parsed.{hint_rule, svid_of_entry, bundle_for};
@@ -15,8 +14,7 @@ ghost use Rattle.spf_api.specs.Parsed.{hint_rule, svid_of_entry, bundle_for};
 use crate::error::WorkloadApiError;
 use crate::response::SvidEntryView;
 use spf_id::TrustDomain;
-use spf_io::{OutOfMemory, Text};
-use spf_x509::{X509Bundle, X509BundleError, X509Context, X509Svid};
+use spf_x509::{X509Bundle, X509Context, X509Svid};
 use std::alloc::Global;
 use std::sync::Arc;
 
@@ -27,15 +25,6 @@ fn hint_of(hint: &str) -> Option<&str>
     if hint.is_empty() { None } else { Some(hint) }
 }
 
-fn owned_hint(alloc: Global, hint: Option<&str>) -> Result<Option<Text>, OutOfMemory>
-    ensures { IfOk result (λ h. h ≡ option_map (λ t. t.now) hint.entry) }
-{
-    match hint {
-        Some(hint) => Ok(Some(Text::copy_of(alloc, hint)?)),
-        None => Ok(None),
-    }
-}
-
 /// Reads the SVID of an entry.
 #[tactic(auto, unfolding(crate::specs::Parsed::svid_of_entry))]
 pub(crate) fn parse_svid(
@@ -44,8 +33,8 @@ pub(crate) fn parse_svid(
 ) -> Result<X509Svid, WorkloadApiError>
     ensures { Gives is_memory_api (λ s. s) result (svid_of_entry (svid_entry_of entry.now)) }
 {
-    let hint = owned_hint(alloc, hint_of(entry.hint))?;
-    Ok(X509Svid::parse_from_der_with_hint(alloc, entry.x509_svid, entry.x509_svid_key, hint)?)
+    let hint = hint_of(entry.hint);
+    Ok(X509Svid::parse(alloc, entry.x509_svid, entry.x509_svid_key, hint, None)?)
 }
 
 /// Reads the SVID of an entry. Certificates after the leaf that
@@ -59,12 +48,11 @@ fn parse_shared(
 ) -> Result<Arc<X509Svid>, WorkloadApiError>
     ensures { Gives is_memory_api arc_value result (svid_of_entry (svid_entry_of entry.now)) }
 {
-    let hint = owned_hint(alloc, hint_of(entry.hint))?;
     Ok(X509Svid::parse_shared(
         alloc,
         entry.x509_svid,
         entry.x509_svid_key,
-        hint,
+        hint_of(entry.hint),
         near,
         known,
     )?)
@@ -174,20 +162,6 @@ pub(crate) fn shared_svid(
     }
 }
 
-/// Reads the bundle of a trust domain, with the error of its own rules. It stands apart, since its
-/// result would be moved piece by piece within a caller.
-#[inline(never)]
-fn read_bundle(
-    alloc: Global,
-    trust_domain: TrustDomain,
-    der: &[u8],
-) -> Result<X509Bundle, X509BundleError>
-    ensures { Gives is_memory_bundle (λ b. b) result
-        (bundle_of trust_domain (authorities_rule der.now)) }
-{
-    X509Bundle::parse_from_der(alloc, trust_domain, der)
-}
-
 /// Reads the bundle of a trust domain.
 #[tactic(auto, unfolding(crate::specs::Parsed::bundle_for))]
 pub(crate) fn parse_bundle(
@@ -198,7 +172,7 @@ pub(crate) fn parse_bundle(
     ensures { Gives is_memory_api (λ b. b) result (bundle_for trust_domain.now der.now) }
 {
     let trust_domain = trust_domain.try_clone(alloc)?;
-    Ok(read_bundle(alloc, trust_domain, der)?)
+    Ok(X509Bundle::parse_from_der(alloc, trust_domain, der)?)
 }
 
 /// Reads the bundle of a trust domain, to be shared. It stands apart, since what is held is most
@@ -213,10 +187,7 @@ fn read_shared_bundle(
     ensures { Gives is_memory_api arc_value result (bundle_for trust_domain.now der.now) }
 {
     let trust_domain = trust_domain.try_clone(alloc)?;
-    match read_bundle(alloc, trust_domain, der) {
-        Ok(bundle) => Ok(Arc::new(alloc, bundle)?),
-        Err(error) => Err(WorkloadApiError::from(error)),
-    }
+    Ok(X509Bundle::parse_shared(alloc, trust_domain, der)?)
 }
 
 /// Returns the bundle, where it is that of the trust domain and was read from these bytes.
@@ -243,6 +214,7 @@ fn bundle_read_from<'a>(
 
 /// Returns the bundle of a trust domain, which is
 /// the held one where that was read from the same bytes.
+#[inline(always)]
 #[tactic(auto, unfolding(crate::specs::Parsed::bundle_for))]
 pub(crate) fn shared_bundle(
     alloc: Global,
