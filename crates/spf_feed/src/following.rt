@@ -34,7 +34,7 @@ use crate::sharing::{NoSharing, Sharing};
 use crate::snapshot::Snapshot;
 use crate::step::{Publisher, Step};
 use crate::turn::{Records, SessionRules, Turn, turn_of};
-use spf_frame::{FrameError, frame_kind};
+use spf_frame::{FrameError, Payload, frame_kind};
 use spf_io::{OutOfMemory, Sink, Source};
 use spf_x509::X509Context;
 use std::alloc::Global;
@@ -73,7 +73,7 @@ fn event_of<S, W: Sharing<S>>(
 fn next_event<S: Source, W: Sharing<S>>(
     alloc: Global,
     source: &mut S,
-    payload: &mut Vec<u8>,
+    payload: &mut Payload,
     phase: Phase,
     allowed: bool,
     held: Option<&X509Context>,
@@ -416,7 +416,7 @@ pub fn follow_x509_sharing<
         deadline,
         ready,
     };
-    let mut payload = Vec::new(alloc);
+    let mut payload = Payload::new(alloc);
     let mut line = NumberedLine::new(alloc)?;
     let mut snapshot = None;
     let mut phase = Phase::Client;

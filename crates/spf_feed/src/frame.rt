@@ -5,7 +5,7 @@ ghost use Rattle.spf_frame.specs.Parts.{FailureHasCause};
 ghost use Rattle.spf_feed.specs.Frames.{FrameRead, with_payload};
 
 use crate::phase::{Phase, may_stand};
-use spf_frame::{FrameError, Kinds, RawFrame};
+use spf_frame::{FrameError, Kinds, Payload, RawFrame};
 use spf_io::Source;
 use std::alloc::Global;
 
@@ -20,14 +20,15 @@ impl Kinds for Phase {
 }
 
 /// The kind of the next frame, whose payload is then in the buffer. None at the end of input.
+#[inline(always)]
 pub(crate) fn next_frame<S: Source>(
     source: &mut S,
-    payload: &mut Vec<u8>,
+    payload: &mut Payload,
     phase: Phase,
     allowed: bool,
 ) -> Result<Option<u8>, FrameError>
     ensures bytes { FrameRead phase allowed (S.left source.old) (S.left source.new)
-        (with_payload result payload.new.items) }
+        (with_payload result payload.new) }
     ensures cause { FailureHasCause (S.failures source.old) (S.failures source.new) result }
 {
     spf_frame::next_frame(source, payload, &phase, allowed)

@@ -1,6 +1,6 @@
 //! Reading frames: a kind octet, four octets of length, and the payload.
 
-ghost use Rattle.std.specs.Prelude.{◌≡◌, ◌≤◌, ◌^◌, take, length as list_len};
+ghost use Rattle.std.specs.Prelude.{◌≡◌, ◌≤◌, ◌^◌};
 ghost use Rattle.std.specs.Int.{w32, to_be_bytes, from_be_bytes};
 ghost use Rattle.spf_frame.specs.Parts.{PartRead, PartPut, FailureHasCause};
 ghost use Rattle.spf_frame.specs.Frames.{sized, sized_front, FitsFrame, KindRead, FrameRead};
@@ -9,14 +9,12 @@ ghost use Rattle.spf_frame.specs.Frames.{with_payload};
 use crate::error::FrameError;
 use crate::fill::fill;
 use crate::kinds::Kinds;
+use crate::payload::Payload;
 use spf_io::{Bytes, Source};
 use std::alloc::Global;
 
 /// The maximum length of a payload.
 const MAX_PAYLOAD: u32 = 1 << 24;
-
-/// How many octets a buffer is made for before any of a payload has come.
-const CHUNK: usize = 1 << 16;
 
 /// A frame with its payload unread.
 #[derive(Debug, Drop)]
@@ -34,6 +32,7 @@ pub(crate) fn number_of(octets: &[u8; 4]) -> u32
 }
 
 /// One octet, or the end.
+#[inline(always)]
 fn read_kind<S: Source>(source: &mut S) -> Result<Option<u8>, FrameError>
     ensures bytes { KindRead (S.left source.old) (S.left source.new) result }
     ensures cause { FailureHasCause (S.failures source.old) (S.failures source.new) result }
@@ -47,6 +46,7 @@ fn read_kind<S: Source>(source: &mut S) -> Result<Option<u8>, FrameError>
 }
 
 /// The four octets of a length.
+#[inline(always)]
 fn read_length<S: Source>(source: &mut S) -> Result<u32, FrameError>
     ensures bytes { PartRead (to_be_bytes w32) (λ n. n ≤ 2 ^ 24) sized_front (S.left source.old)
         (S.left source.new) result }
@@ -68,60 +68,29 @@ fn read_length<S: Source>(source: &mut S) -> Result<u32, FrameError>
     Ok(length)
 }
 
-/// A payload of this length, in place of what the buffer held. The buffer grows with what came: at
-/// most to twice the octets that were read, or to [`CHUNK`].
-fn read_octets<S: Source>(
-    source: &mut S,
-    payload: &mut Vec<u8>,
-    length: u32,
-) -> Result<(), FrameError>
-    ensures bytes { PartPut (λ p. p) (λ p. list_len p ≡ length) (take length) (S.left source.old)
-        (S.left source.new) result payload.new.items }
-    ensures cause { FailureHasCause (S.failures source.old) (S.failures source.new) result }
-{
-    let total = length as usize;
-    payload.truncate(total);
-    let mut filled = 0;
-    while filled < total {
-        let end = total.min(payload.len().max(CHUNK).max(2 * filled));
-        match payload.resize(end, 0) {
-            Ok(()) => {}
-            Err(_) => return Err(FrameError::OutOfMemory),
-        }
-        match fill(source, &mut payload[filled..]) {
-            Ok(more) => {
-                if more < end - filled {
-                    return Err(FrameError::BadFrame);
-                }
-            }
-            Err(_) => return Err(FrameError::ReadFault),
-        }
-        filled = end;
-    }
-    Ok(())
-}
-
 /// Four octets of length, and the payload, in place of what the buffer held.
-fn read_sized<S: Source>(source: &mut S, payload: &mut Vec<u8>) -> Result<(), FrameError>
+#[inline(always)]
+fn read_sized<S: Source>(source: &mut S, payload: &mut Payload) -> Result<(), FrameError>
     ensures bytes { PartPut sized FitsFrame sized_front (S.left source.old) (S.left source.new)
-        result payload.new.items }
+        result payload.new }
     ensures cause { FailureHasCause (S.failures source.old) (S.failures source.new) result }
 {
     let length = read_length(source)?;
-    read_octets(source, payload, length)?;
+    payload.read(source, length)?;
     Ok(())
 }
 
 /// Returns the kind of the next frame, whose payload is then in the buffer. None at the end of
 /// input. A byte where no frame is allowed, and a kind that is not allowed, end the reading there.
+#[inline(always)]
 pub fn next_frame<S: Source, K: Kinds>(
     source: &mut S,
-    payload: &mut Vec<u8>,
+    payload: &mut Payload,
     kinds: &K,
     allowed: bool,
 ) -> Result<Option<u8>, FrameError>
     ensures bytes { FrameRead (K.allows kinds.now) allowed (S.left source.old) (S.left source.new)
-        (with_payload result payload.new.items) }
+        (with_payload result payload.new) }
     ensures cause { FailureHasCause (S.failures source.old) (S.failures source.new) result }
 {
     let Some(kind) = read_kind(source)? else {
@@ -148,11 +117,11 @@ pub fn read_frame<S: Source, K: Kinds>(
         result }
     ensures cause { FailureHasCause (S.failures source.old) (S.failures source.new) result }
 {
-    let mut payload = Vec::new(alloc);
+    let mut payload = Payload::new(alloc);
     match next_frame(source, &mut payload, kinds, allowed) {
         Ok(Some(kind)) => Ok(Some(RawFrame {
             kind,
-            payload: Bytes::new(payload),
+            payload: Bytes::new(payload.into_octets()),
         })),
         Ok(None) => Ok(None),
         Err(e) => Err(e),

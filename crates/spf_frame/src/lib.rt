@@ -7,9 +7,11 @@ mod fill;
 mod frame;
 pub mod frame_kind;
 mod kinds;
+mod payload;
 mod status;
 
 pub use error::FrameError;
 pub use frame::{RawFrame, next_frame, read_frame};
 pub use kinds::Kinds;
+pub use payload::Payload;
 pub use status::{read_status, read_text};

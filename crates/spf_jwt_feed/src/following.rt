@@ -30,7 +30,7 @@ use crate::snapshot::JwtSnapshot;
 use crate::step::{JwtPublisher, JwtStep};
 use crate::turn::{Records, Turn, turn_of};
 use spf_feed::{Change, FollowError, Phase};
-use spf_frame::{FrameError, next_frame};
+use spf_frame::{FrameError, Payload, next_frame};
 use spf_io::{OutOfMemory, Sink, Source};
 use spf_jwt::{JwtBundleSet, JwtResourceLimits};
 use std::alloc::Global;
@@ -49,7 +49,7 @@ fn held_set(snapshot: &Option<JwtSnapshot>) -> Option<&JwtBundleSet> {
 fn next_event<S: Source>(
     alloc: Global,
     source: &mut S,
-    payload: &mut Vec<u8>,
+    payload: &mut Payload,
     phase: Phase,
     allowed: bool,
     held: Option<&JwtBundleSet>,
@@ -345,7 +345,7 @@ pub fn follow_jwt<S: Source, K: Sink, P: JwtPublisher, M: JwtMetricsRecorder>(
         (record { reads = S.failures source.old; writes = K.failures sink.old })
         (record { reads = S.failures source.new; writes = K.failures sink.new }) result }
 {
-    let mut payload = Vec::new(alloc);
+    let mut payload = Payload::new(alloc);
     let mut line = NumberedLine::new(alloc)?;
     let mut snapshot = None;
     let mut phase = Phase::Client;

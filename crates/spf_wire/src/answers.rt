@@ -9,7 +9,7 @@ ghost use Rattle.spf_wire.specs.Laid.{IsLaid};
 use crate::kinds::{AtStart, InStream, is_of_stream};
 use spf_api::{GrpcStatusError, Response, ResponseKind, read_payload};
 use spf_frame::frame_kind::{CONNECTED, ITEM, ITEM_STATUS};
-use spf_frame::{FrameError, next_frame, read_status};
+use spf_frame::{FrameError, Payload, next_frame, read_status};
 use spf_io::{OutOfMemory, Source};
 use std::alloc::Global;
 
@@ -76,7 +76,7 @@ fn said_in_stream(
 fn read_at_start<S: Source>(
     alloc: Global,
     source: &mut S,
-    payload: &mut Vec<u8>,
+    payload: &mut Payload,
     again: bool,
 ) -> Result<Option<Started>, FrameError>
     ensures bytes { AnswerRead (SaysAtStart again) (may_start again) (S.left source.old)
@@ -99,7 +99,7 @@ fn read_at_start<S: Source>(
 pub(crate) fn read_start<S: Source>(
     alloc: Global,
     source: &mut S,
-    payload: &mut Vec<u8>,
+    payload: &mut Payload,
     again: bool,
 ) -> Result<Started, FrameError>
     ensures bytes { StartRead again (S.left source.old) (S.left source.new) result }
@@ -119,7 +119,7 @@ pub(crate) fn read_start<S: Source>(
 pub(crate) fn read_in_stream<S: Source>(
     alloc: Global,
     source: &mut S,
-    payload: &mut Vec<u8>,
+    payload: &mut Payload,
     asked: ResponseKind,
 ) -> Result<Streamed, FrameError>
     ensures bytes { AnswerRead (SaysInStream asked) streams (S.left source.old) (S.left source.new)

@@ -11,7 +11,7 @@ use crate::answers::{Started, Streamed, read_in_stream, read_start};
 use crate::request::request_frame;
 use crate::wire_fault::WireFault;
 use spf_api::{GrpcStatusCode, GrpcStatusError, LinkFault, Response, ResponseKind};
-use spf_frame::FrameError;
+use spf_frame::{FrameError, Payload};
 use spf_io::{Sink, Source, Text};
 use spf_link::{Headers, Link, Request};
 use std::alloc::Global;
@@ -23,7 +23,7 @@ pub struct WireLink<S, K> {
     source: S,
     sink: K,
     /// The payload of the last frame.
-    payload: Vec<u8>,
+    payload: Payload,
     /// The kind of the responses to the last request that was put, at least in part.
     asked: Option<ResponseKind>,
     refused: u64,
@@ -88,7 +88,7 @@ impl<S: Source, K: Sink> WireLink<S, K> {
             alloc,
             source,
             sink,
-            payload: Vec::new(alloc),
+            payload: Payload::new(alloc),
             asked: None,
             refused: 0,
         }

@@ -17,7 +17,7 @@ returns-in-Ok-Some-clause-bytes g c =
     let read = rw c.in-Some.is at c.in_ok-kind.ensures.bytes in
     λ rules past asks.
     read_event context_in context_at (stream rules) past _ _ _ _ _ _ _ _ refl (ap allows asks) read
-    c.as_slice.ensures.value
+    c.as_slice.ensures
     (sym c.in-Ok-Some.field-0-is ∙ c.in-Ok-Some.ensures)
 
 pub returns-in-Ok-None-clause-bytes : goal.returns-in-Ok-None-clause-bytes
@@ -25,7 +25,7 @@ returns-in-Ok-None-clause-bytes g c =
     let read = rw c.in-Some.is at c.in_ok-kind.ensures.bytes in
     λ rules past asks.
     read_nothing context_in context_at (stream rules) past _ _ _ _ _ _ _ refl (ap allows asks) read
-    c.as_slice.ensures.value
+    c.as_slice.ensures
     (sym c.in-Ok-None.field-0-is ∙ c.in-Ok-None.ensures)
 
 pub returns-in_err-kind-clause-bytes : goal.returns-in_err-kind-clause-bytes

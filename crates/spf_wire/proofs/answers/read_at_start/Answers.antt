@@ -13,13 +13,13 @@ pub returns-in-Ok-Some-clause-bytes : goal.returns-in-Ok-Some-clause-bytes
 returns-in-Ok-Some-clause-bytes g c =
     let read = rw c.in-Some.is at c.in_ok-kind.ensures.bytes in
     answered (SaysAtStart c.args.again) (may_start c.args.again) _ _ _ _ _ _ read
-    c.as_slice.ensures.value (rw c.in-Ok-Some.field-0-is at c.in-Ok-Some.ensures)
+    c.as_slice.ensures (rw c.in-Ok-Some.field-0-is at c.in-Ok-Some.ensures)
 
 pub returns-in-Ok-None-clause-bytes : goal.returns-in-Ok-None-clause-bytes
 returns-in-Ok-None-clause-bytes g c =
     let read = rw c.in-Some.is at c.in_ok-kind.ensures.bytes in
     nothing (SaysAtStart c.args.again) (may_start c.args.again) _ _ _ _ _ read
-    c.as_slice.ensures.value (rw c.in-Ok-None.field-0-is at c.in-Ok-None.ensures)
+    c.as_slice.ensures (rw c.in-Ok-None.field-0-is at c.in-Ok-None.ensures)
 
 pub returns-in_err-kind-clause-bytes : goal.returns-in_err-kind-clause-bytes
 returns-in_err-kind-clause-bytes g c =

@@ -12,13 +12,13 @@ returns-in-None-clause-bytes g c =
 pub returns-in-Ok-Some-clause-bytes : goal.returns-in-Ok-Some-clause-bytes
 returns-in-Ok-Some-clause-bytes g c =
     let read = rw c.in-Some.is at c.in_ok-kind.ensures.bytes in
-    answered (SaysInStream c.args.asked) streams _ _ _ _ _ _ read c.as_slice.ensures.value
+    answered (SaysInStream c.args.asked) streams _ _ _ _ _ _ read c.as_slice.ensures
     (rw c.in-Ok-Some.field-0-is at c.in-Ok-Some.ensures)
 
 pub returns-in-Ok-None-clause-bytes : goal.returns-in-Ok-None-clause-bytes
 returns-in-Ok-None-clause-bytes g c =
     let read = rw c.in-Some.is at c.in_ok-kind.ensures.bytes in
-    nothing (SaysInStream c.args.asked) streams _ _ _ _ _ read c.as_slice.ensures.value
+    nothing (SaysInStream c.args.asked) streams _ _ _ _ _ read c.as_slice.ensures
     (rw c.in-Ok-None.field-0-is at c.in-Ok-None.ensures)
 
 pub returns-in_err-kind-clause-bytes : goal.returns-in_err-kind-clause-bytes

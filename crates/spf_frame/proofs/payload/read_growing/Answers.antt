@@ -4,12 +4,12 @@ use Rattle.std.proofs.KnownBytes.{Consumes-trans}
 use Rattle.spf_frame.specs.Parts.{NoPart}
 use Rattle.spf_frame.proofs.Parts.{none_from_end}
 use Rattle.spf_frame.proofs.Sizes.{cut_octets}
-use Rattle.spf_frame.proofs.frame.read_octets.Goals as goal
+use Rattle.spf_frame.proofs.payload.read_growing.Goals as goal
 
 pub returns-then-more-end-clause-bytes : goal.returns-then-more-end-clause-bytes
 returns-then-more-end-clause-bytes g c =
     let read = c.in-Ok-fill.ensures.bytes in
-    let before = take c.loop-filled.filled c.loop-filled.payload.items in
+    let before = take c.loop-filled.filled c.loop-filled.octets.items in
     let more = take c.in-Ok-fill.more c.fill.new.buf in
     let given = before ++ more in
     let took = Consumes-trans _ _ _ _ _ c.loop-filled.invariant.2 read.1 in
@@ -17,7 +17,7 @@ returns-then-more-end-clause-bytes g c =
     omega (
       arith,
       length-append before more,
-      length-take-le c.loop-filled.filled c.loop-filled.payload.items c.loop-filled.invariant.0,
+      length-take-le c.loop-filled.filled c.loop-filled.octets.items c.loop-filled.invariant.0,
       length-take-le c.in-Ok-fill.more c.fill.new.buf read.0,
       c.if-more-end.true,
       c.min-end.ensures,
@@ -37,7 +37,7 @@ returns-then-more-end-clause-bytes g c =
 pub returns-in-Err-fill-clause-bytes : goal.returns-in-Err-fill-clause-bytes
 returns-in-Err-fill-clause-bytes g c =
     let read = c.in-Err-fill.ensures.bytes in
-    let before = take c.loop-filled.filled c.loop-filled.payload.items in
+    let before = take c.loop-filled.filled c.loop-filled.octets.items in
     let more = take read.0 c.fill.new.buf in
     let given = before ++ more in
     let fits : c.loop-filled.filled + length c.fill.new.buf ≤ c.args.length =
@@ -53,7 +53,7 @@ returns-in-Err-fill-clause-bytes g c =
     omega (
       arith,
       length-append before more,
-      length-take-le c.loop-filled.filled c.loop-filled.payload.items c.loop-filled.invariant.0,
+      length-take-le c.loop-filled.filled c.loop-filled.octets.items c.loop-filled.invariant.0,
       length-take-le read.0 c.fill.new.buf (search rules),
       read.1,
       fits,
