@@ -5,6 +5,7 @@ pub mod Frames
 pub mod Handing
 pub mod Indices
 pub mod Items
+pub mod Kept
 pub mod Limits
 pub mod Lines
 pub mod Material

@@ -10,6 +10,9 @@ use spf_io::{Failed, OutOfMemory, Sink};
 use std::alloc::Global;
 use std::marker::Model;
 
+/// How many octets a buffer grows by beyond those that are needed.
+const SPARE: usize = 1 << 12;
+
 /// A line, which contracts see as its octets. What is cut off leaves its room, so that a buffer
 /// that is written into again is not filled up with zeroes first.
 #[derive(Debug, Drop)]
@@ -28,10 +31,12 @@ impl Model for LineBuffer {
     ghost invariant = { λ b. b.end ≤ vec_len b.octets };
 }
 
-/// Grows to twice the size at least.
+/// Grows to somewhat more than is needed, so that few zeroes are written that are never used. The
+/// vector at least doubles its capacity behind them, so that its octets are seldom copied.
 #[inline(never)]
 fn grow(octets: &mut Vec<u8>, end: usize, more: usize) -> Result<(), OutOfMemory>
-    requires { end ≤ vec_len octets.old }
+    requires front { end ≤ vec_len octets.old }
+    requires lacks { vec_len octets.old ≤ end + more }
     ensures room { OnOk result (end + more ≤ vec_len octets.new) }
     ensures kept { take end octets.new.items ≡ take end octets.old.items }
     ensures grows { vec_len octets.old ≤ vec_len octets.new }
@@ -39,8 +44,7 @@ fn grow(octets: &mut Vec<u8>, end: usize, more: usize) -> Result<(), OutOfMemory
     let Some(size) = end.checked_add(more) else {
         return Err(OutOfMemory);
     };
-    let twice = octets.len().saturating_mul(2);
-    octets.resize(size.max(twice), 0)?;
+    octets.resize(size.saturating_add(SPARE), 0)?;
     Ok(())
 }
 

@@ -67,6 +67,7 @@ fn received(
 
 /// The context that an item brings, None where it breaks a
 /// rule. What it has of the bytes of the held one is shared.
+#[inline(always)]
 fn item_in(
     alloc: Global,
     bytes: &[u8],

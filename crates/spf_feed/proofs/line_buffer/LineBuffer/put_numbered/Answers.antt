@@ -1,4 +1,5 @@
-use Rattle.std.proofs.Common.{◌≡◌, ◌≤◌, ◌-◌, ◌++◌, ◌∙◌, ℕ, List, ap, subst, length, take, arith, rules}
+use Rattle.std.proofs.Common.{◌≡◌, ◌≤◌, ◌-◌, ◌++◌, ◌∙◌, ℕ, List, ap, subst, length, take, arith}
+use Rattle.std.proofs.Common.{rules}
 use Rattle.std.specs.Prelude.{decimal, drop}
 use Rattle.std.proofs.lemmas.Fmt.{length-decimal-le}
 use Rattle.spf_io.specs.Outside.{PutAppends}
