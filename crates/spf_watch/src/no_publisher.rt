@@ -13,6 +13,7 @@ impl Publisher for NoPublisher {
 
     ghost steps = { λ _. None };
 
+    #[inline(always)]
     fn publish(&mut self, _step: Step) -> Result<(), OutOfMemory> {
         Ok(())
     }
@@ -23,6 +24,7 @@ impl JwtPublisher for NoPublisher {
 
     ghost steps = { λ _. None };
 
+    #[inline(always)]
     fn publish(&mut self, _step: JwtStep) -> Result<(), OutOfMemory> {
         Ok(())
     }

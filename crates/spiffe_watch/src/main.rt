@@ -13,7 +13,7 @@ use std::io::BufReader;
 use std::process::ExitCode;
 
 /// How many bytes of standard input are read at once.
-const INPUT_BUFFER: usize = 1 << 15;
+const INPUT_BUFFER: usize = 1 << 14;
 
 fn main(rt: HostRuntime) -> ExitCode {
     let mut errors = StdSink::new(rt.stderr());
