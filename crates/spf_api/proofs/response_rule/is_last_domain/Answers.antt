@@ -1,5 +1,4 @@
-use Rattle.std.proofs.Common.{ℕ, List, ap, sym, ◌∙◌}
-use Rattle.std.specs.Arc.{arc_value}
+use Rattle.std.proofs.Common.{ap, sym, ◌∙◌}
 use Rattle.spf_id.specs.Id.{Id}
 use Rattle.spf_x509.specs.Svid.{Svid}
 use Rattle.spf_io.proofs.Exact.{bytes_exact}
