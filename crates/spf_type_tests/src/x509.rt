@@ -1,6 +1,7 @@
 //! Certificates, keys, SVIDs, bundles and contexts.
 
 mod bundles;
+mod order;
 mod svids;
 
 const URI: &str = "spiffe://example.org/w";

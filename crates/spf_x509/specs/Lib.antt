@@ -8,6 +8,7 @@ pub mod Indices
 pub mod Bag
 pub mod Order
 pub mod Lead
+pub mod Buckets
 pub mod Certificate
 pub mod Few
 pub mod Key

@@ -20,7 +20,7 @@ use std::marker::Model;
 pub(crate) const MAX_CERTIFICATES: usize = 16;
 
 /// A certificate of a chain, which contracts see as what is read of it and its bytes.
-#[derive(Debug, Drop)]
+#[derive(Drop)]
 pub(crate) struct ChainPart<'a> {
     scan: CertScan<'a>,
     der: &'a [u8],

@@ -3,6 +3,7 @@
 //! bytes that came; signatures and certificate paths are not checked.
 #![tactic(auto)]
 
+mod bucket_sort;
 mod bundle;
 mod bundle_map;
 mod bundle_set;
