@@ -3,6 +3,7 @@
 ghost use Rattle.std.specs.Prelude.{◌≡◌, ◌↔◌, IsTrue, Some, codes};
 ghost use Rattle.spf_api.specs.Status.{holds};
 ghost use Rattle.spf_api.specs.Errors.{status_reading, status_code_of};
+ghost use Rattle.spf_api.specs.declared.error.WorkloadApiError.TheVariants as errors;
 ghost use Rattle.spf_api.specs.declared.status.GrpcStatusCode.TheVariants as code;
 
 use crate::endpoint_error::EndpointError;
@@ -92,6 +93,13 @@ impl WorkloadApiError {
             }
             _ => WorkloadApiError::Transport(TransportError::Status(status)),
         }
+    }
+
+    /// Returns whether memory ran out.
+    pub fn is_out_of_memory(&self) -> bool
+        ensures { IsTrue result ↔ (self.now ≡ errors.OutOfMemory) }
+    {
+        matches!(self, WorkloadApiError::OutOfMemory)
     }
 
     /// Returns whether this is a status of the transport with the code INVALID_ARGUMENT.

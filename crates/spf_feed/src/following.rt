@@ -19,6 +19,8 @@ ghost use Rattle.spf_feed.specs.Following.{is_failure, FailuresHaveCauses, OnlyA
 ghost use Rattle.spf_feed.specs.Following.{HandsOn, IsShownAfter, IsTaken, change_of, is_changed};
 ghost use Rattle.spf_feed.specs.Following.{update_of, TurnTaken, FollowedBy};
 ghost use Rattle.spf_feed.specs.Following as spec;
+ghost use Rattle.spf_feed.specs.Shown.{shown_text};
+ghost use Rattle.spf_view.specs.Views.{Waiting};
 
 use crate::follow_error::FollowError;
 use crate::frame::next_frame;
@@ -371,6 +373,81 @@ fn show(
     }
 }
 
+/// Follows the events of a stream that nothing was read of yet. What is kept between them is lent,
+/// so that none of it is dropped where the loop ends.
+#[inline(always)]
+fn follow_events<
+    S: Source,
+    K: Sink,
+    P: Publisher,
+    M: MetricsRecorder,
+    C: SvidPicker,
+    W: Sharing<S>,
+>(
+    alloc: Global,
+    source: &mut S,
+    sink: &mut K,
+    publisher: &mut P,
+    recorder: &mut M,
+    rules: SessionRules,
+    max_frames: u64,
+    picker: Option<&C>,
+    payload: &mut Payload,
+    line: &mut NumberedLine,
+    snapshot: &mut Option<Snapshot>,
+) -> Result<u64, FollowError>
+    requires picker { ForSome picker (λ p. C.can_pick p.now) }
+    requires line { line.old.text ≡ shown_text Waiting 0 None }
+    requires snapshot { snapshot.old ≡ None }
+    ensures followed { FollowedBy
+        (rules_with rules.limits rules.deadline rules.ready
+        (option_map (λ p. C.picks p.now) picker.entry)) max_frames
+        (record {
+          left = S.left source.old;
+          held = K.held sink.old;
+          steps = P.steps publisher.old;
+          records = M.records recorder.old;
+        })
+        (record {
+          left = S.left source.new;
+          held = K.held sink.new;
+          steps = P.steps publisher.new;
+          records = M.records recorder.new;
+        }) result }
+    ensures cause { FailuresHaveCauses
+        (record { reads = S.failures source.old; writes = K.failures sink.old })
+        (record { reads = S.failures source.new; writes = K.failures sink.new }) result }
+{
+    let mut phase = Phase::Client;
+    let mut now = None;
+    let mut count = 0;
+    'events: loop {
+        let allowed = count < max_frames;
+        let held = held_context(snapshot);
+        let event = match next_event::<S, W>(alloc, source, payload, phase, allowed, held) {
+            Ok(Some(event)) => event,
+            Ok(None) => return at_end(snapshot, count),
+            Err(e) => return Err(error_at(count, e)),
+        };
+        count += 1;
+        let is_close = is_close(&event);
+        let synced = snapshot.is_some();
+        phase = phase_after(phase, synced, &event);
+        let moment = moment_after(now, &event);
+        let turn = turn_of(rules, picker, synced, now, event);
+        now = moment;
+        let is_changed = take(alloc, publisher, recorder, snapshot, rules.limits, turn)?;
+        show(line, snapshot, is_changed, now)?;
+        match line.put(sink, count) {
+            Ok(()) => {}
+            Err(_) => return Err(FollowError::WriteFault),
+        }
+        if is_close {
+            return Ok(count);
+        }
+    }
+}
+
 /// Follows an update stream as [`follow_x509`] does. An item whose context is known beside the
 /// source is shared and not read again.
 pub fn follow_x509_sharing<
@@ -419,34 +496,23 @@ pub fn follow_x509_sharing<
     let mut payload = Payload::new(alloc);
     let mut line = NumberedLine::new(alloc)?;
     let mut snapshot = None;
-    let mut phase = Phase::Client;
-    let mut now = None;
-    let mut count = 0;
-    'events: loop {
-        let allowed = count < max_frames;
-        let held = held_context(&snapshot);
-        let event = match next_event::<S, W>(alloc, source, &mut payload, phase, allowed, held) {
-            Ok(Some(event)) => event,
-            Ok(None) => return at_end(&snapshot, count),
-            Err(e) => return Err(error_at(count, e)),
-        };
-        count += 1;
-        let is_close = is_close(&event);
-        let synced = snapshot.is_some();
-        phase = phase_after(phase, synced, &event);
-        let moment = moment_after(now, &event);
-        let turn = turn_of(rules, picker, synced, now, event);
-        now = moment;
-        let is_changed = take(alloc, publisher, recorder, &mut snapshot, limits, turn)?;
-        show(&mut line, &snapshot, is_changed, now)?;
-        match line.put(sink, count) {
-            Ok(()) => {}
-            Err(_) => return Err(FollowError::WriteFault),
-        }
-        if is_close {
-            return Ok(count);
-        }
-    }
+    let followed = follow_events::<S, K, P, M, C, W>(
+        alloc,
+        source,
+        sink,
+        publisher,
+        recorder,
+        rules,
+        max_frames,
+        picker,
+        &mut payload,
+        &mut line,
+        &mut snapshot,
+    );
+    drop(snapshot);
+    drop(line);
+    drop(payload);
+    followed
 }
 
 /// Follows an update stream of at most `max_frames` frames to its end or its close. Each event is

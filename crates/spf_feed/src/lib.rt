@@ -32,7 +32,7 @@ pub use following::{Change, follow_x509, follow_x509_sharing, moment_after, publ
 pub use frame::read_frame;
 pub use limits::{LimitBroken, LimitKind, ResourceLimits, validate_limits};
 pub use line::state_line;
-pub use payload::Received;
+pub use payload::{Received, read_client_fault, read_moment, valid_context};
 pub use phase::{Phase, phase_after};
 pub use picker::{FnPicker, HintPicker, NoPicker, PickFunction, SvidPicker, select_svid};
 pub use prepared::Prepared;

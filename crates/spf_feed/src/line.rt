@@ -319,7 +319,7 @@ pub fn state_line(
 
 /// The line of a session in one buffer, with room for its number before it. What it shows is
 /// written anew only where that changes.
-#[derive(Debug, Drop)]
+#[derive(Drop)]
 pub(crate) struct NumberedLine {
     octets: LineBuffer,
     shows_choice: bool,

@@ -15,7 +15,7 @@ const SPARE: usize = 1 << 12;
 
 /// A line, which contracts see as its octets. What is cut off leaves its room, so that a buffer
 /// that is written into again is not filled up with zeroes first.
-#[derive(Debug, Drop)]
+#[derive(Drop)]
 pub(crate) struct LineBuffer {
     octets: Vec<u8>,
     end: usize,

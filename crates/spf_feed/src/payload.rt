@@ -23,9 +23,10 @@ const UNREACHABLE: u8 = 255;
 /// An event as it is received: an item is read down to its context, or None where it breaks a rule.
 pub type Received = SessionEvent<Option<X509Context>>;
 
-/// A status, or the text of what could not be reached.
+/// Reads a status, or the text of what could not be reached. Returns None where the bytes are
+/// neither.
 #[tactic(auto, unfolding(crate::specs::Events::failure_at))]
-fn failure_in(alloc: Global, bytes: &[u8]) -> Result<Option<ClientFault>, OutOfMemory>
+pub fn read_client_fault(alloc: Global, bytes: &[u8]) -> Result<Option<ClientFault>, OutOfMemory>
     ensures { IfOk result (λ o. o ≡ failure_at bytes.now) }
 {
     let [number, rest @ ..] = bytes else {
@@ -37,9 +38,10 @@ fn failure_in(alloc: Global, bytes: &[u8]) -> Result<Option<ClientFault>, OutOfM
     Ok(read_status(alloc, bytes)?.map(ClientFault::Status))
 }
 
-/// Eight octets of Unix seconds, from 0 to 2^63 - 1.
+/// Reads eight octets of Unix seconds, from 0 to 2^63 - 1. Returns None where the bytes are not
+/// such.
 #[tactic(auto, unfolding(crate::specs::Events::moment_at))]
-fn moment_in(bytes: &[u8]) -> Option<i64>
+pub fn read_moment(bytes: &[u8]) -> Option<i64>
     ensures { result ≡ moment_at bytes.now }
 {
     let [a, b, c, d, e, f, g, h] = bytes else {
@@ -52,16 +54,23 @@ fn moment_in(bytes: &[u8]) -> Option<i64>
     Some(number as i64)
 }
 
-/// The context of a response, None where it breaks a rule.
-fn received(
+/// Returns the context of a response, None where it breaks a rule.
+pub fn valid_context(
     parsed: Result<X509Context, WorkloadApiError>,
 ) -> Result<Option<X509Context>, OutOfMemory>
     ensures { IsReceived parsed result }
 {
     match parsed {
         Ok(context) => Ok(Some(context)),
-        Err(WorkloadApiError::OutOfMemory) => Err(OutOfMemory),
-        Err(_) => Ok(None),
+        Err(error) => {
+            let is_memory = error.is_out_of_memory();
+            drop(error);
+            if is_memory {
+                Err(OutOfMemory)
+            } else {
+                Ok(None)
+            }
+        }
     }
 }
 
@@ -79,7 +88,7 @@ fn item_in(
         return Ok(None);
     };
     let context = context_from_view_sharing(alloc, &view, held);
-    Ok(Some(received(context)?))
+    Ok(Some(valid_context(context)?))
 }
 
 /// The event of an item.
@@ -99,7 +108,7 @@ fn item_event(
 fn client_failure(alloc: Global, payload: &[u8]) -> Result<Option<Received>, OutOfMemory>
     ensures { IfOk result (λ o. o ≡ option_map events.ClientFailed (failure_at payload.now)) }
 {
-    Ok(failure_in(alloc, payload)?.map(Received::ClientFailed))
+    Ok(read_client_fault(alloc, payload)?.map(Received::ClientFailed))
 }
 
 /// The event of a connection's status.
@@ -137,7 +146,7 @@ pub(crate) fn event_in(
         ITEM => item_event(alloc, payload, held),
         ITEM_STATUS => item_status(alloc, payload),
         STREAM_END if payload.is_empty() => Ok(Some(Received::StreamEnd)),
-        MOMENT => Ok(moment_in(payload).map(Received::Moment)),
+        MOMENT => Ok(read_moment(payload).map(Received::Moment)),
         CLOSE if payload.is_empty() => Ok(Some(Received::Close)),
         _ => Ok(None),
     }

@@ -20,6 +20,8 @@ ghost use Rattle.spf_jwt_feed.specs.Steps.{plain, is_accept, HasStep, MayFollow}
 ghost use Rattle.spf_jwt_feed.specs.Turns.{MayTake, listed};
 ghost use Rattle.spf_jwt_feed.specs.Following.{IsShownAfter, IsTaken, change_of};
 ghost use Rattle.spf_jwt_feed.specs.Following.{update_of, TurnTaken};
+ghost use Rattle.spf_jwt_feed.specs.Shown.{shown_text};
+ghost use Rattle.spf_view.specs.Views.{Waiting};
 
 use crate::event::JwtReceived;
 use crate::line::NumberedLine;
@@ -311,6 +313,70 @@ fn show(
     }
 }
 
+/// Follows the events of a stream that nothing was read of yet. What is kept between them is lent,
+/// so that none of it is dropped where the loop ends.
+#[inline(always)]
+fn follow_events<S: Source, K: Sink, P: JwtPublisher, M: JwtMetricsRecorder>(
+    alloc: Global,
+    source: &mut S,
+    sink: &mut K,
+    publisher: &mut P,
+    recorder: &mut M,
+    limits: JwtResourceLimits,
+    deadline: Option<i64>,
+    max_frames: u64,
+    payload: &mut Payload,
+    line: &mut NumberedLine,
+    snapshot: &mut Option<JwtSnapshot>,
+) -> Result<u64, FollowError>
+    requires line { line.old ≡ shown_text Waiting 0 }
+    requires snapshot { snapshot.old ≡ None }
+    ensures followed { Followed (stream (record { limits = limits; deadline = deadline }))
+        (outputs (record { limits = limits; deadline = deadline })) max_frames
+        (record {
+          left = S.left source.old;
+          held = K.held sink.old;
+          steps = P.steps publisher.old;
+          records = M.records recorder.old;
+        })
+        (record {
+          left = S.left source.new;
+          held = K.held sink.new;
+          steps = P.steps publisher.new;
+          records = M.records recorder.new;
+        })
+        (end_for result) }
+    ensures cause { FailuresHaveCauses
+        (record { reads = S.failures source.old; writes = K.failures sink.old })
+        (record { reads = S.failures source.new; writes = K.failures sink.new }) result }
+{
+    let mut phase = Phase::Client;
+    let mut count = 0;
+    'events: loop {
+        let allowed = count < max_frames;
+        let held = held_set(snapshot);
+        let event = match next_event(alloc, source, payload, phase, allowed, held) {
+            Ok(Some(event)) => event,
+            Ok(None) => return at_end(snapshot, count),
+            Err(e) => return Err(error_at(count, e)),
+        };
+        count += 1;
+        let is_close = is_close(&event);
+        let synced = snapshot.is_some();
+        phase = phase_after(phase, synced, &event);
+        let turn = turn_of(limits, deadline, synced, event);
+        let is_changed = take(alloc, publisher, recorder, snapshot, limits, turn)?;
+        show(line, snapshot, is_changed)?;
+        match line.put(sink, count) {
+            Ok(()) => {}
+            Err(_) => return Err(FollowError::WriteFault),
+        }
+        if is_close {
+            return Ok(count);
+        }
+    }
+}
+
 /// Follows an update stream of at most `max_frames` frames to its end or its close. Each event is
 /// read, published, recorded and shown by a line, in that order. It returns the number of events.
 pub fn follow_jwt<S: Source, K: Sink, P: JwtPublisher, M: JwtMetricsRecorder>(
@@ -348,29 +414,21 @@ pub fn follow_jwt<S: Source, K: Sink, P: JwtPublisher, M: JwtMetricsRecorder>(
     let mut payload = Payload::new(alloc);
     let mut line = NumberedLine::new(alloc)?;
     let mut snapshot = None;
-    let mut phase = Phase::Client;
-    let mut count = 0;
-    'events: loop {
-        let allowed = count < max_frames;
-        let held = held_set(&snapshot);
-        let event = match next_event(alloc, source, &mut payload, phase, allowed, held) {
-            Ok(Some(event)) => event,
-            Ok(None) => return at_end(&snapshot, count),
-            Err(e) => return Err(error_at(count, e)),
-        };
-        count += 1;
-        let is_close = is_close(&event);
-        let synced = snapshot.is_some();
-        phase = phase_after(phase, synced, &event);
-        let turn = turn_of(limits, deadline, synced, event);
-        let is_changed = take(alloc, publisher, recorder, &mut snapshot, limits, turn)?;
-        show(&mut line, &snapshot, is_changed)?;
-        match line.put(sink, count) {
-            Ok(()) => {}
-            Err(_) => return Err(FollowError::WriteFault),
-        }
-        if is_close {
-            return Ok(count);
-        }
-    }
+    let followed = follow_events(
+        alloc,
+        source,
+        sink,
+        publisher,
+        recorder,
+        limits,
+        deadline,
+        max_frames,
+        &mut payload,
+        &mut line,
+        &mut snapshot,
+    );
+    drop(snapshot);
+    drop(line);
+    drop(payload);
+    followed
 }

@@ -150,7 +150,7 @@ fn push_view(line: &mut Vec<u8>, revision: u64, standing: &Standing) -> Result<(
 
 /// The line of a session in one buffer, with room for its number before it. What it shows is
 /// written anew only where that changes.
-#[derive(Debug, Drop)]
+#[derive(Drop)]
 pub(crate) struct NumberedLine {
     octets: Vec<u8>,
 }

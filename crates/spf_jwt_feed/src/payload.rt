@@ -1,56 +1,23 @@
 //! What the payload of a frame lays out.
 
 ghost use Rattle.std.specs.Prelude.{◌≡◌, IfOk};
-ghost use Rattle.spf_feed.specs.Events.{failure_at, moment_at, event_at};
+ghost use Rattle.spf_feed.specs.Events.{event_at};
 ghost use Rattle.spf_feed.specs.Events as spec;
 ghost use Rattle.spf_api.specs.declared.response.Response.TheVariants as responses;
 ghost use Rattle.spf_jwt_feed.specs.Items.{item_at, IsReceived, HasKeySets};
 ghost use Rattle.spf_jwt_feed.specs.Items as items_spec;
 
 use crate::event::{JwtItem, JwtReceived};
-use spf_api::{
-    BundlesResponse, ClientFault, Response, ResponseKind, WorkloadApiError, read_payload,
-};
+use spf_api::{BundlesResponse, Response, ResponseKind, WorkloadApiError, read_payload};
+use spf_feed::{read_client_fault, read_moment};
 use spf_frame::frame_kind::{
     CLIENT_FAILED, CLIENT_MADE, CLOSE, CONNECT_STATUS, CONNECTED, ITEM, ITEM_STATUS, MOMENT,
     STREAM_END,
 };
-use spf_frame::{read_status, read_text};
+use spf_frame::read_status;
 use spf_io::OutOfMemory;
 use spf_jwt::{JwtBundleSet, jwt_bundle_set_sharing};
 use std::alloc::Global;
-
-/// The code octet of a client that could not reach its endpoint.
-const UNREACHABLE: u8 = 255;
-
-/// A status, or the text of what could not be reached.
-#[tactic(auto, unfolding(spf_feed::specs::Events::failure_at))]
-fn failure_in(alloc: Global, bytes: &[u8]) -> Result<Option<ClientFault>, OutOfMemory>
-    ensures { IfOk result (λ o. o ≡ failure_at bytes.now) }
-{
-    let [number, rest @ ..] = bytes else {
-        return Ok(None);
-    };
-    if *number == UNREACHABLE {
-        return Ok(read_text(alloc, rest)?.map(ClientFault::Unreachable));
-    }
-    Ok(read_status(alloc, bytes)?.map(ClientFault::Status))
-}
-
-/// Eight octets of Unix seconds, from 0 to 2^63 - 1.
-#[tactic(auto, unfolding(spf_feed::specs::Events::moment_at))]
-fn moment_in(bytes: &[u8]) -> Option<i64>
-    ensures { result ≡ moment_at bytes.now }
-{
-    let [a, b, c, d, e, f, g, h] = bytes else {
-        return None;
-    };
-    let number = u64::from_be_bytes([*a, *b, *c, *d, *e, *f, *g, *h]);
-    if number > i64::MAX as u64 {
-        return None;
-    }
-    Some(number as i64)
-}
 
 /// The item whose key sets were read.
 fn received(parsed: Result<JwtBundleSet, WorkloadApiError>) -> Result<JwtItem, OutOfMemory>
@@ -58,8 +25,15 @@ fn received(parsed: Result<JwtBundleSet, WorkloadApiError>) -> Result<JwtItem, O
 {
     match parsed {
         Ok(set) => Ok(JwtItem::Bundles(set)),
-        Err(WorkloadApiError::OutOfMemory) => Err(OutOfMemory),
-        Err(_) => Ok(JwtItem::Broken),
+        Err(error) => {
+            let is_memory = error.is_out_of_memory();
+            drop(error);
+            if is_memory {
+                Err(OutOfMemory)
+            } else {
+                Ok(JwtItem::Broken)
+            }
+        }
     }
 }
 
@@ -126,13 +100,13 @@ pub(crate) fn event_in(
 {
     match kind {
         CLIENT_MADE => Ok(when_empty(payload, JwtReceived::ClientMade)),
-        CLIENT_FAILED => Ok(failure_in(alloc, payload)?.map(JwtReceived::ClientFailed)),
+        CLIENT_FAILED => Ok(read_client_fault(alloc, payload)?.map(JwtReceived::ClientFailed)),
         CONNECTED => Ok(when_empty(payload, JwtReceived::Connected)),
         CONNECT_STATUS => Ok(read_status(alloc, payload)?.map(JwtReceived::ConnectStatus)),
         ITEM => Ok(item_in(alloc, payload, held)?.map(JwtReceived::Item)),
         ITEM_STATUS => Ok(read_status(alloc, payload)?.map(JwtReceived::ItemStatus)),
         STREAM_END => Ok(when_empty(payload, JwtReceived::StreamEnd)),
-        MOMENT => Ok(moment_in(payload).map(JwtReceived::Moment)),
+        MOMENT => Ok(read_moment(payload).map(JwtReceived::Moment)),
         CLOSE => Ok(when_empty(payload, JwtReceived::Close)),
         _ => Ok(None),
     }

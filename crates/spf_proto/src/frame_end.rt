@@ -8,7 +8,7 @@ use spf_feed::FollowError;
 
 /// How following the frames ends. They bring nothing that another error could come from: one that
 /// came nevertheless counts as out of memory.
-#[derive(Clone, Copy, Debug, PartialEq, Eq)]
+#[derive(Clone, Copy, PartialEq, Eq)]
 pub(crate) enum FrameEnd {
     Whole(u64),
     NeverSynced,

@@ -14,7 +14,7 @@ use std::marker::Model;
 const CHUNK: usize = 1 << 16;
 
 /// A buffer whose first octets came. Contracts see those.
-#[derive(Debug, Drop)]
+#[derive(Drop)]
 pub(crate) struct Incoming {
     buffer: Vec<u8>,
     filled: usize,

@@ -16,7 +16,7 @@ use std::alloc::Global;
 use std::collections::BTreeSet;
 
 /// The members of a response, as far as its fields are read.
-#[derive(Debug, Drop)]
+#[derive(Drop)]
 struct Members<'a> {
     svids: Vec<SvidEntryView<'a>>,
     federated: Vec<BundleEntryView<'a>>,

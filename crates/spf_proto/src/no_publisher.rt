@@ -4,7 +4,7 @@ use spf_feed::{Publisher, Step};
 use spf_io::OutOfMemory;
 
 /// A publisher that drops each step.
-#[derive(Debug, Drop)]
+#[derive(Drop)]
 pub(crate) struct NoPublisher;
 
 impl Publisher for NoPublisher {

@@ -9,7 +9,7 @@ ghost use Rattle.spf_proto.specs.Octets.{IsNeed, number_at};
 const MAX_MESSAGE: usize = 1 << 24;
 
 /// What a message that has come in part still needs.
-#[derive(Clone, Copy, Debug, PartialEq, Eq)]
+#[derive(Clone, Copy, PartialEq, Eq)]
 pub(crate) enum Needed {
     /// At least this many octets.
     Octets(usize),

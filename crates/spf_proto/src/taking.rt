@@ -10,7 +10,7 @@ use crate::lent::LentSource;
 use crate::octets::{Needed, need};
 
 /// How far a message has come.
-#[derive(Clone, Copy, Debug, PartialEq, Eq)]
+#[derive(Clone, Copy, PartialEq, Eq)]
 pub(crate) enum Progress {
     More,
     Whole,
@@ -19,7 +19,7 @@ pub(crate) enum Progress {
 }
 
 /// Why no message comes.
-#[derive(Clone, Copy, Debug, PartialEq, Eq)]
+#[derive(Clone, Copy, PartialEq, Eq)]
 pub(crate) enum Stop {
     BadMessage,
     TooManyMessages,

@@ -6,7 +6,7 @@ ghost use Rattle.std.specs.Prelude.{if◌then◌else◌};
 ghost use Rattle.std.specs.Option.{ForSome, option_map};
 ghost use Rattle.spf_api.specs.Views.{context_of};
 ghost use Rattle.spf_proto.specs.Payloads.{IsContext, context_payload};
-ghost use Rattle.spf_feed.specs.Items.{IsReceived, context_in, item_at, rules_with};
+ghost use Rattle.spf_feed.specs.Items.{context_in, item_at, rules_with};
 ghost use Rattle.spf_feed.specs.Items as items_spec;
 ghost use Rattle.spf_feed.specs.Pick.{usable};
 ghost use Rattle.spf_feed.specs.Steps.{chosen_of};
@@ -16,8 +16,10 @@ ghost use Rattle.spf_proto.specs.Translating.{IsKnown, IsTranslated, payload_sta
 
 use crate::message::read_message;
 use crate::payload::put_context;
-use spf_api::{ContextView, WorkloadApiError, context_from_view_sharing};
-use spf_feed::{Ready, ResourceLimits, SvidPicker, frame_kind, select_svid, validate_limits};
+use spf_api::{ContextView, context_from_view_sharing};
+use spf_feed::{
+    Ready, ResourceLimits, SvidPicker, frame_kind, select_svid, valid_context, validate_limits,
+};
 use spf_io::OutOfMemory;
 use spf_x509::X509Context;
 use std::alloc::Global;
@@ -40,7 +42,7 @@ const CLIENT: [u8; 10] = [
 ];
 
 /// What decides whether an item is accepted.
-#[derive(Clone, Copy, Debug)]
+#[derive(Clone, Copy)]
 pub(crate) struct Acceptance {
     pub(crate) limits: ResourceLimits,
     pub(crate) ready: Ready,
@@ -49,7 +51,7 @@ pub(crate) struct Acceptance {
 }
 
 /// Where a session stands.
-#[derive(Clone, Copy, Debug, PartialEq, Eq)]
+#[derive(Clone, Copy, PartialEq, Eq)]
 pub(crate) struct Position {
     /// The next item follows without another client.
     pub(crate) is_open: bool,
@@ -59,7 +61,7 @@ pub(crate) struct Position {
 
 /// The last context that was read, and where the payload begins that it was read from, while the
 /// frames hold that.
-#[derive(Debug, Drop)]
+#[derive(Drop)]
 pub(crate) struct LastRead {
     pub(crate) context: Option<X509Context>,
     pub(crate) payload_at: Option<usize>,
@@ -139,19 +141,7 @@ fn read_context(
 ) -> Result<Option<X509Context>, OutOfMemory>
     ensures { IfOk result (λ c. c ≡ context_in (context_of view.now)) }
 {
-    received(context_from_view_sharing(alloc, view, held))
-}
-
-fn received(
-    parsed: Result<X509Context, WorkloadApiError>,
-) -> Result<Option<X509Context>, OutOfMemory>
-    ensures { IsReceived parsed result }
-{
-    match parsed {
-        Ok(context) => Ok(Some(context)),
-        Err(WorkloadApiError::OutOfMemory) => Err(OutOfMemory),
-        Err(_) => Ok(None),
-    }
+    valid_context(context_from_view_sharing(alloc, view, held))
 }
 
 /// Where a session stands after an update.

@@ -24,6 +24,16 @@ pub(crate) fn bench<K: Sink>(
     ensures text { Puts (IsSummary arguments) (K.held out.old) (K.held out.new) result }
     ensures cause { HasCauses 0 0 (K.failures out.old) (K.failures out.new) result }
 {
+    let line = summary_of(alloc, arguments)?;
+    let written = put(out, line.as_bytes());
+    drop(line);
+    written
+}
+
+/// The summary of a generated session.
+fn summary_of(alloc: Global, arguments: MakeArguments) -> Result<String, OutOfMemory>
+    ensures { IfOk result (λ s. IsSummary arguments (string_bytes s)) }
+{
     let mut source = GeneratedSource::new(alloc, arguments)?;
     let mut tally = Tally::new(alloc);
     let followed = follow_x509(
@@ -38,11 +48,16 @@ pub(crate) fn bench<K: Sink>(
         None::<&NoPicker>,
         Ready::Usable,
     );
-    let Ok(events) = followed else {
-        return Err(ExitReason::OutOfMemory);
-    };
-    let line = line_of(alloc, events, tally.revision(), tally.withdrawn())?;
-    put(out, line.as_bytes())
+    let (revision, withdrawn) = (tally.revision(), tally.withdrawn());
+    drop(tally);
+    drop(source);
+    match followed {
+        Ok(events) => line_of(alloc, events, revision, withdrawn),
+        Err(error) => {
+            drop(error);
+            Err(OutOfMemory)
+        }
+    }
 }
 
 #[tactic(auto, unfolding(crate::specs::Summary::summary_line))]

@@ -48,7 +48,7 @@ const BAD_KEY: &[u8] = b"\x00";
 const PAIR_ROOM: usize = 512;
 
 /// How an item differs from the plain one.
-#[derive(Clone, Copy, PartialEq, Eq, Debug)]
+#[derive(Clone, Copy)]
 pub(crate) enum Variant {
     Plain,
     Reordered,
@@ -345,19 +345,20 @@ fn push_ended(frame: &[u8], frames: &mut Vec<u8>) -> Result<(), OutOfMemory>
     Ok(())
 }
 
-/// Appends the frame of a bad item, and the frames of a new client.
-fn push_bad_item(
+/// Appends the frame of an item, and the frames of a new client.
+fn push_item_and_client(
     alloc: Global,
     parts: &Parts,
+    variant: Variant,
     generation: u16,
     frames: &mut Vec<u8>,
 ) -> Result<(), OutOfMemory>
     ensures { AreParts parts.now
         → OnOk result
         (frames.new.items
-        ≡ frames.old.items ++ (item_frame variants.BadKey generation ++ client_frames)) }
+        ≡ frames.old.items ++ (item_frame variant generation ++ client_frames)) }
 {
-    push_item(alloc, parts, Variant::BadKey, generation, frames)?;
+    push_item(alloc, parts, variant, generation, frames)?;
     frames.extend_from_slice(CLIENT_MADE_AND_CONNECTED)?;
     Ok(())
 }
@@ -396,7 +397,7 @@ fn push_operation(
         4 => push_item(alloc, parts, Variant::Reordered, generation, frames),
         5 => push_denial(frames),
         6 => push_stream_end(frames),
-        _ => push_bad_item(alloc, parts, generation, frames),
+        _ => push_item_and_client(alloc, parts, Variant::BadKey, generation, frames),
     }
 }
 
@@ -432,19 +433,23 @@ impl GeneratedSession {
     ) -> Result<GeneratedSession, OutOfMemory>
         ensures { IfOk result (λ s. made_session arguments ≡ frames.new.items ++ s) }
     {
-        let parts = make_parts(alloc)?;
         frames.clear();
         frames.extend_from_slice(MOMENT)?;
         frames.extend_from_slice(CLIENT_MADE_AND_CONNECTED)?;
-        push_item(alloc, &parts, Variant::Plain, 0, frames)?;
-        frames.extend_from_slice(CLIENT_MADE_AND_CONNECTED)?;
-        Ok(GeneratedSession {
-            alloc,
-            parts,
-            left: Some(arguments.operations),
-            seed: u32::from(arguments.seed),
-            generation: 0,
-        })
+        let parts = make_parts(alloc)?;
+        match push_item_and_client(alloc, &parts, Variant::Plain, 0, frames) {
+            Ok(()) => Ok(GeneratedSession {
+                alloc,
+                parts,
+                left: Some(arguments.operations),
+                seed: u32::from(arguments.seed),
+                generation: 0,
+            }),
+            Err(e) => {
+                drop(parts);
+                Err(e)
+            }
+        }
     }
 
     /// Replaces `frames` by those of the next operation, or by

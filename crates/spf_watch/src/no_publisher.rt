@@ -5,7 +5,7 @@ use spf_io::OutOfMemory;
 use spf_jwt_feed::{JwtPublisher, JwtStep};
 
 /// A publisher that drops each step.
-#[derive(Debug, Drop)]
+#[derive(Drop)]
 pub(crate) struct NoPublisher;
 
 impl Publisher for NoPublisher {

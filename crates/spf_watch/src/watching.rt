@@ -192,7 +192,11 @@ fn end_of(followed: Result<u64, FollowError>) -> Result<(), ExitReason>
 {
     match followed {
         Ok(_) => Ok(()),
-        Err(error) => Err(reason_of(&error)),
+        Err(error) => {
+            let reason = reason_of(&error);
+            drop(error);
+            Err(reason)
+        }
     }
 }
 

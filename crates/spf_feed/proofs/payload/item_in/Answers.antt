@@ -9,5 +9,5 @@ returns c =
     item_is _ (context_of c.in-Some.view) _
     (sym c.in_ok-view.ensures.exact ∙ ap (option_map context_of) c.in-Some.is)
     (received_is (context_of c.in-Some.view) c.context_from_view_sharing-context.result _
-    c.received.result c.in_ok-received.was c.context_from_view_sharing-context.ensures
-    c.received.ensures)
+    c.valid_context.result c.in_ok-valid_context.was c.context_from_view_sharing-context.ensures
+    c.valid_context.ensures)

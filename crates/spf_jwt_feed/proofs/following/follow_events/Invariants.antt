@@ -2,7 +2,7 @@ use Rattle.std.proofs.Common.{◌≤◌, ◌-◌}
 use Rattle.std.specs.Prelude.{IsTrue, is_some}
 use Rattle.spf_jwt_feed.specs.Steps.{HasStep}
 use Rattle.spf_jwt_feed.proofs.Loop.{LoopAt}
-use Rattle.spf_jwt_feed.proofs.following.follow_jwt.Given as goal
+use Rattle.spf_jwt_feed.proofs.following.follow_events.Given as goal
 
 abbrev pub invariant-events : goal.invariant-events
 invariant-events g l = record {

@@ -4,7 +4,7 @@ use Rattle.std.specs.Option.{option_map}
 use Rattle.spf_feed.specs.Items.{rules_with}
 use Rattle.spf_feed.specs.Steps.{HasStep}
 use Rattle.spf_feed.proofs.Loop.{LoopAt}
-use Rattle.spf_feed.proofs.following.follow_x509_sharing.Given as goal
+use Rattle.spf_feed.proofs.following.follow_events.Given as goal
 
 abbrev pub invariant-events : goal.invariant-events
 invariant-events g l = record {
@@ -13,7 +13,7 @@ invariant-events g l = record {
   reads : g.S.Source.failures l.initial.source ≤ g.S.Source.failures l.source;
   writes : g.K.Sink.failures l.initial.sink ≤ g.K.Sink.failures l.sink;
   session : LoopAt
-      (rules_with l.fn.limits l.fn.deadline l.fn.ready
+      (rules_with l.fn.rules.limits l.fn.rules.deadline l.fn.rules.ready
       (option_map (λ p. g.C.SvidPicker.picks p.now) l.fn.picker)) l.max_frames
       (record {
         left = g.S.Source.left l.initial.source;
