@@ -10,13 +10,14 @@ use crate::live_error::{LiveGateError, end_of, error_of};
 use rand_core::Rng;
 use spf_feed::{NoPicker, NoRecorder, SvidPicker};
 use spf_gate::gate_serve;
-use spf_io::{Sink, Source};
+use spf_io::{Failed, Sink, Source};
 use spf_job::Spawner;
 use spf_link::Connector;
 use spf_system::{Clock, Pause};
 use spf_x509_board::Places;
 use spiffe::{X509Job, X509SourceBuilder};
 use std::alloc::Global;
+use std::mem::drop;
 use std::sync::Wait;
 
 /// The maximum number of lines of an input.
@@ -67,6 +68,9 @@ where
         (side (E.held errors.new) (E.failures errors.new)) result }
 {
     if !arguments.is_empty() {
+        drop(connector);
+        drop(pause);
+        drop(random);
         return report(errors, Err(LiveGateError::BadArguments));
     }
     let builder = X509SourceBuilder::new(connector);
@@ -74,11 +78,20 @@ where
         Ok((source, mut pass, job, pending)) => match spawner.start(job) {
             Ok(handle) => {
                 let served = gate_serve(alloc, &source, &mut pass, input, out, MAX_LINES);
+                drop(source);
                 let done = pending.started(handle).close_and_join();
                 let record = done.into_record(&mut pass);
-                report(errors, end_of(served, record.is_ok()))
+                drop(pass);
+                let is_recorded = record.is_ok();
+                drop(record);
+                report(errors, end_of(served, is_recorded))
             }
-            Err(_) => report(errors, Err(LiveGateError::NoSupervisor)),
+            Err(Failed) => {
+                drop(source);
+                drop(pass);
+                drop(pending);
+                report(errors, Err(LiveGateError::NoSupervisor))
+            }
         },
         Err(error) => report(errors, Err(error_of(error))),
     }

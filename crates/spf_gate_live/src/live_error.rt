@@ -6,6 +6,7 @@ ghost use Rattle.spf_gate_live.specs.Ends as spec;
 use spf_feed::X509SourceError;
 use spf_gate::GateError;
 use spf_program::ArgumentsError;
+use std::mem::drop;
 use thiserror::Error;
 
 /// Why a live run of the gate does not end well.
@@ -43,9 +44,10 @@ impl From<ArgumentsError> for LiveGateError {
     }
 }
 
-/// The error of a build. One without a timeout, over a source that nobody closed, has no others.
-pub(crate) fn error_of(error: X509SourceError) -> LiveGateError
-    ensures { result ≡ spec.error_of error }
+/// What an error of a build says. One without a timeout, over a source that nobody closed, has no
+/// others.
+fn kind_of(error: &X509SourceError) -> LiveGateError
+    ensures { result ≡ spec.error_of error.now }
 {
     match error {
         X509SourceError::Source(_) => LiveGateError::Rejected,
@@ -54,6 +56,15 @@ pub(crate) fn error_of(error: X509SourceError) -> LiveGateError
         X509SourceError::NoPlace => LiveGateError::NoPlace,
         _ => LiveGateError::Gate(GateError::OutOfMemory),
     }
+}
+
+/// The error of a build, which is dropped.
+pub(crate) fn error_of(error: X509SourceError) -> LiveGateError
+    ensures { result ≡ spec.error_of error }
+{
+    let kind = kind_of(&error);
+    drop(error);
+    kind
 }
 
 /// How a run ends, by how answering ended, and whether there is a record of the supervisor.

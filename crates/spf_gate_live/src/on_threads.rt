@@ -11,12 +11,13 @@ use crate::live::MAX_LINES;
 use crate::live_error::{LiveGateError, end_of, error_of};
 use spf_feed::{HintPicker, SvidPicker};
 use spf_gate::gate_serve;
-use spf_io::{Sink, Source};
+use spf_io::{Failed, Sink, Source};
 use spf_job::StepWords;
 use spf_live::{HostConnector, HostPause, start_on_thread};
 use spf_system::{Clock, StdClock};
 use spf_x509_board::BoardPlaces;
 use spiffe::X509SourceBuilder;
+use std::mem::drop;
 use std::sync::Wait;
 use std::thread::Threads;
 
@@ -84,11 +85,20 @@ where
         Ok((source, mut pass, job, pending)) => match start_on_thread(rt, job) {
             Ok(handle) => {
                 let served = gate_serve(alloc, &source, &mut pass, input, out, MAX_LINES);
+                drop(source);
                 let done = pending.started(handle).close_and_join();
                 let record = done.into_record(&mut pass);
-                end_of(served, record.is_ok())
+                drop(pass);
+                let is_recorded = record.is_ok();
+                drop(record);
+                end_of(served, is_recorded)
             }
-            Err(_) => Err(LiveGateError::NoSupervisor),
+            Err(Failed) => {
+                drop(source);
+                drop(pass);
+                drop(pending);
+                Err(LiveGateError::NoSupervisor)
+            }
         },
         Err(error) => Err(error_of(error)),
     }

@@ -5,49 +5,50 @@
 mod help;
 
 use help::HELP;
-use spf_api::WorkloadApiError;
-use spf_endpoint::from_env;
 use spf_gate::GateError;
 use spf_gate_live::{LiveGateError, gate_on_threads, report};
-use spf_io::{StdSink, StdSource};
-use spf_live::{NO_ENDPOINT, explain_endpoint};
+use spf_io::{OutOfMemory, Sink, StdSink, StdSource};
+use spf_live::{NO_ENDPOINT, has_endpoint};
 use spf_program::{program_arguments, put_help};
-use spf_system::StdEnvironment;
+use std::mem::drop;
 use std::process::ExitCode;
+use std::sync::Wait;
+use std::thread::Threads;
 
 /// The status where standard output fails.
 const WRITE_FAILED: u8 = 2;
 
 fn main(rt: HostRuntime) -> ExitCode {
     let mut errors = StdSink::new(rt.stderr());
-    let arguments = match program_arguments(&rt) {
-        Ok(arguments) => arguments,
-        Err(error) => return ExitCode::from(report(&mut errors, Err(error.into()))),
-    };
-    let mut out = StdSink::new(rt.stdout());
-    if let [argument] = arguments.as_slice() {
+    match program_arguments(&rt) {
+        Ok(arguments) => {
+            let status = run(rt, rt, arguments.as_slice(), &mut errors);
+            drop(arguments);
+            ExitCode::from(status)
+        }
+        Err(error) => ExitCode::from(report(&mut errors, Err(error.into()))),
+    }
+}
+
+/// Answers the asks of the standard input, and returns the exit status. `--help`, alone, is
+/// answered here.
+fn run<R, E>(host: HostRuntime, rt: R, arguments: &[String], errors: &mut E) -> u8
+where
+    R: Threads + Wait + Copy + Drop + Send + 'static,
+    E: Sink,
+{
+    let mut out = StdSink::new(host.stdout());
+    if let [argument] = arguments {
         if argument.as_str() == "--help" {
-            return ExitCode::from(put_help(&mut out, HELP, WRITE_FAILED));
+            return put_help(&mut out, HELP, WRITE_FAILED);
         }
     }
-    match from_env(rt.alloc(), &StdEnvironment::new(rt)) {
-        Ok(_) => {}
-        Err(WorkloadApiError::OutOfMemory) => {
-            let end = Err(LiveGateError::Gate(GateError::OutOfMemory));
-            return ExitCode::from(report(&mut errors, end));
+    match has_endpoint(host, errors, "spf_gate") {
+        Ok(true) => {
+            let mut input = StdSource::new(host.stdin());
+            gate_on_threads(host, rt, arguments, &mut input, &mut out, errors)
         }
-        Err(error) => {
-            explain_endpoint(rt.alloc(), &mut errors, "spf_gate", &error);
-            return ExitCode::from(NO_ENDPOINT);
-        }
+        Ok(false) => NO_ENDPOINT,
+        Err(OutOfMemory) => report(errors, Err(LiveGateError::Gate(GateError::OutOfMemory))),
     }
-    let mut input = StdSource::new(rt.stdin());
-    ExitCode::from(gate_on_threads(
-        rt,
-        rt,
-        arguments.as_slice(),
-        &mut input,
-        &mut out,
-        &mut errors,
-    ))
 }

@@ -1,5 +1,6 @@
 -- Why runs fail, from the causes of their parts.
-use Rattle.std.proofs.Common.{◌≡◌, ◌≤◌, ℕ, List, Option, Result, Ok, Err, subst, sym}
+use Rattle.std.proofs.Common.{◌≡◌, ◌≤◌, ℕ, Bool, true, false, List, Option}
+use Rattle.std.proofs.Common.{Result, Ok, Err, subst, sym}
 use Rattle.std.specs.Prelude.{IfErr}
 use Rattle.spf_api.specs.declared.endpoint_error.EndpointError.{EndpointError}
 use Rattle.spf_io.specs.Outside.{Rose}
@@ -10,7 +11,7 @@ use Rattle.spiffe.specs.declared.builder.Settings.{Settings}
 use Rattle.spiffe.specs.Building.{PrepareFails}
 use Rattle.spiffe.specs.Reads.{HasPlaceCause}
 use Rattle.spf_options.specs.Live.{LiveSetting}
-use Rattle.spf_live.specs.Ends.{error_of}
+use Rattle.spf_live.specs.Ends.{end_of, error_of}
 use Rattle.spf_live.specs.Runs.{FailsBy, FollowFails, IsSetTo}
 use Rattle.spf_live.specs.declared.error.LiveError.{LiveError}
 use Rattle.spf_live.specs.declared.error.LiveError.TheVariants as errors
@@ -95,11 +96,25 @@ fails_outside place output (Err e) why =
     fails_more ⊥ place output output e (λ none. absurd none) (λ rose. rose) why
 
 -- whatever the cause of a place
-pub fails_somehow : (place output : Type 0) (r : Result (Unit {0}) LiveError) (e : LiveError)
-    → r ≡ Err e → IfErr r (FollowFails place output) → FollowFails (Unit {0}) output e
-fails_somehow place output r e is why =
-    fails_more place (Unit {0}) output output e (λ _. tt) (λ rose. rose)
-    (subst (λ (x : Result (Unit {0}) LiveError). IfErr x (FollowFails place output)) is why)
+pub fails_somehow : (place output : Type 0) (r : Result (Unit {0}) LiveError)
+    → IfErr r (FollowFails place output) → IfErr r (FollowFails (Unit {0}) output)
+fails_somehow place output (Ok done) why = tt
+fails_somehow place output (Err e) why =
+    fails_more place (Unit {0}) output output e (λ _. tt) (λ rose. rose) why
+
+ends_so : (place output : Type 0) (r : Result (Unit {0}) LiveError) (recorded : Bool)
+    → IfErr r (FollowFails place output) → IfErr (end_of r recorded) (FollowFails place output)
+ends_so place output (Ok done) true why = tt
+ends_so place output (Ok done) false why = tt
+ends_so place output (Err e) recorded why = why
+
+-- printing failed, or there is no record
+pub ends_fail : (place output : Type 0) (r : Result (Unit {0}) LiveError) (recorded : Bool)
+    (end : Result (Unit {0}) LiveError) → end ≡ end_of r recorded
+    → IfErr r (FollowFails place output) → IfErr end (FollowFails place output)
+ends_fail place output r recorded end is why =
+    subst (λ (x : Result (Unit {0}) LiveError). IfErr x (FollowFails place output)) (sym is)
+    (ends_so place output r recorded why)
 
 pub runs_fail : {K : Type 0} (picks : K → List Svid → Option ℕ) (setting : LiveSetting)
     (valid : Result (Unit {0}) EndpointError) (supervisor place place' output : Type 0)
@@ -131,12 +146,3 @@ prepare_fails_so picks setting set valid own before now supervisor place output 
     subst (λ (x : Result (Unit {0}) EndpointError × LiveError).
     FailsBy picks setting x.0 supervisor place output x.1) (λ i. (valid_is i, sym found_is i))
     (prepare_fails picks setting set own before now supervisor place output e is f why)
-
--- printing and joining failed
-pub runs_fail_by : {K : Type 0} (picks : K → List Svid → Option ℕ) (setting : LiveSetting)
-    (valid : Result (Unit {0}) EndpointError) (supervisor place place' output : Type 0)
-    (r : Result (Unit {0}) LiveError) (e : LiveError) → r ≡ Err e → (place → place')
-    → IfErr r (FollowFails place output) → FailsBy picks setting valid supervisor place' output e
-runs_fail_by picks setting valid supervisor place place' output r e is f why =
-    run_fails picks setting valid supervisor place place' output e f
-    (subst (λ (x : Result (Unit {0}) LiveError). IfErr x (FollowFails place output)) is why)

@@ -1,7 +1,7 @@
 -- A source is followed, closed and joined.
-use Rattle.std.proofs.Common.{◌≡◌, refl, subst, ℕ, true, List, Option, None, Some, Result, Ok, map}
-use Rattle.std.proofs.Common.{Err}
-use Rattle.std.specs.Prelude.{IfSome, IfOk}
+use Rattle.std.proofs.Common.{◌≡◌, ◌∙◌, ap, refl, subst, sym, ℕ, Bool, true, List, Option, None}
+use Rattle.std.proofs.Common.{Some, Result, Ok, Err, map}
+use Rattle.std.specs.Prelude.{IfSome, IfOk, is_ok}
 use mathlib.Core.List.{IsPrefix}
 use Rattle.spf_history.specs.Lists.{is_ended, steps_of}
 use Rattle.spf_io.specs.declared.memory.OutOfMemory.{OutOfMemory}
@@ -14,11 +14,11 @@ use Rattle.spiffe.specs.Records.{Assigned, IsLeftBy, IsOf, IsRecord, Left, Recor
 use Rattle.spf_feeder.specs.Governed.{kind_by}
 use Rattle.spf_supervisor.proofs.Unyielded.{assigned_as}
 use Rattle.spf_options.specs.Live.{LiveSetting}
+use Rattle.spf_live.specs.Ends.{end_of}
 use Rattle.spf_live.specs.Printing.{Moments, PrintsTo}
 use Rattle.spf_x509_board.specs.Passes.{Seen}
 use Rattle.spf_live.specs.Runs.{Follows, IsSetTo, Runs}
 use Rattle.spf_live.specs.declared.error.LiveError.{LiveError}
-use Rattle.spf_live.specs.declared.error.LiveError.TheVariants as errors
 use Rattle.spf_live.proofs.Followed.{prints_unrecorded, prints_until}
 use Rattle.spf_live.proofs.Printed.{prefix_self}
 use Rattle.spf_live.proofs.Recorded.{runs_by}
@@ -36,55 +36,83 @@ unyielded_of members picks job r of = record {
   cell = of.cell;
 }
 
--- all lines are printed, and there is a record
-pub followed_by : {S K : Type 0} (members : S → Option (List Member))
+pub unyielded : {S K : Type 0} (members : S → Option (List Member))
     (picks : K → List Svid → Option ℕ) (job : Assigned S K) (count : ℕ)
     (clock clock' : Moments) (held held' : Option (List ℕ)) (r : Result (Unit {0}) LiveError)
-    (done : Unit {0}) (seen last : Seen) (record' : Result (Recorded K) OutOfMemory)
-    (found : Recorded K) (left : Left K) → r ≡ Ok done → record' ≡ Ok found
+    → Follows members picks job count clock clock' held held' r
+    → Follows (λ connector. None) picks job count clock clock' held held' r
+unyielded members picks job count clock clock' held held' (Ok done) so =
+    let r = so.recorded in record {
+      first = so.first;
+      last = so.last;
+      prints = so.prints;
+      recorded = (r.0, r.1, unyielded_of members picks job r.0 r.2, r.3);
+    }
+unyielded members picks job count clock clock' held held' (Err e) so = record {
+  first = so.first;
+  last = so.last;
+  prints = so.prints;
+  recorded = tt;
+}
+
+-- how printing and joining end: where printing failed, whatever was recorded, and where all lines
+-- are printed, with a record or out of memory
+followed_so : {S K : Type 0} (members : S → Option (List Member))
+    (picks : K → List Svid → Option ℕ) (job : Assigned S K) (count : ℕ)
+    (clock clock' : Moments) (held held' : Option (List ℕ)) (r : Result (Unit {0}) LiveError)
+    (seen last : Seen) (joined : Result (Recorded K) OutOfMemory) (left : Left K)
     → PrintsTo seen count clock clock' held held' r → IsPrefix seen last
-    → IsLeftBy members picks job left → IfOk record' (λ x. left.recorded ≡ Some x)
-    → IfOk record' (IsRecord picks)
-    → IfOk record' (λ x. (map plain x.steps ≡ steps_of last) × (is_ended last ≡ true))
-    → Follows members picks job count clock clock' held held' (Ok tt)
-followed_by {S} {K} members picks job count clock clock' held held' r done seen last record' found
-    left is is' prints grows from recorded kept settled =
-    let so = subst (λ (x : Result (Unit {0}) LiveError).
-    PrintsTo seen count clock clock' held held' x) is prints in
-    let has = subst (λ (x : Result (Recorded K) OutOfMemory).
-    IfOk x (λ y. left.recorded ≡ Some y)) is' recorded in
-    let keeps = subst (λ (x : Result (Recorded K) OutOfMemory). IfOk x (IsRecord picks)) is' kept in
-    let ends = subst (λ (x : Result (Recorded K) OutOfMemory).
-    IfOk x (λ y. (map plain y.steps ≡ steps_of last) × (is_ended last ≡ true))) is' settled in
-    let of = subst (λ (x : Option (Recorded K)). IfSome x (IsOf members picks job)) has
-    from.record_is in record {
-      first = so.0;
+    → IsLeftBy members picks job left → IfOk joined (λ x. left.recorded ≡ Some x)
+    → IfOk joined (IsRecord picks)
+    → IfOk joined (λ x. (map plain x.steps ≡ steps_of last) × (is_ended last ≡ true))
+    → Follows members picks job count clock clock' held held' (end_of r (is_ok joined))
+followed_so members picks job count clock clock' held held' (Err e) seen last joined left prints
+    grows from recorded kept settled =
+    record {
+      first = prints.0;
+      last = seen;
+      prints = prints.1;
+      recorded = tt;
+    }
+followed_so members picks job count clock clock' held held' (Ok done) seen last (Err e) left prints
+    grows from recorded kept settled =
+    record {
+      first = prints.0;
+      last = seen;
+      prints = prints_unrecorded prints.0 seen seen count clock clock' held held' prints.1
+          (prefix_self seen);
+      recorded = tt;
+    }
+followed_so {K = K} members picks job count clock clock' held held' (Ok done) seen last (Ok found)
+    left prints grows from recorded kept settled =
+    let of = subst (λ (x : Option (Recorded K)). IfSome x (IsOf members picks job)) recorded
+    from.record_is in
+    record {
+      first = prints.0;
       last = last;
-      prints = prints_until so.0 seen last count clock clock' held held' (Ok tt) so.1 grows;
-      recorded = (found, keeps, of, ends.0);
+      prints = prints_until prints.0 seen last count clock clock' held held' (Ok tt) prints.1 grows;
+      recorded = (found, kept, of, settled.0);
     }
 
--- the same over a connector of which nothing is known
+-- the same by the function that tells the end
 pub followed : {S K : Type 0} (members : S → Option (List Member))
     (picks : K → List Svid → Option ℕ) (job : Assigned S K) (count : ℕ)
     (clock clock' : Moments) (held held' : Option (List ℕ)) (r : Result (Unit {0}) LiveError)
-    (done : Unit {0}) (seen last : Seen) (record' : Result (Recorded K) OutOfMemory)
-    (found : Recorded K) (left : Left K) → r ≡ Ok done → record' ≡ Ok found
+    (seen last : Seen) (joined : Result (Recorded K) OutOfMemory) (recorded : Bool)
+    (end : Result (Unit {0}) LiveError) (left : Left K)
     → PrintsTo seen count clock clock' held held' r → IsPrefix seen last
-    → IsLeftBy members picks job left → IfOk record' (λ x. left.recorded ≡ Some x)
-    → IfOk record' (IsRecord picks)
-    → IfOk record' (λ x. (map plain x.steps ≡ steps_of last) × (is_ended last ≡ true))
-    → Follows (λ connector. None) picks job count clock clock' held held' (Ok tt)
-followed {S} {K} members picks job count clock clock' held held' r done seen last record' found
-    left is is' prints grows from recorded kept settled =
-    let f = followed_by members picks job count clock clock' held held' r done seen last record'
-    found left is is' prints grows from recorded kept settled in
-    let r = f.recorded in record {
-      first = f.first;
-      last = f.last;
-      prints = f.prints;
-      recorded = (r.0, r.1, unyielded_of members picks job r.0 r.2, r.3);
-    }
+    → IsLeftBy members picks job left → IfOk joined (λ x. left.recorded ≡ Some x)
+    → IfOk joined (IsRecord picks)
+    → IfOk joined (λ x. (map plain x.steps ≡ steps_of last) × (is_ended last ≡ true))
+    → recorded ≡ is_ok joined → end ≡ end_of r recorded
+    → Follows members picks job count clock clock' held held' end
+followed members picks job count clock clock' held held' r seen last joined recorded end left prints
+    grows from found kept settled recorded_is end_is =
+    subst (λ (x : Result (Unit {0}) LiveError).
+    Follows members picks job count clock clock' held held' x)
+    (sym (end_is ∙ ap (end_of r) recorded_is))
+    (followed_so members picks job count clock clock' held held' r seen last joined left prints
+    grows from found kept settled)
 
 -- a source that was built by these arguments was followed by the handle of its job
 pub runs_unyielded : {S K : Type 0} (members : S → Option (List Member))
@@ -104,38 +132,8 @@ runs_unyielded {S} {K} members picks setting set connector clock between clock' 
     (subst (λ (n : ℕ). Follows (λ connector. None) picks job n between clock' held held' r) lines
     of_job)
 
--- printing failed, whatever was recorded
-pub failed_follows : {S K : Type 0} (members : S → Option (List Member))
-    (picks : K → List Svid → Option ℕ) (job : Assigned S K) (count : ℕ)
-    (clock clock' : Moments) (held held' : Option (List ℕ)) (r : Result (Unit {0}) LiveError)
-    (e : LiveError) (seen : Seen) → r ≡ Err e → PrintsTo seen count clock clock' held held' r
-    → Follows members picks job count clock clock' held held' (Err e)
-failed_follows members picks job count clock clock' held held' r e seen is prints =
-    let so = subst (λ (x : Result (Unit {0}) LiveError).
-    PrintsTo seen count clock clock' held held' x) is prints in record {
-      first = so.0;
-      last = seen;
-      prints = so.1;
-      recorded = tt;
-    }
-
--- all lines are printed, and then memory runs out
-pub unrecorded_follows : {S K : Type 0} (members : S → Option (List Member))
-    (picks : K → List Svid → Option ℕ) (job : Assigned S K) (count : ℕ)
-    (clock clock' : Moments) (held held' : Option (List ℕ)) (r : Result (Unit {0}) LiveError)
-    (done : Unit {0}) (seen : Seen) → r ≡ Ok done → PrintsTo seen count clock clock' held held' r
-    → Follows members picks job count clock clock' held held' (Err errors.OutOfMemory)
-unrecorded_follows members picks job count clock clock' held held' r done seen is prints =
-    let so = subst (λ (x : Result (Unit {0}) LiveError).
-    PrintsTo seen count clock clock' held held' x) is prints in record {
-      first = so.0;
-      last = seen;
-      prints = prints_unrecorded so.0 seen seen count clock clock' held held' so.1
-          (prefix_self seen);
-      recorded = tt;
-    }
-
--- the same over a connector of which the builder's own is one
+-- a source that was built by these arguments was followed by the handle of its job, over a
+-- connector of which the builder's own is one
 pub runs_yielded : {S K : Type 0} (members : S → Option (List Member))
     (picks : K → List Svid → Option ℕ) (setting : LiveSetting) (set : Settings K)
     (connector own : S) (clock between clock' : Moments) (held held' : Option (List ℕ))

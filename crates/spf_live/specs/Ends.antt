@@ -1,5 +1,6 @@
 -- How a live run ends: its status, and its line on standard error.
-use Rattle.std.specs.Prelude.{ℕ, List, codes, None, Result, Ok, Err}
+use Rattle.std.specs.Prelude.{ℕ, Bool, true, false, List, codes, None}
+use Rattle.std.specs.Prelude.{Result, Ok, Err}
 use Rattle.spf_feed.specs.declared.state.X509SourceError.{X509SourceError}
 use Rattle.spf_feed.specs.declared.state.X509SourceError.TheVariants as source
 use Rattle.spf_program.specs.Reports.{failure_line}
@@ -20,6 +21,12 @@ error_of source.InitialSyncTimeout = errors.TimedOut
 error_of source.NoSupervisor = errors.NoSupervisor
 error_of source.NoPlace = errors.NoPlace
 error_of _ = errors.OutOfMemory
+
+-- the end of a run, by that of printing, and by whether there is a record of the supervisor
+abbrev pub end_of : Result (Unit {0}) LiveError → Bool → Result (Unit {0}) LiveError
+end_of (Ok done) true = Ok tt
+end_of (Ok done) false = Err errors.OutOfMemory
+end_of (Err e) recorded = Err e
 
 abbrev pub error_status : LiveError → ℕ
 error_status errors.BadArguments = 1

@@ -11,6 +11,7 @@ use spf_link::Connector;
 use spf_options::LiveOptions;
 use spiffe::X509SourceBuilder;
 use std::alloc::Global;
+use std::mem::drop;
 use std::time::Duration;
 
 /// The picker of a hint, where there is one.
@@ -37,7 +38,13 @@ where
     ensures settings { IfOk result (λ b.
         IsSetTo (⟦<HintPicker as SvidPicker>⟧.picks) options.now b.settings) }
 {
-    let picker = picker_of(alloc, options.hint)?;
+    let picker = match picker_of(alloc, options.hint) {
+        Ok(picker) => picker,
+        Err(OutOfMemory) => {
+            drop(connector);
+            return Err(OutOfMemory);
+        }
+    };
     let builder = X509SourceBuilder::new(connector)
         .optional_picker(picker)
         .resource_limits(options.limits)

@@ -7,6 +7,7 @@ ghost use Rattle.spf_live.specs.Ends.{error_message};
 use spf_feed::X509SourceError;
 use spf_io::OutOfMemory;
 use spf_program::ArgumentsError;
+use std::mem::drop;
 use thiserror::Error;
 
 /// Why a live run did not end well.
@@ -58,9 +59,9 @@ impl From<OutOfMemory> for LiveError {
     }
 }
 
-/// The error of a source. A source that nobody closed ends only out of memory.
-pub(crate) fn error_of(e: X509SourceError) -> LiveError
-    ensures { result ≡ spec.error_of e }
+/// What an error of a source says. A source that nobody closed ends only out of memory.
+fn kind_of(e: &X509SourceError) -> LiveError
+    ensures { result ≡ spec.error_of e.now }
 {
     match e {
         X509SourceError::Source(_) => LiveError::Rejected,
@@ -70,6 +71,15 @@ pub(crate) fn error_of(e: X509SourceError) -> LiveError
         X509SourceError::NoPlace => LiveError::NoPlace,
         _ => LiveError::OutOfMemory,
     }
+}
+
+/// The error of a source, which is dropped.
+pub(crate) fn error_of(e: X509SourceError) -> LiveError
+    ensures { result ≡ spec.error_of e }
+{
+    let kind = kind_of(&e);
+    drop(e);
+    kind
 }
 
 /// The exit status.

@@ -12,6 +12,7 @@ use spf_system::Clock;
 use spf_x509_board::{Pass, Places};
 use spiffe::{X509Source, X509SourceUpdates};
 use std::alloc::Global;
+use std::mem::drop;
 use std::sync::Wait;
 use std::time;
 
@@ -39,8 +40,16 @@ pub(crate) fn print_source<R: Wait + time::Clock, T: Clock, L: Places, K: Sink>(
 {
     let mut pass = pass;
     match source.updated(&mut pass, places) {
-        Ok(updates) => print_updates(rt, alloc, updates, clock, out, lines),
-        Err(e) => (pass, Err(error_of(e))),
+        Ok(updates) => {
+            drop(pass);
+            let printed = print_updates(rt, alloc, updates, clock, out, lines);
+            drop(source);
+            printed
+        }
+        Err(e) => {
+            drop(source);
+            (pass, Err(error_of(e)))
+        }
     }
 }
 

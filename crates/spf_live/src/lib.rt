@@ -13,7 +13,7 @@ mod on_threads;
 mod printing;
 
 pub use ending::report;
-pub use endpoint::{NO_ENDPOINT, explain_endpoint};
+pub use endpoint::{NO_ENDPOINT, has_endpoint};
 pub use error::LiveError;
 pub use host::{HostConnector, HostLink, HostPause};
 pub use live::watch_live;

@@ -7,12 +7,12 @@ ghost use Rattle.spf_program.specs.Streams.{side};
 ghost use Rattle.spf_live.specs.Runs.{Does, Ended};
 
 use crate::builder::builder_of;
-use crate::ending::report;
+use crate::ending::{end_of, report};
 use crate::error::{LiveError, error_of};
 use crate::follow::print_source;
 use rand_core::Rng;
 use spf_feed::{HintPicker, NoRecorder, SvidPicker};
-use spf_io::Sink;
+use spf_io::{Failed, OutOfMemory, Sink};
 use spf_job::Spawner;
 use spf_link::Connector;
 use spf_options::live_options;
@@ -20,6 +20,7 @@ use spf_system::{Clock, Pause};
 use spf_x509_board::Places;
 use spiffe::X509Job;
 use std::alloc::Global;
+use std::mem::drop;
 use std::sync::Wait;
 use std::time;
 
@@ -103,28 +104,39 @@ where
         (T.moments clock.new) (K.held out.old) (K.held out.new) result }
 {
     let Some(options) = live_options(arguments) else {
+        drop(connector);
+        drop(pause);
+        drop(random);
         return Err(LiveError::BadArguments);
     };
     let builder = match builder_of(alloc, connector, &options) {
         Ok(builder) => builder,
-        Err(_) => return Err(LiveError::OutOfMemory),
+        Err(OutOfMemory) => {
+            drop(pause);
+            drop(random);
+            return Err(LiveError::OutOfMemory);
+        }
     };
     let lines = options.lines;
     match builder.prepare(rt, alloc, clock, pause, random, places) {
         Ok((source, pass, job, pending)) => match spawner.start(job) {
             Ok(handle) => {
-                let handle = pending.started(handle);
                 let (mut pass, printed) = print_source(
                     &rt, alloc, source, pass, clock, places, out, lines,
                 );
-                let record = handle.close_and_join().into_record(&mut pass);
-                match (printed, record) {
-                    (Err(e), _) => Err(e),
-                    (Ok(()), Ok(_)) => Ok(()),
-                    (Ok(()), Err(_)) => Err(LiveError::OutOfMemory),
-                }
+                let done = pending.started(handle).close_and_join();
+                let record = done.into_record(&mut pass);
+                drop(pass);
+                let is_recorded = record.is_ok();
+                drop(record);
+                end_of(printed, is_recorded)
             }
-            Err(_) => Err(LiveError::NoSupervisor),
+            Err(Failed) => {
+                drop(source);
+                drop(pass);
+                drop(pending);
+                Err(LiveError::NoSupervisor)
+            }
         },
         Err(e) => Err(error_of(e)),
     }

@@ -8,6 +8,7 @@ use spf_feed::{HintPicker, NoRecorder};
 use spf_io::Failed;
 use spf_job::{Job, Joins, StepWords};
 use spiffe::{Task, X509Done, X509Job};
+use std::mem::drop;
 use std::snapshot::Snapshot;
 use std::sync::Wait;
 use std::thread::{self, PromisedHandle, Threads};
@@ -48,6 +49,10 @@ pub fn start_on_thread<R: Threads + Wait + Copy + Drop + Send + 'static>(
             job: kept,
             rt,
         }),
-        Err(_) => Err(Failed),
+        Err(e) => {
+            drop(e);
+            drop(kept);
+            Err(Failed)
+        }
     }
 }

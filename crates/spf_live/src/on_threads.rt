@@ -7,19 +7,20 @@ ghost use Rattle.spf_program.specs.Streams.{side};
 ghost use Rattle.spf_live.specs.Runs.{Does, Ended, FollowFails, Follows};
 
 use crate::builder::builder_of;
-use crate::ending::report;
+use crate::ending::{end_of, report};
 use crate::error::{LiveError, error_of};
 use crate::follow::print_source;
 use crate::host::{HostConnector, HostPause};
 use crate::on_thread::{HostJob, OnThread, start_on_thread};
 use spf_feed::{HintPicker, SvidPicker};
-use spf_io::Sink;
+use spf_io::{Failed, OutOfMemory, Sink};
 use spf_job::StepWords;
 use spf_options::live_options;
 use spf_system::{Clock, StdClock};
 use spf_x509_board::{BoardPlaces, Pass};
 use spiffe::{SupervisorHandle, X509Source};
 use std::alloc::Global;
+use std::mem::drop;
 use std::sync::Wait;
 use std::thread::Threads;
 use std::time;
@@ -88,14 +89,13 @@ where
 
 /// Prints that many lines of what the source holds. However that ends, it closes the source and
 /// waits for its supervisor.
-fn follow_on_thread<R, T, K>(
-    rt: R,
+fn follow<R, T, K>(
+    rt: &R,
     alloc: Global,
     source: X509Source,
     pass: Pass,
     handle: SupervisorHandle<HostJob<R>, OnThread<R>>,
     clock: &mut T,
-    places: &mut BoardPlaces,
     out: &mut K,
     lines: u64,
 ) -> Result<(), LiveError>
@@ -111,13 +111,13 @@ where
     ensures cause { IfErr result (FollowFails (Unit {0})
         (Rose (K.failures out.old) (K.failures out.new))) }
 {
-    let (mut pass, printed) = print_source(&rt, alloc, source, pass, clock, places, out, lines);
+    let places = &mut BoardPlaces::new();
+    let (mut pass, printed) = print_source(rt, alloc, source, pass, clock, places, out, lines);
     let record = handle.close_and_join().into_record(&mut pass);
-    match (printed, record) {
-        (Err(e), _) => Err(e),
-        (Ok(()), Ok(_)) => Ok(()),
-        (Ok(()), Err(_)) => Err(LiveError::OutOfMemory),
-    }
+    drop(pass);
+    let is_recorded = record.is_ok();
+    drop(record);
+    end_of(printed, is_recorded)
 }
 
 fn live_on_threads<R, T, K>(
@@ -139,29 +139,38 @@ where
         (T.moments clock.new) (K.held out.old) (K.held out.new) result }
 {
     let Some(options) = live_options(arguments) else {
+        drop(connector);
+        drop(random);
         return Err(LiveError::BadArguments);
     };
     let alloc = host.alloc();
     let builder = match builder_of(alloc, connector, &options) {
         Ok(builder) => builder,
-        Err(_) => return Err(LiveError::OutOfMemory),
+        Err(OutOfMemory) => {
+            drop(random);
+            return Err(LiveError::OutOfMemory);
+        }
     };
     let pause = HostPause::new(host);
-    let mut places = BoardPlaces::new();
-    match builder.prepare(rt, alloc, clock, pause, random, &mut places) {
+    let places = &mut BoardPlaces::new();
+    match builder.prepare(rt, alloc, clock, pause, random, places) {
         Ok((source, pass, job, pending)) => match start_on_thread(rt, job) {
-            Ok(handle) => follow_on_thread(
-                rt,
+            Ok(handle) => follow(
+                &rt,
                 alloc,
                 source,
                 pass,
                 pending.started(handle),
                 clock,
-                &mut places,
                 out,
                 options.lines,
             ),
-            Err(_) => Err(LiveError::NoSupervisor),
+            Err(Failed) => {
+                drop(source);
+                drop(pass);
+                drop(pending);
+                Err(LiveError::NoSupervisor)
+            }
         },
         Err(e) => Err(error_of(e)),
     }

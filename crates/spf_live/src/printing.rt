@@ -8,10 +8,11 @@ ghost use Rattle.spf_live.specs.Runs.{FollowFails};
 
 use crate::error::LiveError;
 use spf_feed::state_line;
-use spf_io::Sink;
+use spf_io::{Failed, OutOfMemory, Sink};
 use spf_system::Clock;
 use spiffe::X509SourceUpdates;
 use std::alloc::Global;
+use std::mem::drop;
 use std::sync::Wait;
 use std::time;
 
@@ -31,16 +32,26 @@ fn print_state<T: Clock, K: Sink>(
 {
     let state = match updates.state() {
         Ok(state) => state,
-        Err(_) => return Err(LiveError::OutOfMemory),
+        Err(OutOfMemory) => return Err(LiveError::OutOfMemory),
     };
     let now = clock.now();
     let line = match state_line(alloc, &state, now) {
         Ok(line) => line,
-        Err(_) => return Err(LiveError::OutOfMemory),
+        Err(OutOfMemory) => {
+            drop(state);
+            return Err(LiveError::OutOfMemory);
+        }
     };
+    drop(state);
     match out.put(line.as_str().as_bytes()) {
-        Ok(()) => Ok(()),
-        Err(_) => Err(LiveError::WriteFailed),
+        Ok(()) => {
+            drop(line);
+            Ok(())
+        }
+        Err(Failed) => {
+            drop(line);
+            Err(LiveError::WriteFailed)
+        }
     }
 }
 
@@ -61,11 +72,14 @@ fn print_change<R: Wait + time::Clock, T: Clock, K: Sink>(
     ensures cause { IfErr result (FollowFails ⊥ (Rose (K.failures out.old)
         (K.failures out.new))) }
 {
-    // Nobody has closed the source: without a change its supervisor ended out of memory.
-    let Ok(_revision) = updates.changed(rt) else {
-        return Err(LiveError::OutOfMemory);
-    };
-    print_state(alloc, updates, clock, out)
+    match updates.changed(rt) {
+        Ok(_revision) => print_state(alloc, updates, clock, out),
+        Err(e) => {
+            // Nobody has closed the source: without a change its supervisor ended out of memory.
+            drop(e);
+            Err(LiveError::OutOfMemory)
+        }
+    }
 }
 
 /// Prints a line after each change, until there are that many with the one before them.

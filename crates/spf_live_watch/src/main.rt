@@ -5,38 +5,45 @@
 mod help;
 
 use help::HELP;
-use spf_api::WorkloadApiError;
-use spf_endpoint::from_env;
-use spf_io::StdSink;
-use spf_live::{LiveError, NO_ENDPOINT, explain_endpoint, report, watch_on_threads};
+use spf_io::{OutOfMemory, Sink, StdSink};
+use spf_live::{LiveError, NO_ENDPOINT, has_endpoint, report, watch_on_threads};
 use spf_program::{program_arguments, put_help};
-use spf_system::StdEnvironment;
+use std::mem::drop;
 use std::process::ExitCode;
+use std::sync::Wait;
+use std::thread::Threads;
+use std::time::Clock;
 
 /// The status where standard output fails.
 const WRITE_FAILED: u8 = 4;
 
 fn main(rt: HostRuntime) -> ExitCode {
     let mut errors = StdSink::new(rt.stderr());
-    let arguments = match program_arguments(&rt) {
-        Ok(arguments) => arguments,
-        Err(error) => return ExitCode::from(report(&mut errors, Err(error.into()))),
-    };
-    let mut out = StdSink::new(rt.stdout());
-    if let [argument] = arguments.as_slice() {
+    match program_arguments(&rt) {
+        Ok(arguments) => {
+            let status = run(rt, rt, arguments.as_slice(), &mut errors);
+            drop(arguments);
+            ExitCode::from(status)
+        }
+        Err(error) => ExitCode::from(report(&mut errors, Err(error.into()))),
+    }
+}
+
+/// Prints what a live source holds, and returns the exit status. `--help`, alone, is answered here.
+fn run<R, E>(host: HostRuntime, rt: R, arguments: &[String], errors: &mut E) -> u8
+where
+    R: Threads + Wait + Clock + Copy + Drop + Send + 'static,
+    E: Sink,
+{
+    let mut out = StdSink::new(host.stdout());
+    if let [argument] = arguments {
         if argument.as_str() == "--help" {
-            return ExitCode::from(put_help(&mut out, HELP, WRITE_FAILED));
+            return put_help(&mut out, HELP, WRITE_FAILED);
         }
     }
-    match from_env(rt.alloc(), &StdEnvironment::new(rt)) {
-        Ok(_) => {}
-        Err(WorkloadApiError::OutOfMemory) => {
-            return ExitCode::from(report(&mut errors, Err(LiveError::OutOfMemory)));
-        }
-        Err(error) => {
-            explain_endpoint(rt.alloc(), &mut errors, "spiffe_watch", &error);
-            return ExitCode::from(NO_ENDPOINT);
-        }
+    match has_endpoint(host, errors, "spiffe_watch") {
+        Ok(true) => watch_on_threads(host, rt, arguments, &mut out, errors),
+        Ok(false) => NO_ENDPOINT,
+        Err(OutOfMemory) => report(errors, Err(LiveError::OutOfMemory)),
     }
-    ExitCode::from(watch_on_threads(rt, rt, arguments.as_slice(), &mut out, &mut errors))
 }

@@ -15,28 +15,29 @@ returns-in-Ok-start g c =
     let none : length c.args.arguments.now ≡ 0 = search rules in
     let end = c.report-in-Ok-start.ensures in
     record {
-      arguments = not_nine _ _ (nine_of_end _ c.gate_serve-served.result c.is_ok.result
+      arguments = not_nine _ _ (nine_of_end _ c.gate_serve-served.result c.is_ok-is_recorded.result
           c.end_of.result c.end_of.ensures end.status) none;
       ended = record {
         end = c.end_of.result;
         runs = answered _ _ set c.args.connector c.new-builder.result.connector _ _ c.in-Ok.job
             c.started.result.job _ _ _ _ c.in-Ok.pass.seen c.gate_serve-served.new.pass.seen
             c.into_record-record.new.pass.seen c.gate_serve-served.result
-            c.close_and_join-done.result c.into_record-record.result c.is_ok.result c.end_of.result
+            c.close_and_join-done.result c.into_record-record.result
+            c.is_ok-is_recorded.result c.end_of.result
             c.new-builder.ensures.connector default c.in-Ok.ensures.assigned
             (c.started.ensures.0 ∙ c.in-Ok-start.ensures.1) c.gate_serve-served.ensures.serves
             c.into_record-record.ensures.seen c.close_and_join-done.ensures
             c.into_record-record.ensures.record c.into_record-record.ensures.kept
-            c.into_record-record.ensures.settled c.is_ok.ensures.value c.end_of.ensures;
-        cause = served_fails _ _ _ _ _ _ _ _ c.gate_serve-served.result c.is_ok.result
+            c.into_record-record.ensures.settled c.is_ok-is_recorded.ensures.value c.end_of.ensures;
+        cause = served_fails _ _ _ _ _ _ _ _ c.gate_serve-served.result c.is_ok-is_recorded.result
             c.end_of.result c.end_of.ensures c.gate_serve-served.ensures.cause;
         status_is = end.status;
         reported = end.line;
       };
     }
 
-pub returns-in-Ok : goal.returns-in-Ok
-returns-in-Ok g c =
+pub returns-in-Err-start : goal.returns-in-Err-start
+returns-in-Err-start g c =
     let none : length c.args.arguments.now ≡ 0 = search rules in
     let end = c.report-in-Err-start.ensures in
     record {
@@ -50,8 +51,8 @@ returns-in-Ok g c =
       };
     }
 
-pub returns : goal.returns
-returns g c =
+pub returns-in-Err : goal.returns-in-Err
+returns-in-Err g c =
     let set = c.new-builder.result.settings in
     let default = c.new-builder.ensures.settings in
     let none : length c.args.arguments.now ≡ 0 = search rules in

@@ -20,28 +20,29 @@ returns-in-Ok-start_on_thread g c =
           c.optional_picker-builder.result.connector _ _ c.in-Ok.job
           c.started.result.job _ _ _ _ c.in-Ok.pass.seen c.gate_serve-served.new.pass.seen
           c.into_record-record.new.pass.seen c.gate_serve-served.result
-          c.close_and_join-done.result c.into_record-record.result c.is_ok.result c.end_of.result
+          c.close_and_join-done.result c.into_record-record.result
+          c.is_ok-is_recorded.result c.end_of.result
           refl default c.in-Ok.ensures.assigned
           (c.started.ensures.0 ∙ c.in-Ok-start_on_thread.ensures)
           c.gate_serve-served.ensures.serves
           c.into_record-record.ensures.seen c.close_and_join-done.ensures
           c.into_record-record.ensures.record c.into_record-record.ensures.kept
-          c.into_record-record.ensures.settled c.is_ok.ensures.value c.end_of.ensures);
-      cause = served_fails _ _ _ _ _ _ _ _ c.gate_serve-served.result c.is_ok.result
+          c.into_record-record.ensures.settled c.is_ok-is_recorded.ensures.value c.end_of.ensures);
+      cause = served_fails _ _ _ _ _ _ _ _ c.gate_serve-served.result c.is_ok-is_recorded.result
           c.end_of.result c.end_of.ensures c.gate_serve-served.ensures.cause;
       arguments = no_refusal c.end_of.result (nine_of_end _ c.gate_serve-served.result
-          c.is_ok.result c.end_of.result c.end_of.ensures refl);
+          c.is_ok-is_recorded.result c.end_of.result c.end_of.ensures refl);
     }
 
-pub returns-in-Ok : goal.returns-in-Ok
-returns-in-Ok g c = record {
+pub returns-in-Err-start_on_thread : goal.returns-in-Err-start_on_thread
+returns-in-Err-start_on_thread g c = record {
   runs = (refl, refl);
   cause = tt;
   arguments = no_refusal (Err errors.NoSupervisor) (nine_of_refusal _ refl);
 }
 
-pub returns : goal.returns
-returns g c =
+pub returns-in-Err : goal.returns-in-Err
+returns-in-Err g c =
     let set = c.optional_picker-builder.result.settings in
     let others = c.optional_picker-builder.ensures.others in
     let default = default_with c.new-2.result.settings set c.new-2.ensures.settings

@@ -12,16 +12,16 @@ returns-in-Err g c = record {
 
 pub returns-in-Ok-start_on_thread : goal.returns-in-Ok-start_on_thread
 returns-in-Ok-start_on_thread g c = record {
-  does = does_by _ _ _ _ _ _ _ c.in-Some.options _ _ _ _ c.follow_on_thread.result
+  does = does_by _ _ _ _ _ _ _ c.in-Some.options _ _ _ _ c.follow.result
       (sym c.in-Some.is ∙ c.live_options.ensures.setting)
       (runs_unyielded _ _ c.in-Some.options c.in-Ok.builder.settings c.in-Ok.builder.connector _ _ _
-      (g.K.Sink.held c.args.out.now) (g.K.Sink.held c.follow_on_thread.new.out)
-      c.in-Ok-prepare.job c.started.result.job c.follow_on_thread.result c.options.inside.lines
+      (g.K.Sink.held c.args.out.now) (g.K.Sink.held c.follow.new.out)
+      c.in-Ok-prepare.job c.started.result.job c.follow.result c.options.inside.lines
       c.in-Ok.ensures.settings c.in-Ok-prepare.ensures.assigned
       (c.started.ensures.0 ∙ c.in-Ok-start_on_thread.ensures) (ap (λ o. o.lines) c.options.view_is)
-      c.follow_on_thread.ensures.follows)
-      (runs_fail _ c.in-Some.options _ _ _ _ _ c.follow_on_thread.result (λ place. place)
-      c.follow_on_thread.ensures.cause);
+      c.follow.ensures.follows)
+      (runs_fail _ c.in-Some.options _ _ _ _ _ c.follow.result (λ place. place)
+      c.follow.ensures.cause);
 }
 
 pub returns-in-Err-start_on_thread : goal.returns-in-Err-start_on_thread

@@ -10,8 +10,8 @@ returns-in-Ok-put-clause-line g c =
     (c.as_bytes.ensures.value ∙ c.as_str.ensures ∙ c.in-Ok-state_line.ensures)
     c.in-Ok-put.ensures.bytes
 
-pub returns-clause-line : goal.returns-clause-line
-returns-clause-line g c =
+pub returns-in-Err-put-clause-line : goal.returns-in-Err-put-clause-line
+returns-in-Err-put-clause-line g c =
     prints_part c.state.new.self.pass.seen c.state.new.self.marked _ _ _ _ c.in-Ok.state
     c.now-now.result c.as_bytes.result.now c.in-Ok.ensures.state c.in-Ok.ensures.marked
     c.now-now.ensures.gives
