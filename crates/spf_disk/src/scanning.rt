@@ -42,7 +42,7 @@ fn file_bytes<D: Disk>(alloc: Global, disk: &mut D, file: HelperFile) -> Result<
 }
 
 /// The gates of the two slots.
-#[derive(Clone, Copy, Debug, PartialEq, Eq)]
+#[derive(Clone, Copy, PartialEq, Eq)]
 pub(crate) struct GatesRead {
     pub(crate) first: bool,
     pub(crate) second: bool,
@@ -97,7 +97,7 @@ fn slot_entry<D: Disk>(
 }
 
 /// The latest entry, and the slot that does not hold it, where the next one goes.
-#[derive(Debug, Drop)]
+#[derive(Drop)]
 pub(crate) struct Scanned {
     pub entry: Option<Entry>,
     pub next: Slot,

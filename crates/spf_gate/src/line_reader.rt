@@ -22,7 +22,7 @@ const MAX_LINE: usize = 4096;
 const CHUNK: usize = 4096;
 
 /// Where the first line of the bytes ends.
-#[derive(Clone, Copy, Debug, PartialEq, Eq)]
+#[derive(Clone, Copy, PartialEq, Eq)]
 pub(crate) enum LineEnd {
     /// A line feed follows this many bytes.
     Feed(usize),
@@ -131,7 +131,7 @@ fn line_text(octets: &[u8], number: u64) -> Result<&str, GateError>
 
 /// Reads the lines of an input: what is read beyond the lines so far, how many these are, and how
 /// many there may be.
-#[derive(Debug, Drop)]
+#[derive(Drop)]
 pub(crate) struct LineReader {
     piece: [u8; CHUNK],
     octets: Vec<u8>,

@@ -14,7 +14,7 @@ use std::alloc::Global;
 use std::str;
 
 /// Why no value was read.
-#[derive(Clone, Copy, Debug, PartialEq, Eq)]
+#[derive(Clone, Copy)]
 pub(crate) enum JsonFault {
     Invalid(JsonErrorKind),
     OutOfMemory,

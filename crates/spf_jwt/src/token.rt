@@ -21,7 +21,7 @@ use spf_api::JwtSvidError;
 use std::alloc::Global;
 
 /// Why a part of a token is refused.
-#[derive(Clone, Copy, Debug, PartialEq, Eq)]
+#[derive(Clone, Copy)]
 pub(crate) enum PartFault {
     NoObject,
     HoldsFloat,

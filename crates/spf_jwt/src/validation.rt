@@ -17,7 +17,7 @@ use spf_io::{List, OutOfMemory, Text};
 use std::alloc::Global;
 
 /// Whether a claim is there, and is what it has to be.
-#[derive(Clone, Copy, Debug, PartialEq, Eq)]
+#[derive(Clone, Copy)]
 pub(crate) enum ClaimState {
     Missing,
     Invalid,

@@ -8,7 +8,7 @@ use spf_api::{GrpcStatusCode, TransportError, WorkloadApiError};
 use spf_jwt_feed::JwtSourceError;
 
 /// Why an ask failed.
-#[derive(Debug, Drop)]
+#[derive(Drop)]
 pub(crate) enum AskFault {
     /// No client could be made.
     NoClient(WorkloadApiError),

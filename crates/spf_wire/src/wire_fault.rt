@@ -4,7 +4,7 @@ use spf_frame::FrameError;
 use spf_io::OutOfMemory;
 
 /// Why a call of a link was not answered by the other side.
-#[derive(Debug, Drop)]
+#[derive(Drop)]
 pub(crate) enum WireFault {
     /// The payload of the request is longer than 2^24.
     RequestTooLong,

@@ -3,7 +3,7 @@
 use spf_program::number_up_to;
 
 /// What the arguments ask for.
-#[derive(Clone, Copy, Debug, PartialEq, Eq)]
+#[derive(Clone, Copy, PartialEq, Eq)]
 pub(crate) enum Command {
     /// Measure how long one of this many reads of each thread takes.
     Reads { threads: u64, reads: u64 },

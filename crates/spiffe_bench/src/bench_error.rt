@@ -5,7 +5,7 @@ use spf_program::ArgumentsError;
 use std::alloc::{AllocError, AllocFailed};
 
 /// Why nothing is measured.
-#[derive(Clone, Copy, Debug, PartialEq, Eq)]
+#[derive(Clone, Copy, PartialEq, Eq)]
 pub(crate) enum BenchError {
     BadArguments,
     OutOfMemory,

@@ -12,7 +12,7 @@ use std::sync::Wait;
 use std::time::{Clock, Duration, Instant};
 
 /// A read of a source.
-#[derive(Clone, Copy, Debug, PartialEq, Eq)]
+#[derive(Clone, Copy, PartialEq, Eq)]
 pub(crate) enum Call {
     State,
     Svid,
