@@ -103,49 +103,6 @@ const NO_BUNDLES: &str =
 
 const BAD_KEY: &str = "failed to parse X.509 SVID: failed decoding PKCS#8 private key";
 
-/// Answers of the link, a call, and what it returns.
-const FETCHES: &[(&[&str], &str, &str)] = &[
-    (&["started", "first"], "context", "1 SVIDs, 1 bundles"),
-    (&["started", "first"], "svid", "spiffe://example.org/w"),
-    (&["started", "first"], "svids", "1 SVIDs"),
-    (&["started", "bundles"], "bundles", "1 bundles"),
-    (&["started", "end"], "context", EMPTY),
-    (&["started", "end"], "svid", EMPTY),
-    (&["started", "end"], "svids", EMPTY),
-    (&["started", "end"], "bundles", EMPTY),
-    (&["denied"], "context", "permission denied: no"),
-    (&["started", "denied"], "svids", "permission denied: no"),
-    (
-        &["started", "lost"],
-        "bundles",
-        "gRPC transport connection failed: gone",
-    ),
-    (&["memory"], "svid", "out of memory"),
-    (&["started", "memory"], "svid", "out of memory"),
-    (&["started", "no_bundles"], "bundles", NO_BUNDLES),
-    (&["started", "broken"], "svid", BAD_KEY),
-    // After the last answer, and answers that do not fit the call.
-    (&[], "context", UNAVAILABLE),
-    (&["started"], "context", UNAVAILABLE),
-    (&["first"], "context", UNAVAILABLE),
-    (&["started", "started"], "context", UNAVAILABLE),
-    (&["started", "bundles"], "context", UNAVAILABLE),
-    (&["started", "first"], "bundles", UNAVAILABLE),
-];
-
-#[test]
-fn client_fetches(rt: HostRuntime) -> Result<(), Fail> {
-    let alloc = rt.alloc();
-    for (words, call, wanted) in FETCHES {
-        let mut client = client(alloc, words)?;
-        let mut found = String::new(alloc);
-        push_fetched(&rt, &mut found, &mut client, call);
-        drop(client);
-        assert!(rt; found.as_str() == *wanted, "{call}: {found}");
-    }
-    Ok(())
-}
-
 /// Appends what a stream gave.
 fn push_item<T: Shown + Drop>(
     rt: &(impl Abort + AllocGlobal),
@@ -216,79 +173,147 @@ fn push_stream(
     }
 }
 
-/// Answers of the link, a kind of stream, and what four calls of it return.
-const STREAMS: &[(&[&str], &str, &str)] = &[
+/// Whether a call returns this, or so many items of a stream do.
+fn is_asked(
+    rt: &(impl Abort + AllocGlobal),
+    client: &mut Client,
+    call: &str,
+    streamed: usize,
+    wanted: &str,
+) -> bool {
+    let mut found = String::new(rt.alloc());
+    match streamed {
+        0 => push_fetched(rt, &mut found, client, call),
+        _ => push_stream(rt, &mut found, client, call, streamed),
+    }
+    let is_wanted = found.as_str() == wanted;
+    drop(found);
+    is_wanted
+}
+
+/// A call, how many of a stream's items it takes, and what it returns.
+type Call = (&'static str, usize, &'static str);
+
+/// Answers of the link, and calls of one client over it.
+const CALLS: &[(&[&str], &[Call])] = &[
+    (
+        &["started", "first"],
+        &[("context", 0, "1 SVIDs, 1 bundles")],
+    ),
+    (
+        &["started", "first"],
+        &[("svid", 0, "spiffe://example.org/w")],
+    ),
+    (&["started", "first"], &[("svids", 0, "1 SVIDs")]),
+    (&["started", "bundles"], &[("bundles", 0, "1 bundles")]),
+    (&["started", "end"], &[("context", 0, EMPTY)]),
+    (&["started", "end"], &[("svid", 0, EMPTY)]),
+    (&["started", "end"], &[("svids", 0, EMPTY)]),
+    (&["started", "end"], &[("bundles", 0, EMPTY)]),
+    (&["denied"], &[("context", 0, "permission denied: no")]),
+    (
+        &["started", "denied"],
+        &[("svids", 0, "permission denied: no")],
+    ),
+    (
+        &["started", "lost"],
+        &[("bundles", 0, "gRPC transport connection failed: gone")],
+    ),
+    (&["memory"], &[("svid", 0, "out of memory")]),
+    (&["started", "memory"], &[("svid", 0, "out of memory")]),
+    (&["started", "no_bundles"], &[("bundles", 0, NO_BUNDLES)]),
+    (&["started", "broken"], &[("svid", 0, BAD_KEY)]),
+    // After the last answer, and answers that do not fit the call.
+    (&[], &[("context", 0, UNAVAILABLE)]),
+    (&["started"], &[("context", 0, UNAVAILABLE)]),
+    (&["first"], &[("context", 0, UNAVAILABLE)]),
+    (&["started", "started"], &[("context", 0, UNAVAILABLE)]),
+    (&["started", "bundles"], &[("context", 0, UNAVAILABLE)]),
+    (&["started", "first"], &[("bundles", 0, UNAVAILABLE)]),
+    // Four items of a stream.
     (
         &["started", "broken", "first", "end", "first"],
-        "contexts",
-        "failed to parse X.509 SVID: failed decoding PKCS#8 private key; 1 SVIDs, 1 bundles; none; \
-         none; ",
+        &[(
+            "contexts",
+            4,
+            "failed to parse X.509 SVID: failed decoding PKCS#8 private key; 1 SVIDs, 1 bundles; \
+             none; none; ",
+        )],
     ),
     (
         &["started", "broken", "first", "end", "first"],
-        "svids",
-        "failed to parse X.509 SVID: failed decoding PKCS#8 private key; spiffe://example.org/w; \
-         none; none; ",
+        &[(
+            "svids",
+            4,
+            "failed to parse X.509 SVID: failed decoding PKCS#8 private key; \
+             spiffe://example.org/w; none; none; ",
+        )],
     ),
     (
         &["started", "no_bundles", "bundles", "end", "bundles"],
-        "bundles",
-        "Workload API response is missing required field: X509BundlesResponse.bundles; 1 bundles; \
-         none; none; ",
+        &[(
+            "bundles",
+            4,
+            "Workload API response is missing required field: X509BundlesResponse.bundles; \
+             1 bundles; none; none; ",
+        )],
     ),
     (
         &["started", "memory", "first", "denied", "first"],
-        "svids",
-        "out of memory; spiffe://example.org/w; permission denied: no; none; ",
+        &[(
+            "svids",
+            4,
+            "out of memory; spiffe://example.org/w; permission denied: no; none; ",
+        )],
     ),
     (
         &["started", "bundles", "first"],
-        "contexts",
-        "gRPC status unavailable: ; none; none; none; ",
+        &[(
+            "contexts",
+            4,
+            "gRPC status unavailable: ; none; none; none; ",
+        )],
     ),
-    (&["denied", "started"], "contexts", "permission denied: no"),
+    (
+        &["denied", "started"],
+        &[("contexts", 4, "permission denied: no")],
+    ),
+    // A client fetches again, also where it has left a stream.
+    (
+        &["started", "first", "started", "first", "started", "bundles"],
+        &[
+            ("contexts", 1, "1 SVIDs, 1 bundles; "),
+            ("svid", 0, "spiffe://example.org/w"),
+            ("bundles", 0, "1 bundles"),
+            ("bundles", 0, UNAVAILABLE),
+        ],
+    ),
 ];
 
+/// The first of these calls that a client does not answer so.
+fn first_unmet(
+    rt: &(impl Abort + AllocGlobal),
+    client: &mut Client,
+    calls: &'static [Call],
+) -> Option<&'static str> {
+    for &(call, streamed, wanted) in calls {
+        if !is_asked(rt, client, call, streamed, wanted) {
+            return Some(wanted);
+        }
+    }
+    None
+}
+
 #[test]
-fn client_streams(rt: HostRuntime) -> Result<(), Fail> {
-    let alloc = rt.alloc();
-    for (words, kind, wanted) in STREAMS {
-        let mut client = client(alloc, words)?;
-        let mut found = String::new(alloc);
-        push_stream(&rt, &mut found, &mut client, kind, 4);
+fn client_calls(rt: HostRuntime) -> Result<(), Fail> {
+    for &(words, calls) in CALLS {
+        let mut client = client(rt.alloc(), words)?;
+        let unmet = first_unmet(&rt, &mut client, calls);
         drop(client);
-        assert!(rt; found.as_str() == *wanted, "{kind}: {found}");
+        if let Some(wanted) = unmet {
+            return Err(Fail::new(wanted));
+        }
     }
-    Ok(())
-}
-
-/// Appends what a call returns, or the first item of a stream of contexts.
-fn push_asked(rt: &(impl Abort + AllocGlobal), text: &mut String, client: &mut Client, call: &str) {
-    match call {
-        "contexts" => push_stream(rt, text, client, call, 1),
-        _ => push_fetched(rt, text, client, call),
-    }
-}
-
-/// Calls of one client, and what each returns.
-const CALLS: &[(&str, &str)] = &[
-    ("contexts", "1 SVIDs, 1 bundles; "),
-    ("svid", "spiffe://example.org/w"),
-    ("bundles", "1 bundles"),
-    ("bundles", UNAVAILABLE),
-];
-
-/// A client fetches again, also where it has left a stream.
-#[test]
-fn client_asks_again(rt: HostRuntime) -> Result<(), Fail> {
-    let words = ["started", "first", "started", "first", "started", "bundles"];
-    let mut client = client(rt.alloc(), &words)?;
-    for &(call, wanted) in CALLS {
-        let mut found = String::new(rt.alloc());
-        push_asked(&rt, &mut found, &mut client, call);
-        assert!(rt; found.as_str() == wanted, "{call}: {found}");
-    }
-    drop(client);
     Ok(())
 }
 
@@ -322,22 +347,27 @@ fn client_endpoint(rt: HostRuntime) -> Result<(), Fail> {
     Ok(())
 }
 
-/// Appends what the next client of the connector fetches, or why there is none.
-fn push_connected(
+/// Whether the next client of the connector fetches this, or there is none for that reason.
+fn is_connected(
     rt: &(impl Abort + AllocGlobal),
-    text: &mut String,
     connector: &mut MemConnector,
-) {
+    wanted: &str,
+) -> bool {
     match WorkloadApiClient::connect_over(connector) {
         Ok(mut client) => {
-            if client.endpoint().is_some() {
-                text.push_str("an endpoint; ").expect(rt, "memory");
-            }
-            push_fetched(rt, text, &mut client, "svids");
-            drop(client);
+            let is_fetched = is_asked(rt, &mut client, "svids", 0, wanted);
+            is_unnamed(client) && is_fetched
         }
-        Err(e) => push_error(rt, text, e),
+        Err(e) => is_error(rt, e, wanted),
     }
+}
+
+fn is_error(rt: &(impl Abort + AllocGlobal), e: WorkloadApiError, wanted: &str) -> bool {
+    let mut text = String::new(rt.alloc());
+    push_error(rt, &mut text, e);
+    let is_wanted = text.as_str() == wanted;
+    drop(text);
+    is_wanted
 }
 
 /// What the clients of a connector fetch, one after another, or why there is none.
@@ -350,11 +380,9 @@ const CONNECTED: &[&str] = &[
 
 #[test]
 fn client_over_a_connector(rt: HostRuntime) -> Result<(), Fail> {
-    let mut connector = connector(rt.alloc(), &["started", "first"])?;
+    let mut connector = connector(&rt, link(rt.alloc(), &["started", "first"])?);
     for &wanted in CONNECTED {
-        let mut found = String::new(rt.alloc());
-        push_connected(&rt, &mut found, &mut connector);
-        assert!(rt; found.as_str() == wanted, "{found}");
+        assert!(rt; is_connected(&rt, &mut connector, wanted), "{wanted}");
     }
     drop(connector);
     Ok(())

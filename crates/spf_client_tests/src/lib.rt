@@ -1,8 +1,11 @@
-//! Tests of clients and their links, in memory and over sockets, which need only public calls.
+//! Tests of clients and their links, in memory and over sockets, and of the JWT client, which need
+//! only public calls.
 #![tactic(auto)]
 
 #[cfg(test)]
 mod client;
+#[cfg(test)]
+mod jwt;
 #[cfg(test)]
 mod link;
 #[cfg(test)]

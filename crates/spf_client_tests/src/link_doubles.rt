@@ -8,6 +8,7 @@ use spf_io::{List, OutOfMemory, Text};
 use spf_link::{Answer, Connector, Headers, Link, MemConnector, MemLink, Request, Start};
 use spf_responses::{FIRST, SvidRow, bundle_entries, context};
 use std::alloc::Global;
+use std::fmt::Display;
 use std::mem::drop;
 use std::process::Abort;
 use std::test::Fail;
@@ -81,48 +82,50 @@ fn unreachable(alloc: Global) -> Result<ClientFault, OutOfMemory> {
     Ok(ClientFault::Unreachable(Text::copy_of(alloc, "nobody listens")?))
 }
 
-/// Returns a connector that gives a link with these answers, then a denial and an endpoint that
-/// cannot be reached.
-pub fn connector(alloc: Global, words: &[&str]) -> Result<MemConnector, Fail> {
-    let mut links = Vec::new(alloc);
-    links.push(Ok(link(alloc, words)?))?;
-    links.push(Err(ClientFault::Status(denied(alloc)?)))?;
-    links.push(Err(unreachable(alloc)?))?;
-    Ok(MemConnector::new(alloc, links))
+/// Returns a connector that gives this link, then a denial and an endpoint that cannot be reached.
+pub fn connector(rt: &(impl Abort + AllocGlobal), link: MemLink) -> MemConnector {
+    let alloc = rt.alloc();
+    let denied = ClientFault::Status(denied(alloc).expect(rt, "memory"));
+    let unreachable = unreachable(alloc).expect(rt, "memory");
+    let links = vec![in alloc; Ok(link), Err(denied), Err(unreachable)];
+    MemConnector::new(alloc, links.expect(rt, "memory"))
 }
 
-/// The text of the refusal.
-fn fault_text(rt: &(impl Abort + AllocGlobal), fault: LinkFault) -> String {
-    let text = format!(in rt.alloc(); "{fault}").expect(rt, "memory");
-    drop(fault);
-    text
+/// Whether the text of a value is this.
+fn is_text<T: Display + Drop>(rt: &(impl Abort + AllocGlobal), value: T, wanted: &str) -> bool {
+    let text = format!(in rt.alloc(); "{value}").expect(rt, "memory");
+    drop(value);
+    let is_text = text.as_str() == wanted;
+    drop(text);
+    is_text
 }
 
-fn copied(rt: &(impl Abort + AllocGlobal), text: &str) -> String {
-    String::from_str(rt.alloc(), text).expect(rt, "memory")
-}
-
-/// What a start with the header `a` returns, as a text.
-fn started(rt: &(impl Abort + AllocGlobal), link: &mut MemLink, request: &Request) -> String {
+/// Whether a start with the header `a` returns this, as a text.
+fn is_started(
+    rt: &(impl Abort + AllocGlobal),
+    link: &mut MemLink,
+    request: &Request,
+    wanted: &str,
+) -> bool {
     let mut headers = Headers::new(rt.alloc());
     headers.set("a", "1").expect(rt, "memory");
     let answer = link.start(&headers, request);
     drop(headers);
     match answer {
-        Ok(()) => copied(rt, "started"),
-        Err(fault) => fault_text(rt, fault),
+        Ok(()) => wanted == "started",
+        Err(fault) => is_text(rt, fault, wanted),
     }
 }
 
-/// What the next answer is, as a text.
-fn next(rt: &(impl Abort + AllocGlobal), link: &mut MemLink) -> String {
+/// Whether the next answer is this, as a text.
+fn is_next(rt: &(impl Abort + AllocGlobal), link: &mut MemLink, wanted: &str) -> bool {
     match link.next() {
         Ok(Some(item)) => {
             drop(item);
-            copied(rt, "item")
+            wanted == "item"
         }
-        Ok(None) => copied(rt, "end"),
-        Err(fault) => fault_text(rt, fault),
+        Ok(None) => wanted == "end",
+        Err(fault) => is_text(rt, fault, wanted),
     }
 }
 
@@ -142,6 +145,19 @@ const CALLS: &[(&str, &str)] = &[
     ("start", UNAVAILABLE),
 ];
 
+/// Whether that call of the link returns this.
+fn is_called(
+    rt: &(impl Abort + AllocGlobal),
+    link: &mut MemLink,
+    call: &str,
+    wanted: &str,
+) -> bool {
+    match call {
+        "start" => is_started(rt, link, &Request::X509Svid, wanted),
+        _ => is_next(rt, link, wanted),
+    }
+}
+
 /// A `start` takes one answer, and so does each `next`: what does not fit refuses like none.
 #[test]
 fn link_answers_in_turn(rt: HostRuntime) -> Result<(), Fail> {
@@ -150,11 +166,7 @@ fn link_answers_in_turn(rt: HostRuntime) -> Result<(), Fail> {
     ];
     let mut link = link(rt.alloc(), &words)?;
     for &(call, wanted) in CALLS {
-        let found = match call {
-            "start" => started(&rt, &mut link, &Request::X509Svid),
-            _ => next(&rt, &mut link),
-        };
-        assert!(rt; found.as_str() == wanted, "{call}: {found}");
+        assert!(rt; is_called(&rt, &mut link, call, wanted), "{call}: {wanted}");
     }
     drop(link);
     Ok(())
@@ -183,22 +195,24 @@ fn has_starts(starts: &[Start], last: &Request) -> bool {
     }
 }
 
+/// Whether starts for three requests return what they have to, and a link keeps the first and the
+/// last.
+fn keeps_starts(rt: &(impl Abort + AllocGlobal), mut link: MemLink) -> bool {
+    let last = validation(rt);
+    let is_granted = is_started(rt, &mut link, &Request::X509Svid, "started");
+    let is_lost = is_started(rt, &mut link, &Request::JwtBundles, "out of memory");
+    let is_denied = is_started(rt, &mut link, &last, "gRPC status permission_denied: no");
+    let has_starts = has_starts(link.starts(), &last);
+    drop(last);
+    drop(link);
+    is_granted && is_lost && is_denied && has_starts
+}
+
 /// Each `start` but one that is out of memory is kept with its headers.
 #[test]
 fn link_keeps_starts(rt: HostRuntime) -> Result<(), Fail> {
-    let mut link = link(rt.alloc(), &["started", "memory", "denied"])?;
-    let last = validation(&rt);
-    for (request, wanted) in [
-        (&Request::X509Svid, "started"),
-        (&Request::JwtBundles, "out of memory"),
-        (&last, "gRPC status permission_denied: no"),
-    ] {
-        let found = started(&rt, &mut link, request);
-        assert!(rt; found.as_str() == wanted, "{found}");
-    }
-    assert!(rt; has_starts(link.starts(), &last));
-    drop(last);
-    drop(link);
+    let link = link(rt.alloc(), &["started", "memory", "denied"])?;
+    assert!(rt; keeps_starts(&rt, link));
     Ok(())
 }
 
@@ -227,33 +241,35 @@ fn request_is_copied(rt: HostRuntime) {
     drop(request);
 }
 
-/// Why the connector gives no link.
-fn refusal(rt: &(impl Abort + AllocGlobal), connector: &mut MemConnector) -> String {
+/// Whether the connector gives this: a link, or an error of that text.
+fn is_connected(
+    rt: &(impl Abort + AllocGlobal),
+    connector: &mut MemConnector,
+    wanted: &str,
+) -> bool {
     match connector.connect() {
         Ok(link) => {
             drop(link);
-            copied(rt, "a link")
+            wanted == "a link"
         }
-        Err(fault) => {
-            let text = format!(in rt.alloc(); "{fault}").expect(rt, "memory");
-            drop(fault);
-            text
-        }
+        Err(fault) => is_text(rt, fault, wanted),
     }
 }
 
+/// What a connector gives, one after another.
+const CONNECTED: &[&str] = &[
+    "a link",
+    "gRPC status permission_denied: no",
+    "nobody listens",
+    UNAVAILABLE,
+];
+
 #[test]
 fn connector_gives_links_in_turn(rt: HostRuntime) -> Result<(), Fail> {
-    let mut connector = connector(rt.alloc(), &["started"])?;
+    let mut connector = connector(&rt, link(rt.alloc(), &["started"])?);
     assert!(rt; connector.validate().is_ok());
-    for wanted in [
-        "a link",
-        "gRPC status permission_denied: no",
-        "nobody listens",
-        UNAVAILABLE,
-    ] {
-        let found = refusal(&rt, &mut connector);
-        assert!(rt; found.as_str() == wanted, "{found}");
+    for &wanted in CONNECTED {
+        assert!(rt; is_connected(&rt, &mut connector, wanted), "{wanted}");
     }
     drop(connector);
     Ok(())

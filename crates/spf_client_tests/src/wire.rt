@@ -231,17 +231,22 @@ const BUNDLES: &[u8] = b"\x12\0\0\0\x0f\0\0\0\x01\0\0\0\x01a\0\0\0\x02bc";
 
 const VALIDATION: &[u8] = b"\x15\0\0\0\x0e\0\0\0\0\0\0\0\x01a\0\0\0\x01t";
 
-#[test]
-fn requests(rt: HostRuntime) -> Result<(), Fail> {
-    let mut link = wire(&rt, "CN", 200, &[])?;
-    let headers = one_header(&rt, "a", "bc");
-    assert!(rt; puts(&mut link, headers, &Request::X509Bundles, BUNDLES));
-    drop(link);
-    let mut link = wire(&rt, "CN", 200, &[])?;
-    let request = validation(&rt);
-    assert!(rt; puts(&mut link, Headers::new(rt.alloc()), &request, VALIDATION));
+/// Whether a link puts these octets for a request with these headers.
+fn is_put(mut link: MemWire, headers: Headers, request: Request, wanted: &[u8]) -> bool {
+    let is_put = puts(&mut link, headers, &request, wanted);
     drop(request);
     drop(link);
+    is_put
+}
+
+#[test]
+fn requests(rt: HostRuntime) -> Result<(), Fail> {
+    let link = wire(&rt, "CN", 200, &[])?;
+    let headers = one_header(&rt, "a", "bc");
+    assert!(rt; is_put(link, headers, Request::X509Bundles, BUNDLES));
+    let link = wire(&rt, "CN", 200, &[])?;
+    let headers = Headers::new(rt.alloc());
+    assert!(rt; is_put(link, headers, validation(&rt), VALIDATION));
     Ok(())
 }
 
@@ -259,17 +264,29 @@ fn set_long(rt: &(impl Abort + AllocGlobal), headers: &mut Headers, length: usiz
     drop(value);
 }
 
+/// Whether a link that has put nothing returns this for a start with a header of that length.
+fn is_start(
+    rt: &(impl Abort + AllocGlobal),
+    link: &mut MemWire,
+    headers: &mut Headers,
+    length: Option<usize>,
+    wanted: &str,
+) -> bool {
+    if let Some(length) = length {
+        set_long(rt, headers, length);
+    }
+    link.sink().bytes().is_empty() && started(link, headers, &Request::X509Svid) == wanted
+}
+
 #[test]
 fn refused_before_it_is_read(rt: HostRuntime) -> Result<(), Fail> {
     let mut link = wire(&rt, "CN", 100, &[1])?;
     let mut headers = Headers::new(rt.alloc());
     for &(length, wanted) in STARTS {
-        assert!(rt; link.sink().bytes().is_empty(), "{wanted}");
-        if let Some(length) = length {
-            set_long(&rt, &mut headers, length);
-        }
-        let found = started(&mut link, &headers, &Request::X509Svid);
-        assert!(rt; found == wanted, "{found}");
+        assert!(rt;
+            is_start(&rt, &mut link, &mut headers, length, wanted),
+            "{wanted}"
+        );
     }
     drop(headers);
     drop(link);

@@ -45,51 +45,39 @@ impl Pause for NoPause {
     fn pause(&mut self, _delay: Duration) {}
 }
 
-/// What a build gave.
-#[derive(Clone, Copy, Debug, PartialEq, Eq)]
-enum Outcome {
-    Revision(u64),
-    Source,
-    UnsupportedRpc,
-    TimedOut,
-    NoPlace,
-    NoSupervisor,
-    Other,
-}
-
-fn outcome_of(error: &JwtSourceError) -> Outcome {
+fn name_of(error: &JwtSourceError) -> &'static str {
     match error {
-        JwtSourceError::Source(_) => Outcome::Source,
-        JwtSourceError::UnsupportedRpc(_) => Outcome::UnsupportedRpc,
-        JwtSourceError::InitialSyncTimeout => Outcome::TimedOut,
-        JwtSourceError::NoPlace => Outcome::NoPlace,
-        JwtSourceError::NoSupervisor => Outcome::NoSupervisor,
-        _ => Outcome::Other,
+        JwtSourceError::Source(_) => "an error of the source",
+        JwtSourceError::UnsupportedRpc(_) => "an unsupported call",
+        JwtSourceError::InitialSyncTimeout => "a timeout",
+        JwtSourceError::NoPlace => "no place",
+        JwtSourceError::NoSupervisor => "no supervisor",
+        _ => "another error",
     }
 }
 
-/// The revision of a source that was built.
-fn revision(source: &JwtSource, pass: &mut JwtPass) -> Outcome
+/// Whether the state of a source has revision 0.
+fn is_first(source: &JwtSource, pass: &mut JwtPass) -> bool
     requires { pass.old.book ≡ source.now.board }
 {
     match source.state(pass) {
         Ok(state) => {
-            let revision = state.revision();
+            let found = state.revision() == 0;
             drop(state);
-            Outcome::Revision(revision)
+            found
         }
-        Err(OutOfMemory) => Outcome::Other,
+        Err(OutOfMemory) => false,
     }
 }
 
 /// What a build gives, at the fixed moment.
-fn try_build<R, S, L>(
+fn built<R, S, L>(
     rt: R,
     alloc: Global,
     builder: Builder,
     spawner: &mut S,
     places: &mut L,
-) -> Outcome
+) -> &'static str
 where
     R: Wait + Copy + Drop,
     S: Spawner<JwtJob<MemConnector, NoRecorder, NoPause, StepWords, R>>,
@@ -106,67 +94,83 @@ where
         places,
     ) {
         Ok((source, mut pass, handle)) => {
-            let found = revision(&source, &mut pass);
+            let is_first = is_first(&source, &mut pass);
             drop(handle);
             drop(pass);
             drop(source);
-            found
+            if is_first {
+                "revision 0"
+            } else {
+                "another revision"
+            }
         }
         Err(error) => {
-            let found = outcome_of(&error);
+            let name = name_of(&error);
             drop(error);
-            found
+            name
         }
     }
 }
 
-/// A builder over a link that refuses its start with this status.
-fn refused(alloc: Global, code: GrpcStatusCode) -> Result<Builder, OutOfMemory> {
-    Ok(JwtSourceBuilder::new(refusing(alloc, code)?))
+/// A builder over the link that the word stands for. Most give the item JI.
+fn builder(alloc: Global, word: &str) -> Result<Builder, OutOfMemory> {
+    let connector = match word {
+        "rejected" => refusing(alloc, GrpcStatusCode::InvalidArgument)?,
+        "unsupported" => refusing(alloc, GrpcStatusCode::Unimplemented)?,
+        _ => good(alloc)?,
+    };
+    let builder = JwtSourceBuilder::new(connector);
+    match word {
+        "late" => Ok(builder.initial_sync_timeout(Duration::from_secs(0))),
+        _ => Ok(builder),
+    }
 }
 
-/// What a build gives with a place and a supervisor.
-fn built<R: Wait + Copy + Drop>(rt: R, alloc: Global, builder: Builder) -> Outcome {
-    try_build(
-        rt,
-        alloc,
-        builder,
-        &mut InlineSpawner,
-        &mut BoardPlaces::new(),
-    )
-}
-
-/// A builder over a link that gives the item JI.
-fn ready(alloc: Global) -> Result<Builder, OutOfMemory> {
-    Ok(JwtSourceBuilder::new(good(alloc)?))
-}
+/// The link, and what a build gives.
+static CAUSES: [(&str, &str); 4] = [
+    ("rejected", "an error of the source"),
+    ("unsupported", "an unsupported call"),
+    ("late", "a timeout"),
+    ("good", "revision 0"),
+];
 
 /// The answers of one link, and the timeout.
 #[test]
 fn build_causes(rt: HostRuntime) {
     let alloc = rt.alloc();
-    let rejected = refused(alloc, GrpcStatusCode::InvalidArgument).expect(&rt, "a builder");
-    assert!(rt; built(rt, alloc, rejected) == Outcome::Source);
-    let unsupported = refused(alloc, GrpcStatusCode::Unimplemented).expect(&rt, "a builder");
-    assert!(rt; built(rt, alloc, unsupported) == Outcome::UnsupportedRpc);
-    let late = ready(alloc).expect(&rt, "a builder");
-    let late = late.initial_sync_timeout(Duration::from_secs(0));
-    assert!(rt; built(rt, alloc, late) == Outcome::TimedOut);
-    let ready = ready(alloc).expect(&rt, "a builder");
-    assert!(rt; built(rt, alloc, ready) == Outcome::Revision(0));
+    for &(word, wanted) in CAUSES.iter() {
+        let builder = builder(alloc, word).expect(&rt, "a builder");
+        let found = built(
+            rt,
+            alloc,
+            builder,
+            &mut InlineSpawner,
+            &mut BoardPlaces::new(),
+        );
+        assert!(rt; found == wanted, "{word}: {found}");
+    }
 }
 
 /// What a build gives without a place, and without a supervisor.
 #[test]
 fn refused_builds(rt: HostRuntime) {
     let alloc = rt.alloc();
-    let unplaced = ready(alloc).expect(&rt, "a builder");
-    let mut refusing = RefusingPlaces::new();
-    let no_place = try_build(rt, alloc, unplaced, &mut InlineSpawner, &mut refusing);
-    assert!(rt; no_place == Outcome::NoPlace);
-    let unsupervised = ready(alloc).expect(&rt, "a builder");
-    let mut spawner = RefusingSpawner::new();
-    let mut places = BoardPlaces::new();
-    let no_supervisor = try_build(rt, alloc, unsupervised, &mut spawner, &mut places);
-    assert!(rt; no_supervisor == Outcome::NoSupervisor);
+    let unplaced = builder(alloc, "good").expect(&rt, "a builder");
+    let found = built(
+        rt,
+        alloc,
+        unplaced,
+        &mut InlineSpawner,
+        &mut RefusingPlaces::new(),
+    );
+    assert!(rt; found == "no place");
+    let unsupervised = builder(alloc, "good").expect(&rt, "a builder");
+    let found = built(
+        rt,
+        alloc,
+        unsupervised,
+        &mut RefusingSpawner::new(),
+        &mut BoardPlaces::new(),
+    );
+    assert!(rt; found == "no supervisor");
 }

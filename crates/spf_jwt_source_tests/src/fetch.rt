@@ -5,47 +5,17 @@ use crate::source::opened;
 use spf_api::{GrpcStatusCode, WorkloadApiError};
 use spf_fixtures::TOKEN1;
 use spf_io::{OutOfMemory, Text};
-use spf_jwt::JwtSvid;
 use spf_jwt_client::JwtFetcher;
 use spf_jwt_feed::JwtSourceError;
 use spf_jwt_source::JwtSource;
 use spf_link::MemConnector;
 use std::alloc::Global;
 
-/// What a fetch returned.
-#[derive(Clone, Copy, Debug, PartialEq, Eq)]
-enum Outcome {
-    Token,
-    Denied,
-    Closed,
-    Other,
-}
-
-fn outcome_of(error: &JwtSourceError) -> Outcome {
+fn name_of(error: &JwtSourceError) -> &'static str {
     match error {
-        JwtSourceError::FetchJwtSvid(WorkloadApiError::PermissionDenied(_)) => Outcome::Denied,
-        JwtSourceError::Closed => Outcome::Closed,
-        _ => Outcome::Other,
-    }
-}
-
-/// What a fetch returned.
-fn summary(answer: Result<JwtSvid, JwtSourceError>) -> Outcome {
-    match answer {
-        Ok(svid) => {
-            let is_token = svid.token() == TOKEN1;
-            drop(svid);
-            if is_token {
-                Outcome::Token
-            } else {
-                Outcome::Other
-            }
-        }
-        Err(error) => {
-            let found = outcome_of(&error);
-            drop(error);
-            found
-        }
+        JwtSourceError::FetchJwtSvid(WorkloadApiError::PermissionDenied(_)) => "denied",
+        JwtSourceError::Closed => "closed",
+        _ => "another error",
     }
 }
 
@@ -55,11 +25,26 @@ fn fetched(
     source: &JwtSource,
     connector: MemConnector,
     audience: &[Text],
-) -> Outcome {
+) -> &'static str {
     let mut fetcher = JwtFetcher::new(connector);
     let answer = source.fetch_jwt_svid(alloc, &mut fetcher, audience);
     drop(fetcher);
-    summary(answer)
+    match answer {
+        Ok(svid) => {
+            let is_token = svid.token() == TOKEN1;
+            drop(svid);
+            if is_token {
+                "the token"
+            } else {
+                "another token"
+            }
+        }
+        Err(error) => {
+            let name = name_of(&error);
+            drop(error);
+            name
+        }
+    }
 }
 
 fn audience_of(alloc: Global, name: &str) -> Result<Vec<Text>, OutOfMemory> {
@@ -72,17 +57,14 @@ fn audience_of(alloc: Global, name: &str) -> Result<Vec<Text>, OutOfMemory> {
 fn fetches_of_a_source(rt: HostRuntime) {
     let alloc = rt.alloc();
     let audience = audience_of(alloc, "a").expect(&rt, "an audience");
-    let (mut source, pass, desk, stop) = opened(rt, alloc);
+    let mut held = opened(rt, alloc);
     let grants = granting(alloc).expect(&rt, "a connector");
-    assert!(rt; fetched(alloc, &source, grants, audience.as_slice()) == Outcome::Token);
+    assert!(rt; fetched(alloc, &held.source, grants, audience.as_slice()) == "the token");
     let denies = refusing(alloc, GrpcStatusCode::PermissionDenied).expect(&rt, "a connector");
-    assert!(rt; fetched(alloc, &source, denies, audience.as_slice()) == Outcome::Denied);
-    source.shutdown();
+    assert!(rt; fetched(alloc, &held.source, denies, audience.as_slice()) == "denied");
+    held.source.shutdown();
     let unasked = granting(alloc).expect(&rt, "a connector");
-    assert!(rt; fetched(alloc, &source, unasked, audience.as_slice()) == Outcome::Closed);
-    drop(stop);
-    drop(desk);
-    drop(pass);
-    drop(source);
+    assert!(rt; fetched(alloc, &held.source, unasked, audience.as_slice()) == "closed");
+    drop(held);
     drop(audience);
 }

@@ -1,4 +1,4 @@
-//! Tests of live sources of JWT bundles.
+//! Tests of live sources of JWT bundles, over doubles and on threads.
 #![tactic(auto)]
 
 #[cfg(test)]
@@ -9,3 +9,5 @@ mod fetch;
 mod links;
 #[cfg(test)]
 mod source;
+#[cfg(test)]
+mod threads;

@@ -55,24 +55,21 @@ fn first_step(alloc: Global) -> Result<SharedStep, OutOfMemory>
     accepting(alloc, first_bundles(alloc)?)
 }
 
-/// A board on which that step is published, and its first pass.
-fn board_of<R: Wait + Drop>(rt: R, alloc: Global) -> Result<(JwtDesk<R>, JwtPass), OutOfMemory>
-    ensures step { IfOk result (λ r. steps_of r.0.list ≢ []) }
-    ensures pass { IfOk result (λ r. r.1.book ≡ r.0.book) }
-{
-    let step = first_step(alloc)?;
-    open(alloc, rt, step)
+/// An open source, a pass of its board, what publishes on it, and the mark that its closer sets.
+#[derive(Drop)]
+pub(crate) struct Held<R: Wait + Drop> {
+    pub(crate) source: JwtSource,
+    pub(crate) pass: JwtPass,
+    pub(crate) desk: JwtDesk<R>,
+    pub(crate) stop: StopFlag,
 }
 
-/// An open source, with the closer that sets its mark, and a pass of its board.
-pub(crate) fn opened<R: Wait + Abort + Copy + Drop>(
-    rt: R,
-    alloc: Global,
-) -> (JwtSource, JwtPass, JwtDesk<R>, StopFlag)
-    ensures pass { result.1.book ≡ result.0.board }
-    ensures step { steps_of result.2.list ≢ [] }
+pub(crate) fn opened<R: Wait + Abort + Copy + Drop>(rt: R, alloc: Global) -> Held<R>
+    ensures pass { result.pass.book ≡ result.source.board }
+    ensures step { steps_of result.desk.list ≢ [] }
 {
-    let (desk, pass) = board_of(rt, alloc).expect(&rt, "a board");
+    let step = first_step(alloc).expect(&rt, "a step");
+    let (desk, pass) = open(alloc, rt, step).expect(&rt, "a board");
     let (caller, supervisor, watch) = closed_cell(alloc).expect(&rt, "a closed cell");
     drop(supervisor);
     drop(watch);
@@ -80,7 +77,12 @@ pub(crate) fn opened<R: Wait + Abort + Copy + Drop>(
     let flag = stop.try_clone().expect(&rt, "a flag");
     let bell = Bell::new(alloc).expect(&rt, "a bell");
     let source = JwtSource::over(alloc, desk.front(), caller, flag, bell);
-    (source.expect(&rt, "a source"), pass, desk, stop)
+    Held {
+        source: source.expect(&rt, "a source"),
+        pass,
+        desk,
+        stop,
+    }
 }
 
 /// Publishes a denial.
@@ -91,37 +93,28 @@ fn withdraw<R: Wait + Drop>(alloc: Global, desk: &mut JwtDesk<R>) -> Result<(), 
     publish_on(desk, JwtStep::Deny { reason })
 }
 
-/// What a getter returned.
-#[derive(Clone, Copy, Debug, PartialEq, Eq)]
-enum Given {
-    Value,
-    Withdrawn,
-    Closed,
-    Other,
-}
-
-fn given_of(error: &JwtSourceError) -> Given {
+fn name_of(error: &JwtSourceError) -> &'static str {
     match error {
-        JwtSourceError::Withdrawn(_) => Given::Withdrawn,
-        JwtSourceError::Closed => Given::Closed,
-        _ => Given::Other,
+        JwtSourceError::Withdrawn(_) => "withdrawn",
+        JwtSourceError::Closed => "closed",
+        _ => "another error",
     }
 }
 
 /// What the getter of the bundle set returns.
-fn bundles_of(source: &JwtSource, pass: &mut JwtPass) -> Given
+fn bundles_of(source: &JwtSource, pass: &mut JwtPass) -> &'static str
     requires { pass.old.book ≡ source.now.board }
     ensures { pass.new.book ≡ pass.old.book }
 {
     match source.bundle_set(pass) {
         Ok(bundles) => {
             drop(bundles);
-            Given::Value
+            "a value"
         }
         Err(error) => {
-            let given = given_of(&error);
+            let name = name_of(&error);
             drop(error);
-            given
+            name
         }
     }
 }
@@ -141,15 +134,17 @@ fn has_bundle(source: &JwtSource, pass: &mut JwtPass, trust_domain: &TrustDomain
     }
 }
 
-/// The bundle set, whether there is a bundle of the trust domain, and whether the source is
-/// healthy.
-fn gets(source: &JwtSource, pass: &mut JwtPass, trust_domain: &TrustDomain) -> (Given, bool, bool)
+/// Whether the getter of the bundle set returns this, and there is accordingly a bundle of the
+/// trust domain, and the source healthy.
+fn gives(source: &JwtSource, pass: &mut JwtPass, domain: &TrustDomain, wanted: &str) -> bool
     requires { pass.old.book ≡ source.now.board }
     ensures { pass.new.book ≡ pass.old.book }
 {
-    let bundles = bundles_of(source, pass);
-    let bundle = has_bundle(source, pass, trust_domain);
-    (bundles, bundle, source.is_healthy(pass))
+    let is_wanted = bundles_of(source, pass) == wanted;
+    let has_bundle = has_bundle(source, pass, domain);
+    let is_healthy = source.is_healthy(pass);
+    let is_open = wanted == "a value";
+    is_wanted && has_bundle == is_open && is_healthy == is_open
 }
 
 /// Whether the state is closed, and of that revision.
@@ -171,18 +166,15 @@ fn is_closed_at(source: &JwtSource, pass: &mut JwtPass, revision: u64) -> bool
 fn after_shutdown(rt: HostRuntime) {
     let alloc = rt.alloc();
     let domain = TrustDomain::new(alloc, "example.org").expect(&rt, "a trust domain");
-    let (mut source, mut pass, mut desk, stop) = opened(rt, alloc);
-    assert!(rt; gets(&source, &mut pass, &domain) == (Given::Value, true, true));
-    assert!(rt; withdraw(alloc, &mut desk).is_ok());
-    assert!(rt; gets(&source, &mut pass, &domain) == (Given::Withdrawn, false, false));
-    source.shutdown();
-    assert!(rt; stop.is_set());
-    assert!(rt; gets(&source, &mut pass, &domain) == (Given::Closed, false, false));
-    assert!(rt; is_closed_at(&source, &mut pass, 1));
-    drop(stop);
-    drop(desk);
-    drop(pass);
-    drop(source);
+    let mut held = opened(rt, alloc);
+    assert!(rt; gives(&held.source, &mut held.pass, &domain, "a value"));
+    assert!(rt; withdraw(alloc, &mut held.desk).is_ok());
+    assert!(rt; gives(&held.source, &mut held.pass, &domain, "withdrawn"));
+    held.source.shutdown();
+    assert!(rt; held.stop.is_set());
+    assert!(rt; gives(&held.source, &mut held.pass, &domain, "closed"));
+    assert!(rt; is_closed_at(&held.source, &mut held.pass, 1));
+    drop(held);
     drop(domain);
 }
 
@@ -244,72 +236,64 @@ fn lacks_place(source: &JwtSource, pass: &mut JwtPass) -> bool
 /// Updates go on after the source is closed. Where there is no place there are none.
 #[test]
 fn updates_of_a_source(rt: HostRuntime) {
-    let (mut source, mut pass, desk, stop) = opened(rt, rt.alloc());
-    assert!(rt; follows_first(&source, &mut pass, false));
-    source.shutdown();
-    assert!(rt; follows_first(&source, &mut pass, true));
-    assert!(rt; lacks_place(&source, &mut pass));
-    drop(stop);
-    drop(desk);
-    drop(pass);
-    drop(source);
+    let mut held = opened(rt, rt.alloc());
+    assert!(rt; follows_first(&held.source, &mut held.pass, false));
+    held.source.shutdown();
+    assert!(rt; follows_first(&held.source, &mut held.pass, true));
+    assert!(rt; lacks_place(&held.source, &mut held.pass));
+    drop(held);
 }
 
-/// What a wait for a revision returned.
-#[derive(Clone, Copy, Debug, PartialEq, Eq)]
-enum Awaited {
-    Revision(u64),
-    Closed,
-    Other,
-}
-
-fn awaited_of(answer: Result<u64, JwtSourceError>) -> Awaited {
+/// Whether a wait returned that revision, or Closed where there is none.
+fn is_awaited(answer: Result<u64, JwtSourceError>, wanted: Option<u64>) -> bool {
     match answer {
-        Ok(revision) => Awaited::Revision(revision),
+        Ok(revision) => wanted == Some(revision),
         Err(error) => {
             let is_closed = matches!(&error, JwtSourceError::Closed);
             drop(error);
-            if is_closed {
-                Awaited::Closed
-            } else {
-                Awaited::Other
-            }
+            is_closed && wanted.is_none()
         }
     }
 }
 
-/// What waits return: `wait_for` with the revisions from 1 on, and `changed`.
-fn waits<R: Wait + Clock>(rt: &R, updates: &mut JwtSourceUpdates) -> (Awaited, Awaited) {
-    let taken = awaited_of(updates.wait_for(rt, |revision| *revision >= 1));
-    (taken, awaited_of(updates.changed(rt)))
+/// Whether waits return that: `wait_for` with the revisions from 1 on, and `changed`.
+fn waits<R: Wait + Clock>(
+    rt: &R,
+    updates: &mut JwtSourceUpdates,
+    taken: Option<u64>,
+    changed: Option<u64>,
+) -> bool {
+    let is_taken = is_awaited(updates.wait_for(rt, |revision| *revision >= 1), taken);
+    is_awaited(updates.changed(rt), changed) && is_taken
 }
 
 /// Waits end at once where there is another revision, or the source is closed.
 #[test]
 fn waits_for_a_change(rt: HostRuntime) {
-    let (mut source, mut pass, mut desk, stop) = opened(rt, rt.alloc());
-    let updates = source.updated(&mut pass, &mut BoardPlaces::new());
+    let mut held = opened(rt, rt.alloc());
+    let updates = held.source.updated(&mut held.pass, &mut BoardPlaces::new());
     let mut updates = updates.expect(&rt, "updates");
-    let late = source.updated(&mut pass, &mut BoardPlaces::new());
+    let late = held.source.updated(&mut held.pass, &mut BoardPlaces::new());
     let mut late = late.expect(&rt, "updates");
-    assert!(rt; withdraw(rt.alloc(), &mut desk).is_ok());
-    let first = Awaited::Revision(1);
-    assert!(rt; waits(&rt, &mut updates) == (first, first));
-    source.shutdown();
-    assert!(rt; waits(&rt, &mut late) == (Awaited::Closed, first));
-    assert!(rt; waits(&rt, &mut late) == (Awaited::Closed, Awaited::Closed));
+    assert!(rt; withdraw(rt.alloc(), &mut held.desk).is_ok());
+    assert!(rt; waits(&rt, &mut updates, Some(1), Some(1)));
+    held.source.shutdown();
+    assert!(rt; waits(&rt, &mut late, None, Some(1)));
+    assert!(rt; waits(&rt, &mut late, None, None));
     drop(late);
     drop(updates);
-    drop(stop);
-    drop(desk);
-    drop(pass);
-    drop(source);
+    drop(held);
 }
 
 /// The source is closed when its last handle is dropped, and not before.
 #[test]
 fn last_handle_closes(rt: HostRuntime) {
-    let (mut source, pass, desk, stop) = opened(rt, rt.alloc());
+    let Held {
+        mut source,
+        pass,
+        desk,
+        stop,
+    } = opened(rt, rt.alloc());
     let other = source.try_clone().expect(&rt, "a handle");
     drop(source);
     assert!(rt; !stop.is_set());

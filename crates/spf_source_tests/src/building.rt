@@ -2,22 +2,25 @@
 
 ghost use Rattle.std.specs.Prelude.{◌≡◌};
 
-use spf_api::{ClientFault, EndpointError, WorkloadApiError};
+use spf_api::{EndpointError, WorkloadApiError};
 use spf_feed::{NoPicker, NoRecorder, X509SourceError};
 use spf_io::OutOfMemory;
 use spf_job::{Spawner, StepWords};
-use spf_link::{Connector, MemConnector, MemLink};
-use spf_responses::good_link;
+use spf_link::Connector;
 use spf_system::{Clock, Pause};
 use spf_x509_board::{Pass, Places};
 use spiffe::{X509Job, X509Source, X509SourceBuilder};
 use std::alloc::Global;
-use std::sync::Wait;
-use std::test::Fail;
+use std::process::Abort;
+use std::sync::atomic::{AtomicU64, Ordering};
+use std::sync::{Arc, Wait};
 use std::time::Duration;
 
 /// A builder over a connector of that kind, on which nothing is set but plain values.
 pub type Builder<C> = X509SourceBuilder<NoPicker, C, NoRecorder>;
+
+/// The job of such a source.
+pub type BuiltJob<C, R> = X509Job<C, NoPicker, NoRecorder, SummedPause, StepWords, R>;
 
 /// A clock that always gives 999.
 #[derive(Drop)]
@@ -33,91 +36,74 @@ impl Clock for FixedClock {
     }
 }
 
-/// A pause that returns at once.
+/// A pause that returns at once, and adds up the nanoseconds of its delays.
 #[derive(Drop)]
-pub struct NoPause;
+pub struct SummedPause {
+    pub nanos: Arc<AtomicU64>,
+}
 
-impl Pause for NoPause {
+impl Pause for SummedPause {
     ghost use Rattle.std.specs.Prelude.{None};
 
     ghost delays = { λ _. None };
 
     ghost room = { λ _. 0 };
 
-    fn pause(&mut self, _delay: Duration) {}
-}
-
-/// Returns a connector whose first attempt gives this, and whose second a link that gives the item
-/// I1.
-pub fn connector_at_last(
-    alloc: Global,
-    first: Result<MemLink, ClientFault>,
-) -> Result<MemConnector, Fail> {
-    let mut links = vec![in alloc; first]?;
-    links.push(Ok(good_link(alloc)?))?;
-    Ok(MemConnector::new(alloc, links))
-}
-
-/// What a build gave.
-#[derive(Clone, Copy, Debug, PartialEq, Eq)]
-pub enum Outcome {
-    Revision(u64),
-    Source,
-    NoEndpoint,
-    UnsupportedRpc,
-    TimedOut,
-    NoPlace,
-    NoSupervisor,
-    Other,
-}
-
-fn error_of(e: &X509SourceError) -> Outcome {
-    match e {
-        X509SourceError::Source(WorkloadApiError::Endpoint(EndpointError::Parse(_))) => {
-            Outcome::NoEndpoint
-        }
-        X509SourceError::Source(_) => Outcome::Source,
-        X509SourceError::UnsupportedRpc(_) => Outcome::UnsupportedRpc,
-        X509SourceError::InitialSyncTimeout => Outcome::TimedOut,
-        X509SourceError::NoPlace => Outcome::NoPlace,
-        X509SourceError::NoSupervisor => Outcome::NoSupervisor,
-        _ => Outcome::Other,
+    fn pause(&mut self, delay: Duration) {
+        let nanos = u64::try_from(delay.as_nanos()).unwrap_or(u64::MAX);
+        self.nanos.fetch_add(nanos, Ordering::SeqCst);
     }
 }
 
-/// The revision of a source that was built.
-fn revision(source: &X509Source, pass: &mut Pass) -> Outcome
+fn name_of(e: &X509SourceError) -> &'static str {
+    match e {
+        X509SourceError::Source(WorkloadApiError::Endpoint(EndpointError::Parse(_))) => {
+            "no endpoint"
+        }
+        X509SourceError::Source(_) => "an error of the source",
+        X509SourceError::UnsupportedRpc(_) => "an unsupported call",
+        X509SourceError::InitialSyncTimeout => "a timeout",
+        X509SourceError::NoPlace => "no place",
+        X509SourceError::NoSupervisor => "no supervisor",
+        _ => "another error",
+    }
+}
+
+/// Whether the state of a source has revision 0.
+fn is_first(source: &X509Source, pass: &mut Pass) -> bool
     requires { pass.old.book ≡ source.now.board }
 {
     match source.state(pass) {
         Ok(state) => {
-            let revision = state.revision();
+            let found = state.revision() == 0;
             drop(state);
-            Outcome::Revision(revision)
+            found
         }
-        Err(OutOfMemory) => Outcome::Other,
+        Err(OutOfMemory) => false,
     }
 }
 
-/// Returns what a build gives, at the fixed moment.
-pub fn try_build<R, C, W, S, L>(
+/// Returns what a build gives, at the fixed moment, and the nanoseconds of the pauses before it.
+pub fn built<R, C, S, L>(
     rt: R,
     alloc: Global,
     builder: Builder<C>,
-    pause: W,
     spawner: &mut S,
     places: &mut L,
-) -> Outcome
+) -> (&'static str, u64)
 where
-    R: Wait + Copy + Drop,
+    R: Wait + Abort + Copy + Drop,
     C: Connector + Drop,
     C::Link: Drop,
-    W: Pause + Drop,
-    S: Spawner<X509Job<C, NoPicker, NoRecorder, W, StepWords, R>>,
+    S: Spawner<BuiltJob<C, R>>,
     S::Handle: Drop,
     L: Places,
 {
-    match builder.build(
+    let nanos = Arc::new(alloc, AtomicU64::new(0)).expect(&rt, "memory");
+    let pause = SummedPause {
+        nanos: Arc::try_clone(&nanos).expect(&rt, "memory"),
+    };
+    let name = match builder.build(
         rt,
         alloc,
         &mut FixedClock,
@@ -127,16 +113,23 @@ where
         places,
     ) {
         Ok((source, mut pass, handle)) => {
-            let found = revision(&source, &mut pass);
+            let is_first = is_first(&source, &mut pass);
             drop(handle);
             drop(pass);
             drop(source);
-            found
+            if is_first {
+                "revision 0"
+            } else {
+                "another revision"
+            }
         }
         Err(e) => {
-            let found = error_of(&e);
+            let name = name_of(&e);
             drop(e);
-            found
+            name
         }
-    }
+    };
+    let paused = nanos.load(Ordering::SeqCst);
+    drop(nanos);
+    (name, paused)
 }

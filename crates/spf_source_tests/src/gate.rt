@@ -10,55 +10,48 @@ use spf_gate::{Rule, RuleError, parse_rule, write_answer};
 use spf_io::OutOfMemory;
 use spf_x509::X509Context;
 use std::alloc::Global;
+use std::process::Abort;
 use std::sync::Arc;
 use std::test::Fail;
 
 /// What a line of a policy says.
-#[derive(Clone, Copy, Debug, PartialEq, Eq)]
-enum Said {
-    Rule,
-    Nothing,
-    Broken,
-    OutOfMemory,
-}
-
-fn parsed(alloc: Global, line: &str) -> Said {
+fn name_of(alloc: Global, line: &str) -> &'static str {
     match parse_rule(alloc, line) {
         Ok(Some(rule)) => {
             drop(rule);
-            Said::Rule
+            "a rule"
         }
-        Ok(None) => Said::Nothing,
-        Err(RuleError::Broken) => Said::Broken,
-        Err(RuleError::OutOfMemory) => Said::OutOfMemory,
+        Ok(None) => "nothing",
+        Err(RuleError::Broken) => "broken",
+        Err(RuleError::OutOfMemory) => "out of memory",
     }
 }
 
-static LINES: [(&str, Said); 18] = [
-    ("", Said::Nothing),
-    ("# allow it", Said::Nothing),
-    ("allow id spiffe://example.org/w", Said::Rule),
-    ("allow id spiffe://example.org", Said::Rule),
-    ("deny domain example.org", Said::Rule),
-    ("allow prefix spiffe://example.org/w", Said::Rule),
-    ("allow it", Said::Broken),
-    ("allow", Said::Broken),
-    ("Allow domain example.org", Said::Broken),
-    (" allow domain example.org", Said::Broken),
-    ("allow  domain example.org", Said::Broken),
-    ("allow domain  example.org", Said::Broken),
-    ("allow domain example.org ", Said::Broken),
-    ("allow domain example.org\r", Said::Broken),
-    ("allow domain spiffe://example.org", Said::Broken),
-    ("allow domain Example.org", Said::Broken),
-    ("allow prefix spiffe://example.org", Said::Broken),
-    ("---", Said::Broken),
+static LINES: [(&str, &str); 18] = [
+    ("", "nothing"),
+    ("# allow it", "nothing"),
+    ("allow id spiffe://example.org/w", "a rule"),
+    ("allow id spiffe://example.org", "a rule"),
+    ("deny domain example.org", "a rule"),
+    ("allow prefix spiffe://example.org/w", "a rule"),
+    ("allow it", "broken"),
+    ("allow", "broken"),
+    ("Allow domain example.org", "broken"),
+    (" allow domain example.org", "broken"),
+    ("allow  domain example.org", "broken"),
+    ("allow domain  example.org", "broken"),
+    ("allow domain example.org ", "broken"),
+    ("allow domain example.org\r", "broken"),
+    ("allow domain spiffe://example.org", "broken"),
+    ("allow domain Example.org", "broken"),
+    ("allow prefix spiffe://example.org", "broken"),
+    ("---", "broken"),
 ];
 
 #[test]
 fn policy_lines(rt: HostRuntime) {
     for &(line, wanted) in LINES.iter() {
-        assert!(rt; parsed(rt.alloc(), line) == wanted, "{line}");
+        assert!(rt; name_of(rt.alloc(), line) == wanted, "{line}");
     }
 }
 
@@ -76,6 +69,15 @@ static POLICY: [&str; 3] = [
     "deny domain example.org",
     "allow domain other.org",
 ];
+
+/// The rules of the policy.
+fn rules<R: Abort>(rt: &R, alloc: Global) -> Vec<Rule> {
+    let mut rules = Vec::new(alloc);
+    for &line in POLICY.iter() {
+        assert!(rt; adds_rule(alloc, &mut rules, line), "{line}");
+    }
+    rules
+}
 
 /// The context that a payload lays out.
 fn context_of(alloc: Global, payload: &[u8]) -> Option<X509Context> {
@@ -135,31 +137,21 @@ fn state(alloc: Global, is_denied: bool) -> Result<X509SourceState, Fail> {
     Ok(state_of(alloc, snapshot)?)
 }
 
-/// Whether that line answers an ask under these rules, from this state.
-fn is_line(
+/// Whether that line answers an ask under the policy, from a source that was denied or not.
+fn is_answered<R: Abort>(
+    rt: &R,
     alloc: Global,
-    rules: &[Rule],
-    state: &X509SourceState,
-    ask: &str,
-    wanted: &str,
-) -> bool {
-    let mut line = Vec::new(alloc);
-    let written = write_answer(alloc, &mut line, rules, state, ask);
-    let found = written.is_ok() && line.as_slice() == wanted.as_bytes();
-    drop(line);
-    found
-}
-
-/// The same from a source that was denied or not.
-fn is_answered(
-    alloc: Global,
-    rules: &[Rule],
     ask: &str,
     is_denied: bool,
     wanted: &str,
 ) -> Result<bool, Fail> {
     let state = state(alloc, is_denied)?;
-    let found = is_line(alloc, rules, &state, ask, wanted);
+    let rules = rules(rt, alloc);
+    let mut line = Vec::new(alloc);
+    let written = write_answer(alloc, &mut line, rules.as_slice(), &state, ask);
+    let found = written.is_ok() && line.as_slice() == wanted.as_bytes();
+    drop(line);
+    drop(rules);
     drop(state);
     Ok(found)
 }
@@ -208,13 +200,9 @@ static ASKS: [(&str, bool, &str); 10] = [
 
 #[test]
 fn answers(rt: HostRuntime) -> Result<(), Fail> {
-    let mut rules = Vec::new(rt.alloc());
-    for &line in POLICY.iter() {
-        assert!(rt; adds_rule(rt.alloc(), &mut rules, line), "{line}");
-    }
     for &(ask, is_denied, wanted) in ASKS.iter() {
         assert!(rt;
-            is_answered(rt.alloc(), rules.as_slice(), ask, is_denied, wanted)?,
+            is_answered(&rt, rt.alloc(), ask, is_denied, wanted)?,
             "{ask}"
         );
     }

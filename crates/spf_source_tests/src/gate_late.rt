@@ -3,7 +3,7 @@
 ghost use Rattle.std.specs.Prelude.{◌≡◌, ◌≢◌, []};
 ghost use Rattle.spf_history.specs.Lists.{steps_of};
 
-use crate::source::{opened, withdraw};
+use crate::source::{Held, opened, withdraw};
 use spf_gate::gate_serve;
 use spf_io::{Failed, MemSink, Source};
 use spf_x509_board::{BoardPlaces, Desk, Pass};
@@ -123,7 +123,12 @@ const LINES: &str = "no-rule 0 spiffe://example.org/w\nwithdrawn 1 spiffe://exam
 #[test]
 fn denial_between_two_asks(rt: HostRuntime) -> Result<(), Fail> {
     let alloc = rt.alloc();
-    let (mut source, mut pass, desk, stop) = opened(rt, alloc)?;
+    let Held {
+        mut source,
+        mut pass,
+        desk,
+        stop,
+    } = opened(rt, alloc)?;
     let mut out = MemSink::new(alloc, 4096, Vec::new(alloc)).expect(&rt, "a sink");
     let mut input = late_ask(rt, alloc, &mut source, &mut pass, desk);
     let end = gate_serve(alloc, &source, &mut pass, &mut input, &mut out, 100);

@@ -23,17 +23,21 @@ fn is_served<R: Wait + Abort + Copy + Drop>(
     lines: &str,
     wanted: Result<u64, GateError>,
 ) -> Result<bool, Fail> {
-    let (source, mut pass, desk, stop) = opened(rt, alloc)?;
+    let mut held = opened(rt, alloc)?;
     let mut input = source_of(alloc, input).expect(&rt, "an input");
     let mut out = MemSink::new(alloc, 4096, Vec::new(alloc)).expect(&rt, "a sink");
-    let end = gate_serve(alloc, &source, &mut pass, &mut input, &mut out, max_lines);
+    let end = gate_serve(
+        alloc,
+        &held.source,
+        &mut held.pass,
+        &mut input,
+        &mut out,
+        max_lines,
+    );
     let found = out.bytes() == lines.as_bytes() && end == wanted;
     drop(out);
     drop(input);
-    drop(stop);
-    drop(desk);
-    drop(pass);
-    drop(source);
+    drop(held);
     Ok(found)
 }
 

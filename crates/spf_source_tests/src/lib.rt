@@ -1,4 +1,4 @@
-//! Tests of live sources, and of what is answered from them, over doubles.
+//! Tests of live sources: over doubles, on threads and over sockets; and of what stands on them.
 #![tactic(auto)]
 
 #[cfg(test)]
@@ -14,4 +14,8 @@ mod gate_serve;
 #[cfg(test)]
 mod record;
 #[cfg(test)]
+mod runs;
+#[cfg(test)]
 mod source;
+#[cfg(test)]
+mod threads;

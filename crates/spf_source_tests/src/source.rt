@@ -48,45 +48,27 @@ fn first_context(alloc: Global) -> Result<X509Context, Fail> {
     Ok(context?)
 }
 
-/// What a getter returned.
-#[derive(Clone, Copy, Debug, PartialEq, Eq)]
-enum Given {
-    Value,
-    NoSvid,
-    Closed,
-    Other,
-}
-
-fn given_of(e: &X509SourceError) -> Given {
+fn name_of(e: &X509SourceError) -> &'static str {
     match e {
-        X509SourceError::NoSuitableSvid => Given::NoSvid,
-        X509SourceError::Closed => Given::Closed,
-        _ => Given::Other,
+        X509SourceError::NoSuitableSvid => "no SVID",
+        X509SourceError::Closed => "closed",
+        _ => "another error",
     }
 }
 
-fn outcome_of<T: Drop>(answer: Result<T, X509SourceError>) -> Given {
+/// The name of what a getter returned.
+fn name_of_answer<T: Drop>(answer: Result<T, X509SourceError>) -> &'static str {
     match answer {
         Ok(value) => {
             drop(value);
-            Given::Value
+            "a value"
         }
         Err(e) => {
-            let given = given_of(&e);
+            let name = name_of(&e);
             drop(e);
-            given
+            name
         }
     }
-}
-
-/// What is given of a context, an SVID at that moment, and the bundles.
-fn gets(source: &X509Source, pass: &mut Pass, now: Option<i64>) -> (Given, Given, Given)
-    requires { pass.old.book ≡ source.now.board }
-    ensures { pass.new.book ≡ pass.old.book }
-{
-    let context = outcome_of(source.x509_context(pass));
-    let svid = outcome_of(source.svid(pass, now));
-    (context, svid, outcome_of(source.bundle_set(pass)))
 }
 
 /// Whether something was found.
@@ -101,25 +83,48 @@ fn is_found<T: Drop>(answer: Result<Option<T>, OutOfMemory>) -> bool {
     }
 }
 
-/// Whether there is an SVID at 999, and a bundle of the trust domain.
-fn tries(source: &X509Source, pass: &mut Pass, trust_domain: &TrustDomain) -> (bool, bool)
+/// Whether a source gives at a moment this in place of its context and its bundles, and that in
+/// place of an SVID; and accordingly finds an SVID and a bundle of the trust domain, and is
+/// healthy.
+fn gives(
+    source: &X509Source,
+    pass: &mut Pass,
+    domain: &TrustDomain,
+    now: i64,
+    wanted: &str,
+    wanted_svid: &str,
+) -> bool
     requires { pass.old.book ≡ source.now.board }
     ensures { pass.new.book ≡ pass.old.book }
 {
-    let svid = is_found(source.try_svid(pass, Some(999)));
-    (
-        svid,
-        is_found(source.try_bundle_for_trust_domain(pass, trust_domain)),
-    )
+    let is_context = name_of_answer(source.x509_context(pass)) == wanted;
+    let is_svid = name_of_answer(source.svid(pass, Some(now))) == wanted_svid;
+    let is_bundles = name_of_answer(source.bundle_set(pass)) == wanted;
+    let has_svid = is_found(source.try_svid(pass, Some(now)));
+    let has_bundle = is_found(source.try_bundle_for_trust_domain(pass, domain));
+    let is_healthy = source.is_healthy(pass, Some(now));
+    let is_usable = wanted_svid == "a value";
+    let is_open = wanted == "a value";
+    is_context
+        && is_svid
+        && is_bundles
+        && has_svid == is_usable
+        && is_healthy == is_usable
+        && has_bundle == is_open
 }
 
-/// An open source, with the closer that sets its mark, and a pass of its board.
-pub(crate) fn opened<R: Wait + Abort + Copy + Drop>(
-    rt: R,
-    alloc: Global,
-) -> Result<(X509Source, Pass, Desk<R>, StopFlag), Fail>
-    ensures pass { IfOk result (λ r. r.1.book ≡ r.0.board) }
-    ensures step { IfOk result (λ r. steps_of r.2.list ≢ []) }
+/// An open source, a pass of its board, what publishes on it, and the mark that its closer sets.
+#[derive(Drop)]
+pub(crate) struct Held<R: Wait + Drop> {
+    pub(crate) source: X509Source,
+    pub(crate) pass: Pass,
+    pub(crate) desk: Desk<R>,
+    pub(crate) stop: StopFlag,
+}
+
+pub(crate) fn opened<R: Wait + Abort + Copy + Drop>(rt: R, alloc: Global) -> Result<Held<R>, Fail>
+    ensures pass { IfOk result (λ r. r.pass.book ≡ r.source.board) }
+    ensures step { IfOk result (λ r. steps_of r.desk.list ≢ []) }
 {
     let step = accepting(alloc, first_context(alloc)?)?;
     let (desk, pass) = open(alloc, rt, step)?;
@@ -130,45 +135,53 @@ pub(crate) fn opened<R: Wait + Abort + Copy + Drop>(
     let flag = stop.try_clone().expect(&rt, "a flag");
     let bell = Bell::new(alloc).expect(&rt, "a bell");
     let source = X509Source::over(alloc, desk.front(), caller, flag, bell);
-    Ok((source.expect(&rt, "a source"), pass, desk, stop))
-}
-
-/// Whether an open source gives its values, whose SVID has expired at 1000.
-fn gives_values(source: &X509Source, pass: &mut Pass, domain: &TrustDomain) -> bool
-    requires { pass.old.book ≡ source.now.board }
-    ensures { pass.new.book ≡ pass.old.book }
-{
-    gets(source, pass, Some(999)) == (Given::Value, Given::Value, Given::Value)
-        && gets(source, pass, Some(1000)) == (Given::Value, Given::NoSvid, Given::Value)
-        && tries(source, pass, domain) == (true, true)
-        && source.is_healthy(pass, Some(999))
-        && !source.is_healthy(pass, Some(1000))
-}
-
-/// Whether a source gives nothing because it is closed.
-fn gives_nothing(source: &X509Source, pass: &mut Pass, domain: &TrustDomain) -> bool
-    requires { pass.old.book ≡ source.now.board }
-    ensures { pass.new.book ≡ pass.old.book }
-{
-    gets(source, pass, Some(999)) == (Given::Closed, Given::Closed, Given::Closed)
-        && tries(source, pass, domain) == (false, false)
-        && !source.is_healthy(pass, Some(999))
+    Ok(Held {
+        source: source.expect(&rt, "a source"),
+        pass,
+        desk,
+        stop,
+    })
 }
 
 /// What the getters return before and after a shutdown.
 #[test]
 fn after_shutdown(rt: HostRuntime) -> Result<(), Fail> {
-    let (mut source, mut pass, desk, stop) = opened(rt, rt.alloc())?;
+    let mut held = opened(rt, rt.alloc())?;
     let domain = TrustDomain::new(rt.alloc(), "example.org").expect(&rt, "a trust domain");
-    assert!(rt; gives_values(&source, &mut pass, &domain));
-    source.shutdown();
-    assert!(rt; stop.is_set());
-    assert!(rt; gives_nothing(&source, &mut pass, &domain));
+    assert!(rt;
+        gives(
+            &held.source,
+            &mut held.pass,
+            &domain,
+            999,
+            "a value",
+            "a value"
+        )
+    );
+    assert!(rt;
+        gives(
+            &held.source,
+            &mut held.pass,
+            &domain,
+            1000,
+            "a value",
+            "no SVID"
+        )
+    );
+    held.source.shutdown();
+    assert!(rt; held.stop.is_set());
+    assert!(rt;
+        gives(
+            &held.source,
+            &mut held.pass,
+            &domain,
+            999,
+            "closed",
+            "closed"
+        )
+    );
     drop(domain);
-    drop(stop);
-    drop(desk);
-    drop(pass);
-    drop(source);
+    drop(held);
     Ok(())
 }
 
@@ -230,15 +243,12 @@ fn lacks_place(source: &X509Source, pass: &mut Pass) -> bool
 /// Updates go on after the source is closed. Where there is no place there are none.
 #[test]
 fn updates_of_a_source(rt: HostRuntime) -> Result<(), Fail> {
-    let (mut source, mut pass, desk, stop) = opened(rt, rt.alloc())?;
-    assert!(rt; follows_first(&source, &mut pass, false));
-    source.shutdown();
-    assert!(rt; follows_first(&source, &mut pass, true));
-    assert!(rt; lacks_place(&source, &mut pass));
-    drop(stop);
-    drop(desk);
-    drop(pass);
-    drop(source);
+    let mut held = opened(rt, rt.alloc())?;
+    assert!(rt; follows_first(&held.source, &mut held.pass, false));
+    held.source.shutdown();
+    assert!(rt; follows_first(&held.source, &mut held.pass, true));
+    assert!(rt; lacks_place(&held.source, &mut held.pass));
+    drop(held);
     Ok(())
 }
 
@@ -250,62 +260,57 @@ pub(crate) fn withdraw<R: Wait + Drop>(alloc: Global, desk: &mut Desk<R>) -> Res
     publish_on(alloc, desk, Step::Deny { reason })
 }
 
-/// What a wait for a revision returned.
-#[derive(Clone, Copy, Debug, PartialEq, Eq)]
-enum Awaited {
-    Revision(u64),
-    Closed,
-    Other,
-}
-
-fn awaited_of(answer: Result<u64, X509SourceError>) -> Awaited {
+/// Whether a wait returned that revision, or Closed where there is none.
+fn is_awaited(answer: Result<u64, X509SourceError>, wanted: Option<u64>) -> bool {
     match answer {
-        Ok(revision) => Awaited::Revision(revision),
+        Ok(revision) => wanted == Some(revision),
         Err(e) => {
             let is_closed = matches!(&e, X509SourceError::Closed);
             drop(e);
-            if is_closed {
-                Awaited::Closed
-            } else {
-                Awaited::Other
-            }
+            is_closed && wanted.is_none()
         }
     }
 }
 
-/// What waits return: `wait_for` with the revisions from 1 on, and `changed`.
-fn waits<R: Wait + Clock>(rt: &R, updates: &mut X509SourceUpdates) -> (Awaited, Awaited) {
-    let taken = awaited_of(updates.wait_for(rt, |revision| *revision >= 1));
-    (taken, awaited_of(updates.changed(rt)))
+/// Whether waits return that: `wait_for` with the revisions from 1 on, and `changed`.
+fn waits<R: Wait + Clock>(
+    rt: &R,
+    updates: &mut X509SourceUpdates,
+    taken: Option<u64>,
+    changed: Option<u64>,
+) -> bool {
+    let is_taken = is_awaited(updates.wait_for(rt, |revision| *revision >= 1), taken);
+    is_awaited(updates.changed(rt), changed) && is_taken
 }
 
 /// Waits end at once where there is another revision, or the source is closed.
 #[test]
 fn waits_for_a_change(rt: HostRuntime) -> Result<(), Fail> {
-    let (mut source, mut pass, mut desk, stop) = opened(rt, rt.alloc())?;
-    let updates = source.updated(&mut pass, &mut BoardPlaces::new());
+    let mut held = opened(rt, rt.alloc())?;
+    let updates = held.source.updated(&mut held.pass, &mut BoardPlaces::new());
     let mut updates = updates.expect(&rt, "updates");
-    let late = source.updated(&mut pass, &mut BoardPlaces::new());
+    let late = held.source.updated(&mut held.pass, &mut BoardPlaces::new());
     let mut late = late.expect(&rt, "updates");
-    assert!(rt; withdraw(rt.alloc(), &mut desk).is_ok());
-    let first = Awaited::Revision(1);
-    assert!(rt; waits(&rt, &mut updates) == (first, first));
-    source.shutdown();
-    assert!(rt; waits(&rt, &mut late) == (Awaited::Closed, first));
-    assert!(rt; waits(&rt, &mut late) == (Awaited::Closed, Awaited::Closed));
+    assert!(rt; withdraw(rt.alloc(), &mut held.desk).is_ok());
+    assert!(rt; waits(&rt, &mut updates, Some(1), Some(1)));
+    held.source.shutdown();
+    assert!(rt; waits(&rt, &mut late, None, Some(1)));
+    assert!(rt; waits(&rt, &mut late, None, None));
     drop(late);
     drop(updates);
-    drop(stop);
-    drop(desk);
-    drop(pass);
-    drop(source);
+    drop(held);
     Ok(())
 }
 
 /// The source is closed when its last handle is dropped, and not before.
 #[test]
 fn last_handle_closes(rt: HostRuntime) -> Result<(), Fail> {
-    let (mut source, pass, desk, stop) = opened(rt, rt.alloc())?;
+    let Held {
+        mut source,
+        pass,
+        desk,
+        stop,
+    } = opened(rt, rt.alloc())?;
     let other = source.try_clone().expect(&rt, "a handle");
     drop(source);
     assert!(rt; !stop.is_set());

@@ -1,7 +1,0 @@
-//! Tests of bodies of gRPC responses, which need only public calls.
-#![tactic(auto)]
-
-#[cfg(test)]
-mod bodies;
-#[cfg(test)]
-mod watching;

@@ -1,5 +1,0 @@
-use Rattle.std.proofs.Common.{◌≡◌}
-use Rattle.spf_thread_tests.proofs.live.reads.Given as goal
-
-abbrev pub invariant-loop : goal.invariant-loop
-invariant-loop l = (l.pass.book ≡ l.source.board) × (l.pass.book ≡ l.initial.pass.book)
