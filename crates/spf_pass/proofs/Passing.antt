@@ -14,7 +14,7 @@ sees_on old mid new before after = record {
   entered = begins_trans old.entered mid.entered new.entered before.entered after.entered;
 }
 
-sees_self : {S : Type 0} (pass : PassView S Mark) → SeesNoLess pass pass
+pub sees_self : {S : Type 0} (pass : PassView S Mark) → SeesNoLess pass pass
 sees_self pass = record {
   book = refl;
   seen = begins_self pass.seen;

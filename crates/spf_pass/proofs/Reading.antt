@@ -4,7 +4,7 @@ use Rattle.spf_board.specs.Passes.{PassView}
 use Rattle.spf_close.specs.Marks.{Mark}
 use Rattle.spf_pass.proofs.Passing.{reads_later}
 use Rattle.spf_pass.specs.Passing.{SeesNoLess}
-use Rattle.spf_pass.specs.Showing.{IfClosed, Showing, StaysBy}
+use Rattle.spf_pass.specs.Showing.{HasClosedCauseBy, IfClosed, Showing, StaysBy}
 use Rattle.spf_pass.specs.Showing.{Told, ToldClosed, ToldMemory, ToldNoPlace, ToldOther}
 
 -- more is known where the source is closed
@@ -21,3 +21,8 @@ module _ {S T E : Type 0} (showing : Showing S T E) (legal : List S → Type 0) 
   stays_later cell revision old mid new e before stays =
       if_closed (showing.told e)
       (λ known. (known.0, known.1, reads_later legal old mid new before known.2)) stays
+
+  pub cause_of : (cell revision : ℕ) (old new : PassView S Mark) (e : E)
+      → StaysBy showing legal cell revision old new e → HasClosedCauseBy showing cell new e
+  cause_of cell revision old new e stays =
+      if_closed (showing.told e) (λ known. known.0) stays

@@ -197,10 +197,10 @@ impl<K: Shows> Pass<K> {
             Ok(memory) => memory,
             Err(OutOfMemory) => return Err(PlaceFault::OutOfMemory),
         };
-        match self.spares.pop() {
-            Some(reader) => Ok(Pass::new(self.alloc, reader, memory, Vec::new(self.alloc))),
-            None => Err(PlaceFault::Refused),
-        }
+        let Some(reader) = self.spares.pop() else {
+            return Err(PlaceFault::Refused);
+        };
+        Ok(Pass::new(self.alloc, reader, memory, Vec::new(self.alloc)))
     }
 
     /// Gives its places to a giver of the same board, its spare ones only where the giver has none.
@@ -211,14 +211,19 @@ impl<K: Shows> Pass<K> {
     {
         let Pass {
             reader,
-            memory: _memory,
-            base: _base,
+            memory,
+            base,
             spares,
-            closed: _closed,
+            closed,
             alloc: _,
         } = self;
+        drop(memory);
+        drop(base);
+        drop(closed);
         if giver.spares.is_empty() {
             giver.spares = spares;
+        } else {
+            drop(spares);
         }
         if let Some(reader) = reader {
             giver.take_back(reader);
