@@ -4,7 +4,7 @@ use Rattle.std.proofs.Common.{◌++◌, length, take, Some, None, Err, nat_lt, c
 use Rattle.std.proofs.Common.{⊎_elim, arith}
 use Rattle.std.specs.Prelude.{codes}
 use Rattle.std.proofs.lemmas.Bool.{ltb-true}
-use Rattle.std.proofs.lemmas.Str.{IsUtf8-from_ascii, IsUtf8-nil, is_utf8-from_IsUtf8}
+use Rattle.std.proofs.lemmas.Str.{IsUtf8-from_ascii, IsUtf8-nil}
 use Rattle.std.specs.Option.{option_map}
 use Rattle.std.specs.Str.{IsAscii, IsUtf8}
 use Rattle.std.proofs.lemmas.List.Elements.{All-nil, All-cons}
@@ -25,6 +25,7 @@ use Rattle.spf_api.specs.Payload.{IsRead, Payload}
 use Rattle.spf_api.proofs.Spelled.{chosen}
 use Rattle.spf_api.specs.Reading.{number_at, byte_field_at, text_field_at, svid_entry_at}
 use Rattle.spf_api.specs.Reading.{bundle_entry_at, context_at}
+use Rattle.spf_api.proofs.Lists.{lists, svid_entries}
 use Rattle.spf_api.proofs.Payloads.{laid_is_read, none_laid}
 
 -- a digit of a text in hexadecimal
@@ -134,23 +135,33 @@ i1_laid = record { fits = i1_fits; octets = sym i1_text }
 i1_read : IsRead kind.Context i1_payload (Some (response.Context i1))
 i1_read = laid_is_read kind.Context i1_payload (response.Context i1) i1_laid
 
+-- the payload of I1 is its SVIDs, then two counts of no entries
+i1_shorter : take 281 i1_payload
+    ≡ list_text svid_entry_text i1.svids ++ octets (codes "00000000000000")
+unfolding octets digit root1 leaf1 key1 entry1 context1 i1 i1_payload list_text
+    svid_entry_text field_text
+i1_shorter = refl
+
+i1_and_one : i1_payload ++ 0 ∷ []
+    ≡ list_text svid_entry_text i1.svids ++ octets (codes "000000000000000000")
+unfolding octets digit root1 leaf1 key1 entry1 context1 i1 i1_payload list_text
+    svid_entry_text field_text
+i1_and_one = refl
+
 -- without its last octet it lays out nothing
 i1_cut : context_at (take 281 i1_payload) ≡ None
-unfolding octets digit root1 leaf1 key1 i1_payload context_at svid_entry_at bundle_entry_at
-    text_field_at byte_field_at number_at
+unfolding octets digit context_at byte_field_at number_at
 i1_cut = rw (
-  is_utf8-from_IsUtf8 (codes "spiffe://example.org/w") utf8_id,
-  is_utf8-from_IsUtf8 [] IsUtf8-nil,
+  i1_shorter,
+  (lists svid_entries).again i1.svids (octets (codes "00000000000000")) i1_fits.svids,
 ) refl
 
 i1_longer : context_at (i1_payload ++ 0 ∷ []) ≡ None
-unfolding octets digit root1 leaf1 key1 i1_payload context_at svid_entry_at bundle_entry_at
-    text_field_at byte_field_at number_at
-i1_longer =
-    rw (
-      is_utf8-from_IsUtf8 (codes "spiffe://example.org/w") utf8_id,
-      is_utf8-from_IsUtf8 [] IsUtf8-nil,
-    ) refl
+unfolding octets digit context_at byte_field_at number_at
+i1_longer = rw (
+  i1_and_one,
+  (lists svid_entries).again i1.svids (octets (codes "000000000000000000")) i1_fits.svids,
+) refl
 
 -- the octets `ffffffff` are a count without entries
 far_count : context_at (octets (codes "ffffffff")) ≡ None
