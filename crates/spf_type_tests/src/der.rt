@@ -203,9 +203,9 @@ fn ca_of(view: &CertView<'_>) -> Option<bool> {
 /// The URI of a certificate that names one alone.
 fn only_uri<'a>(view: &CertView<'a>) -> Option<&'a str> {
     let mut uris = read_san_uri_views(contents(view, &SUBJECT_ALT_NAME)?)?;
-    let first = uris.next_uri()?;
+    let first = uris.next_uri();
     match uris.next_uri() {
-        None => Some(first),
+        None => first,
         Some(_) => None,
     }
 }
@@ -242,6 +242,11 @@ fn is_view_refused(alloc: Global, der: &[u8]) -> bool {
     }
 }
 
+/// Whether they begin with no certificate to read and none to view.
+fn is_refused_twice(alloc: Global, der: &[u8]) -> bool {
+    is_view_refused(alloc, der) && is_refused(alloc, der)
+}
+
 #[test]
 fn views(rt: HostRuntime) -> Result<(), Fail> {
     let alloc = rt.alloc();
@@ -249,10 +254,11 @@ fn views(rt: HostRuntime) -> Result<(), Fail> {
     assert!(rt; is_leaf_viewed(alloc, leaf.as_slice()));
     for length in 1..=141usize {
         leaf.truncate(141 - length);
-        assert!(rt; is_view_refused(alloc, leaf.as_slice()), "{length} fewer");
-        assert!(rt; is_refused(alloc, leaf.as_slice()), "{length} fewer");
+        assert!(rt; is_refused_twice(alloc, leaf.as_slice()), "{length} fewer");
     }
-    assert!(rt; leaf.is_empty());
+    let empty = leaf.is_empty();
+    drop(leaf);
+    assert!(rt; empty);
     Ok(())
 }
 
@@ -273,10 +279,10 @@ fn is_broken(alloc: Global, old: &str, new: &str) -> Result<bool, Fail> {
     Ok(is_refused(alloc, der.as_slice()))
 }
 
-/// What is read of ROOT1 with a serial of two octets.
-fn read_long_serial(alloc: Global) -> Result<Option<(i64, usize, usize)>, Fail> {
+/// Whether ROOT1 with a serial of two octets is read.
+fn is_long_serial_read(alloc: Global) -> Result<bool, Fail> {
     let der = edited(alloc, "ROOT1", "3046303a020101", "3047303b02020001")?;
-    Ok(read(alloc, der.as_slice()))
+    Ok(read(alloc, der.as_slice()) == Some((1000, 0, 73)))
 }
 
 #[test]
@@ -284,7 +290,7 @@ fn hostile_certificates(rt: HostRuntime) -> Result<(), Fail> {
     for &(old, new) in BROKEN {
         assert!(rt; is_broken(rt.alloc(), old, new)?, "{new}");
     }
-    assert!(rt; read_long_serial(rt.alloc())? == Some((1000, 0, 73)));
+    assert!(rt; is_long_serial_read(rt.alloc())?);
     Ok(())
 }
 

@@ -84,8 +84,11 @@ fn is_domain(alloc: Global, domain: &TrustDomain, name: &str) -> bool {
 #[test]
 fn trust_domain(rt: HostRuntime) -> Result<(), Fail> {
     let other = TrustDomain::new(rt.alloc(), "spiffe://other.org")?;
-    assert!(rt; is_domain(rt.alloc(), &other, "other.org"));
-    assert!(rt; is_owned_as(rt.alloc(), "other.org", &other)?);
+    let same = is_domain(rt.alloc(), &other, "other.org");
+    let owned = is_owned_as(rt.alloc(), "other.org", &other);
+    drop(other);
+    assert!(rt; same);
+    assert!(rt; owned?);
     Ok(())
 }
 
@@ -112,10 +115,13 @@ fn equals_its_copies(alloc: Global, id: &SpiffeId) -> bool {
 #[test]
 fn spiffe_id(rt: HostRuntime) -> Result<(), Fail> {
     let id = SpiffeId::new(rt.alloc(), "spiffe://example.org/w")?;
-    assert!(rt; has_parts(&id, "spiffe://example.org/w", "example.org", "/w"));
-    assert!(rt; equals_its_copies(rt.alloc(), &id));
+    let parted = has_parts(&id, "spiffe://example.org/w", "example.org", "/w");
+    let copied = equals_its_copies(rt.alloc(), &id);
     shared(&id);
+    drop(id);
     shared(&SpiffeIdError::Empty);
+    assert!(rt; parted);
+    assert!(rt; copied);
     Ok(())
 }
 

@@ -37,6 +37,7 @@ fn memory_source(rt: HostRuntime) -> Result<(), Fail> {
         assert!(rt; source.read(&mut buf) == result);
         assert!(rt; buf[0] == first);
     }
+    drop(source);
     assert!(rt; buf[1] == 4);
     Ok(())
 }
@@ -62,7 +63,9 @@ fn memory_sink(rt: HostRuntime) -> Result<(), Fail> {
     for &(piece, result) in PUTS {
         assert!(rt; sink.put(piece.as_bytes()) == result, "{piece}");
     }
-    assert!(rt; sink.bytes() == b"abc".as_slice());
+    let held = sink.bytes() == b"abc".as_slice();
+    drop(sink);
+    assert!(rt; held);
     Ok(())
 }
 

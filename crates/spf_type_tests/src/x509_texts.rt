@@ -1,6 +1,6 @@
 //! The texts of the errors of certificates, keys, SVIDs and bundles, and of the extensions.
 
-use crate::shown::has_text;
+use crate::shown::{assert_texts, has_text, is_shown};
 use spf_der::{Pkcs8DecodeError, X509ParseError, X509ParseKind};
 use spf_id::SpiffeIdError;
 use spf_io::Text;
@@ -50,14 +50,12 @@ const CERTIFICATE_TEXTS: [(CertificateError, &str); 9] = [
 #[test]
 fn certificate_error_texts(rt: HostRuntime) -> Result<(), Fail> {
     let alloc = rt.alloc();
-    for (error, text) in CERTIFICATE_TEXTS.iter() {
-        assert!(rt; has_text(alloc, error, text), "{text}");
-    }
+    let names = CertificateError::UnexpectedExtension(Text::copy_of(alloc, "Names")?);
+    assert!(rt; is_shown(alloc, names, "unexpected X.509 extension: Names"));
     let parse = X509ParseError::new(X509ParseKind::InvalidCertificate);
     let parse = CertificateError::ParseX509Certificate(parse);
-    assert!(rt; has_text(alloc, &parse, "failed parsing X.509 certificate"));
-    let names = CertificateError::UnexpectedExtension(Text::copy_of(alloc, "Names")?);
-    assert!(rt; has_text(alloc, &names, "unexpected X.509 extension: Names"));
+    assert!(rt; is_shown(alloc, parse, "failed parsing X.509 certificate"));
+    assert_texts(&rt, alloc, &CERTIFICATE_TEXTS);
     Ok(())
 }
 
@@ -106,14 +104,12 @@ const SVID_TEXTS: [(X509SvidError, &str); 11] = [
 #[test]
 fn svid_error_texts(rt: HostRuntime) -> Result<(), Fail> {
     let alloc = rt.alloc();
-    for (error, text) in SVID_TEXTS.iter() {
-        assert!(rt; has_text(alloc, error, text), "{text}");
-    }
     let usage = X509SvidError::UnparseableExtension {
         extension: Text::copy_of(alloc, "KeyUsage")?,
     };
     let text = "KeyUsage extension is present but could not be parsed";
-    assert!(rt; has_text(alloc, &usage, text));
+    assert!(rt; is_shown(alloc, usage, text));
+    assert_texts(&rt, alloc, &SVID_TEXTS);
     Ok(())
 }
 
@@ -148,12 +144,8 @@ const BUNDLE_TEXTS: [(X509BundleError, &str); 2] = [
 /// The texts of the other errors, and of the extensions.
 #[test]
 fn other_texts(rt: HostRuntime) {
-    for (error, text) in KEY_TEXTS.iter() {
-        assert!(rt; has_text(rt.alloc(), error, text), "{text}");
-    }
-    for (error, text) in BUNDLE_TEXTS.iter() {
-        assert!(rt; has_text(rt.alloc(), error, text), "{text}");
-    }
+    assert_texts(&rt, rt.alloc(), &KEY_TEXTS);
+    assert_texts(&rt, rt.alloc(), &BUNDLE_TEXTS);
     for &(extension, dotted) in EXTENSIONS {
         assert!(rt; is_dotted(rt.alloc(), extension, dotted), "{dotted}");
     }

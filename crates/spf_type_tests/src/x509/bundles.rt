@@ -1,7 +1,7 @@
 //! Bundles, bundle sets and contexts.
 
 use super::URI;
-use crate::shown::is_same;
+use crate::shown::{is_refused, is_same};
 use crate::written::{Kind, ROOT, written};
 use spf_fixtures::octets;
 use spf_id::TrustDomain;
@@ -29,10 +29,9 @@ fn are_indices(found: Result<Vec<usize>, OutOfMemory>, wanted: &[usize]) -> bool
     }
 }
 
-/// Whether the authority is added.
-fn adds(alloc: Global, bundle: &mut X509Bundle, name: &str) -> Result<bool, Fail> {
-    let authority = octets(alloc, name)?;
-    Ok(bundle.add_authority(authority.as_slice()).is_ok())
+/// Whether the bundle of two authorities refuses what is no certificate.
+fn refuses(bundle: &mut X509Bundle) -> bool {
+    is_refused(bundle.add_authority(b"\0")) && bundle.authorities().len() == 2
 }
 
 /// Whether the bundle of `example.org` has three authorities, which stand in order.
@@ -42,13 +41,21 @@ fn is_three(alloc: Global, bundle: &X509Bundle) -> bool {
         && are_indices(sorted_authorities(alloc, bundle), &[0, 1, 2])
 }
 
+/// Whether the bundle takes ROOT3, and then has three authorities.
+fn grows(alloc: Global, bundle: &mut X509Bundle) -> Result<bool, Fail> {
+    let authority = octets(alloc, "ROOT3")?;
+    let refused = is_refused(bundle.add_authority(authority.as_slice()));
+    Ok(!refused && is_three(alloc, bundle))
+}
+
 #[test]
 fn bundle(rt: HostRuntime) -> Result<(), Fail> {
     let mut bundle = two_roots(rt.alloc())?;
-    assert!(rt; bundle.add_authority(b"\0").is_err());
-    assert!(rt; bundle.authorities().len() == 2);
-    assert!(rt; adds(rt.alloc(), &mut bundle, "ROOT3")?);
-    assert!(rt; is_three(rt.alloc(), &bundle));
+    let refused = refuses(&mut bundle);
+    let grown = grows(rt.alloc(), &mut bundle);
+    drop(bundle);
+    assert!(rt; refused);
+    assert!(rt; grown?);
     Ok(())
 }
 
@@ -72,22 +79,35 @@ fn listed_roots(alloc: Global) -> Result<X509Bundle, Fail> {
 /// Whether the bundle equals the listed one, which equals its copy.
 fn equals_listed(alloc: Global, parsed: &X509Bundle) -> Result<bool, Fail> {
     let listed = listed_roots(alloc)?;
-    Ok(*parsed == listed && is_same(listed.try_clone(alloc), &listed))
+    let equal = *parsed == listed && is_same(listed.try_clone(alloc), &listed);
+    drop(listed);
+    Ok(equal)
 }
 
 #[test]
 fn bundles_equal_their_copies(rt: HostRuntime) -> Result<(), Fail> {
     let parsed = two_roots(rt.alloc())?;
-    assert!(rt; equals_listed(rt.alloc(), &parsed)?);
+    let equal = equals_listed(rt.alloc(), &parsed);
+    drop(parsed);
+    assert!(rt; equal?);
     Ok(())
 }
 
-/// Whether the bundle of ROOT1 and ROOT2 is parsed from that trust domain and those octets.
-fn is_parsed_from(alloc: Global, name: &str, authorities: &str) -> Result<bool, Fail> {
-    let der = octets(alloc, authorities)?;
+/// Whether the bundle is parsed from that trust domain and those octets.
+fn is_from(alloc: Global, bundle: &X509Bundle, name: &str, der: &str) -> Result<bool, Fail> {
+    let der = octets(alloc, der)?;
     let domain = TrustDomain::new(alloc, name)?;
+    let parsed = bundle.is_parsed_from(&domain, der.as_slice());
+    drop(domain);
+    Ok(parsed)
+}
+
+/// The same of the bundle of ROOT1 and ROOT2.
+fn is_parsed_from(alloc: Global, name: &str, authorities: &str) -> Result<bool, Fail> {
     let bundle = two_roots(alloc)?;
-    Ok(bundle.is_parsed_from(&domain, der.as_slice()))
+    let parsed = is_from(alloc, &bundle, name, authorities);
+    drop(bundle);
+    parsed
 }
 
 /// A trust domain and octets, and whether the bundle is parsed from them.
@@ -130,35 +150,53 @@ fn three_bundles(alloc: Global) -> Result<X509BundleSet, Fail> {
 }
 
 /// Whether that bundle is returned.
-fn is_given<E: Drop>(found: Result<Option<Arc<X509Bundle>>, E>, wanted: &X509Bundle) -> bool {
+fn is_given(found: Result<Option<Arc<X509Bundle>>, OutOfMemory>, wanted: &X509Bundle) -> bool {
     match found {
-        Ok(Some(bundle)) => *bundle == *wanted,
-        _ => false,
+        Ok(Some(bundle)) => {
+            let given = *bundle == *wanted;
+            drop(bundle);
+            given
+        }
+        Ok(None) => false,
+        Err(OutOfMemory) => false,
     }
 }
 
-/// Whether both calls give that bundle for its trust domain.
-fn gives(set: &X509BundleSet, bundle: &X509Bundle) -> bool {
-    is_given(set.get(bundle.trust_domain()), bundle)
-        && is_given(
-            set.bundle_for_trust_domain(&mut (), bundle.trust_domain()),
-            bundle,
-        )
+/// Whether the set lends that bundle for its trust domain.
+fn lends(set: &X509BundleSet, wanted: &X509Bundle) -> bool {
+    match set.get_ref(wanted.trust_domain()) {
+        Some(bundle) => **bundle == *wanted,
+        None => false,
+    }
 }
 
-/// Whether the third bundle is that of its trust domain.
-fn gives_third(alloc: Global, set: &X509BundleSet) -> Result<bool, Fail> {
-    let third = one_root(alloc, "example.org", 3)?;
-    Ok(gives(set, &third))
+/// Whether the bundle of that trust domain has the authority of that serial.
+fn holds(alloc: Global, set: &X509BundleSet, name: &str, serial: u8) -> Result<bool, Fail> {
+    let wanted = one_root(alloc, name, serial)?;
+    let domain = wanted.trust_domain();
+    let held = lends(set, &wanted)
+        && is_given(set.get(domain), &wanted)
+        && is_given(set.bundle_for_trust_domain(&mut (), domain), &wanted);
+    drop(wanted);
+    Ok(held)
+}
+
+/// Whether the set has two bundles, no more after it is extended with none, and equals its copy.
+fn is_two(alloc: Global, set: &mut X509BundleSet) -> bool {
+    set.extend(Vec::new(alloc)).is_ok()
+        && set.len() == 2
+        && !set.is_empty()
+        && is_same(set.try_clone(alloc), set)
 }
 
 #[test]
 fn bundle_set(rt: HostRuntime) -> Result<(), Fail> {
     let mut set = three_bundles(rt.alloc())?;
-    assert!(rt; set.extend(Vec::new(rt.alloc())).is_ok());
-    assert!(rt; set.len() == 2 && !set.is_empty());
-    assert!(rt; gives_third(rt.alloc(), &set)?);
-    assert!(rt; is_same(set.try_clone(rt.alloc()), &set));
+    let two = is_two(rt.alloc(), &mut set);
+    let held = holds(rt.alloc(), &set, "example.org", 3);
+    drop(set);
+    assert!(rt; two);
+    assert!(rt; held?);
     Ok(())
 }
 
@@ -179,31 +217,29 @@ fn shared_root(alloc: Global, name: &str, serial: u8) -> Result<Arc<X509Bundle>,
     Ok(Arc::new(alloc, bundle)?)
 }
 
-fn shared_set(alloc: Global) -> Result<X509BundleSet, Fail> {
-    let mut set = X509BundleSet::new(alloc);
+/// Adds the bundles of that table to the set.
+fn add_shared(alloc: Global, set: &mut X509BundleSet) -> Result<(), Fail> {
     for &(name, serial) in SHARED {
         let bundle = shared_root(alloc, name, serial)?;
         set.add_shared(bundle)?;
     }
-    Ok(set)
+    Ok(())
 }
 
-/// Whether the bundle of that trust domain has the authority of that serial.
-fn holds(alloc: Global, set: &X509BundleSet, name: &str, serial: u8) -> Result<bool, Fail> {
-    let wanted = one_root(alloc, name, serial)?;
-    match set.get_ref(wanted.trust_domain()) {
-        Some(bundle) => Ok(**bundle == wanted),
-        None => Ok(false),
-    }
+/// Whether the set, which is empty, has four bundles once all are added, and that one of them.
+fn stands(alloc: Global, set: &mut X509BundleSet, name: &str, serial: u8) -> Result<bool, Fail> {
+    add_shared(alloc, set)?;
+    Ok(set.len() == 4 && holds(alloc, set, name, serial)?)
 }
 
 /// Four trust domains stand beside one another, and a share replaces the bundle of its own alone.
 #[test]
 fn shared_bundles(rt: HostRuntime) -> Result<(), Fail> {
-    let set = shared_set(rt.alloc())?;
-    assert!(rt; set.len() == 4);
     for &(name, serial) in STANDING {
-        assert!(rt; holds(rt.alloc(), &set, name, serial)?, "{name}");
+        let mut set = X509BundleSet::new(rt.alloc());
+        let standing = stands(rt.alloc(), &mut set, name, serial);
+        drop(set);
+        assert!(rt; standing?, "{name}");
     }
     Ok(())
 }
@@ -235,24 +271,27 @@ fn are_names(mut bundles: X509BundleIter<'_>, names: &[&str]) -> bool {
 #[test]
 fn bundles_stand_in_order(rt: HostRuntime) -> Result<(), Fail> {
     let set = three_bundles(rt.alloc())?;
-    assert!(rt; are_names(set.iter(), &["example.org", "other.org"]));
-    assert!(rt; is_named(rt.alloc(), set.iter()));
+    let ordered = are_names(set.iter(), &["example.org", "other.org"]);
+    let named = is_named(rt.alloc(), set.iter());
+    drop(set);
+    assert!(rt; ordered);
+    assert!(rt; named);
     Ok(())
 }
 
-fn shared_svid(alloc: Global, leaf: &str) -> Result<Arc<X509Svid>, Fail> {
+/// The SVID of that leaf and KEY1.
+fn svid_of(alloc: Global, leaf: &str) -> Result<X509Svid, Fail> {
     let chain = octets(alloc, leaf)?;
     let key = octets(alloc, "KEY1")?;
-    let svid = X509Svid::parse_from_der(alloc, chain.as_slice(), key.as_slice())?;
-    Ok(Arc::new(alloc, svid)?)
+    Ok(X509Svid::parse_from_der(alloc, chain.as_slice(), key.as_slice())?)
 }
 
 /// The SVIDs of LEAF1 and of LEAF2.
 fn two_svids(alloc: Global) -> Result<Vec<Arc<X509Svid>>, Fail> {
     let mut svids = Vec::new(alloc);
     for leaf in ["LEAF1", "LEAF2"] {
-        let svid = shared_svid(alloc, leaf)?;
-        svids.push(svid)?;
+        let svid = svid_of(alloc, leaf)?;
+        svids.push(Arc::new(alloc, svid)?)?;
     }
     Ok(svids)
 }
@@ -288,8 +327,12 @@ fn is_of_two(context: &X509Context) -> bool {
 #[test]
 fn context(rt: HostRuntime) -> Result<(), Fail> {
     let context = context_of_two(rt.alloc())?;
-    assert!(rt; are_indices(sorted_svids(rt.alloc(), &context), &[1, 0]));
-    assert!(rt; is_of_two(&context));
-    assert!(rt; is_same(context.try_clone(rt.alloc()), &context));
+    let ordered = are_indices(sorted_svids(rt.alloc(), &context), &[1, 0]);
+    let of_two = is_of_two(&context);
+    let copied = is_same(context.try_clone(rt.alloc()), &context);
+    drop(context);
+    assert!(rt; ordered);
+    assert!(rt; of_two);
+    assert!(rt; copied);
     Ok(())
 }

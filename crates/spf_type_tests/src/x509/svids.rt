@@ -1,10 +1,11 @@
 //! Certificates, keys and SVIDs.
 
 use super::URI;
-use crate::shown::{has_debug_text, is_same};
+use crate::shown::{has_debug_text, is_answered, is_refused, is_same};
 use crate::written::{LEAF, edited, written};
 use spf_der::write_key;
 use spf_fixtures::octets;
+use spf_id::SpiffeId;
 use spf_io::{OutOfMemory, Text};
 use spf_x509::{
     Certificate, CertificateError, PrivateKey, X509Svid, cmp_svid_for_update, spiffe_id_from_der,
@@ -13,27 +14,32 @@ use std::alloc::Global;
 use std::cmp::Ordering;
 use std::test::Fail;
 
-/// Whether that is the ID of the certificate, or the error of looking for it.
-fn is_id(alloc: Global, der: &[u8], text: &str) -> bool {
-    match spiffe_id_from_der(alloc, der) {
-        Ok(id) => id.as_str() == text,
-        Err(error) => has_debug_text(alloc, &error, text),
+/// Whether that is the ID that is returned, or the text of the error for debugging.
+fn is_id(alloc: Global, found: Result<SpiffeId, CertificateError>, text: &str) -> bool {
+    match found {
+        Ok(id) => {
+            let same = id.as_str() == text;
+            drop(id);
+            same
+        }
+        Err(error) => {
+            let same = has_debug_text(alloc, &error, text);
+            drop(error);
+            same
+        }
     }
 }
 
-/// The same of a certificate that is given by name.
+/// Whether that is the ID of a certificate that is given by name, or the error of looking for it.
 fn has_id(alloc: Global, name: &str, text: &str) -> Result<bool, Fail> {
     let der = octets(alloc, name)?;
-    Ok(is_id(alloc, der.as_slice(), text))
+    Ok(is_id(alloc, spiffe_id_from_der(alloc, der.as_slice()), text))
 }
 
 /// Whether octets that are given by name are refused as a certificate with that error.
 fn is_no_certificate(alloc: Global, text: &str, error: &str) -> Result<bool, Fail> {
     let der = octets(alloc, text)?;
-    match Certificate::try_from(alloc, der.as_slice()) {
-        Ok(_) => Ok(false),
-        Err(found) => Ok(has_debug_text(alloc, &found, error)),
-    }
+    Ok(is_answered(alloc, Certificate::try_from(alloc, der.as_slice()), error))
 }
 
 #[test]
@@ -47,54 +53,48 @@ fn certificate(rt: HostRuntime) -> Result<(), Fail> {
     Ok(())
 }
 
-/// Whether the certificate is of the SPIFFE ID.
-fn is_of(alloc: Global, certificate: &Certificate, id: &str) -> bool {
-    match certificate.spiffe_id(alloc) {
-        Ok(found) => found.as_str() == id,
-        Err(_) => false,
-    }
-}
-
-/// Whether the certificate is made of the same octets where they are owned.
-fn is_made_of(alloc: Global, der: Vec<u8>, certificate: &Certificate) -> bool {
-    certificate.as_bytes() == der.as_slice()
-        && is_same(Certificate::try_from_owned(alloc, der), certificate)
-}
-
-/// Whether the octets are a certificate of the URI that equals its copies.
-fn equals_its_copies(alloc: Global, der: Vec<u8>) -> Result<bool, CertificateError> {
-    let leaf = Certificate::try_from(alloc, der.as_slice())?;
-    Ok(
-        is_of(alloc, &leaf, URI)
-            && is_same(leaf.try_clone(alloc), &leaf)
-            && is_made_of(alloc, der, &leaf),
-    )
+/// Whether the certificate is of the URI and those octets, and equals its copies.
+fn equals_its_copies(alloc: Global, leaf: &Certificate, der: Vec<u8>) -> bool {
+    let kept = leaf.as_bytes() == der.as_slice();
+    let owned = is_same(Certificate::try_from_owned(alloc, der), leaf);
+    kept && owned
+        && is_same(leaf.try_clone(alloc), leaf)
+        && is_id(alloc, leaf.spiffe_id(alloc), URI)
 }
 
 #[test]
 fn certificates_equal_their_copies(rt: HostRuntime) -> Result<(), Fail> {
     let der = octets(rt.alloc(), "LEAF1")?;
-    assert!(rt; equals_its_copies(rt.alloc(), der)?);
+    let leaf = Certificate::try_from(rt.alloc(), der.as_slice())?;
+    let equal = equals_its_copies(rt.alloc(), &leaf, der);
+    drop(leaf);
+    assert!(rt; equal);
     Ok(())
+}
+
+/// Whether the key is shown by its length, and equals its copy and what those octets make.
+fn is_key(alloc: Global, key: &PrivateKey, der: Vec<u8>) -> bool {
+    is_same(PrivateKey::try_from_owned(alloc, der), key)
+        && is_same(key.try_clone(alloc), key)
+        && has_debug_text(alloc, key, "PrivateKey { len: 15 }")
 }
 
 #[test]
 fn private_key(rt: HostRuntime) -> Result<(), Fail> {
-    let alloc = rt.alloc();
-    let der = write_key(alloc, 1)?;
-    let key = PrivateKey::try_from(alloc, der.as_slice())?;
-    assert!(rt; has_debug_text(alloc, &key, "PrivateKey { len: 15 }"));
-    assert!(rt; is_same(key.try_clone(alloc), &key));
-    assert!(rt; is_same(PrivateKey::try_from_owned(alloc, der), &key));
-    assert!(rt; PrivateKey::try_from(alloc, b"").is_err());
+    assert!(rt; is_refused(PrivateKey::try_from(rt.alloc(), b"")));
+    let der = write_key(rt.alloc(), 1)?;
+    let key = PrivateKey::try_from(rt.alloc(), der.as_slice())?;
+    let same = is_key(rt.alloc(), &key, der);
+    drop(key);
+    assert!(rt; same);
     Ok(())
 }
 
 /// Whether that is the error of looking for the ID of a leaf with these URI names.
 fn is_name_refused(alloc: Global, names: &[&str], error: &str) -> bool {
     match written(alloc, LEAF, 1000, names) {
-        Ok(der) => is_id(alloc, der.as_slice(), error),
-        Err(_) => false,
+        Ok(der) => is_id(alloc, spiffe_id_from_der(alloc, der.as_slice()), error),
+        Err(OutOfMemory) => false,
     }
 }
 
@@ -122,18 +122,16 @@ fn san_rule(rt: HostRuntime) -> Result<(), Fail> {
 }
 
 /// Whether the chain with that key is refused with that error, or `accepted`.
-fn is_answered(alloc: Global, chain: &[u8], key: &[u8], answer: &str) -> bool {
-    match X509Svid::parse_from_der(alloc, chain, key) {
-        Ok(_) => answer == "accepted",
-        Err(error) => has_debug_text(alloc, &error, answer),
-    }
+fn answers(alloc: Global, chain: &[u8], key: &str, answer: &str) -> Result<bool, Fail> {
+    let key = octets(alloc, key)?;
+    let svid = X509Svid::parse_from_der(alloc, chain, key.as_slice());
+    Ok(is_answered(alloc, svid, answer))
 }
 
-/// The same of octets that are given by name.
-fn answers(alloc: Global, chain: &str, key: &str, answer: &str) -> Result<bool, Fail> {
+/// The same of a chain that is given by name.
+fn names_answer(alloc: Global, chain: &str, key: &str, answer: &str) -> Result<bool, Fail> {
     let chain = octets(alloc, chain)?;
-    let key = octets(alloc, key)?;
-    Ok(is_answered(alloc, chain.as_slice(), key.as_slice(), answer))
+    answers(alloc, chain.as_slice(), key, answer)
 }
 
 /// Chains and keys, and how they are refused.
@@ -168,23 +166,30 @@ const CHAINS: &[(&str, &str, &str)] = &[
 #[test]
 fn chains(rt: HostRuntime) -> Result<(), Fail> {
     for &(chain, key, answer) in CHAINS {
-        assert!(rt; answers(rt.alloc(), chain, key, answer)?, "{chain}");
+        assert!(rt; names_answer(rt.alloc(), chain, key, answer)?, "{chain}");
     }
     Ok(())
 }
 
+/// An SVID of those octets with that hint.
+fn parsed(alloc: Global, chain: &[u8], key: &[u8], hint: Option<&str>) -> Result<X509Svid, Fail> {
+    let hint = match hint {
+        Some(hint) => Some(Text::copy_of(alloc, hint)?),
+        None => None,
+    };
+    Ok(X509Svid::parse_from_der_with_hint(alloc, chain, key, hint)?)
+}
+
 /// An SVID of LEAF1 and INTER1 with KEY1.
-fn svid_with(alloc: Global, hint: Option<Text>) -> Result<X509Svid, Fail> {
+fn svid_with(alloc: Global, hint: Option<&str>) -> Result<X509Svid, Fail> {
     let chain = octets(alloc, "LEAF1 INTER1")?;
     let key = octets(alloc, "KEY1")?;
-    let svid = X509Svid::parse_from_der_with_hint(alloc, chain.as_slice(), key.as_slice(), hint)?;
-    Ok(svid)
+    parsed(alloc, chain.as_slice(), key.as_slice(), hint)
 }
 
 /// The same with the hint `internal`.
 fn hinted(alloc: Global) -> Result<X509Svid, Fail> {
-    let hint = Text::copy_of(alloc, "internal")?;
-    svid_with(alloc, Some(hint))
+    svid_with(alloc, Some("internal"))
 }
 
 /// Whether the SVID is of the URI, with the hint `internal`, the expiry 1000 and two certificates.
@@ -195,31 +200,48 @@ fn is_hinted(svid: &X509Svid) -> bool {
         && svid.cert_chain().len() == 2
 }
 
-fn has_leaf(alloc: Global, svid: &X509Svid, name: &str) -> Result<bool, Fail> {
-    let der = octets(alloc, name)?;
-    Ok(svid.leaf().as_bytes() == der.as_slice())
+/// Whether these are the octets that the text spells.
+fn are_octets(alloc: Global, found: &[u8], text: &str) -> Result<bool, Fail> {
+    let wanted = octets(alloc, text)?;
+    Ok(found == wanted.as_slice())
 }
 
-fn has_key(alloc: Global, svid: &X509Svid, name: &str) -> Result<bool, Fail> {
-    let der = octets(alloc, name)?;
-    Ok(svid.private_key().as_bytes() == der.as_slice())
+/// Whether the SVID is of that leaf and that key.
+fn is_of(alloc: Global, svid: &X509Svid, leaf: &str, key: &str) -> Result<bool, Fail> {
+    let same = are_octets(alloc, svid.leaf().as_bytes(), leaf)?;
+    Ok(same && are_octets(alloc, svid.private_key().as_bytes(), key)?)
 }
 
 #[test]
 fn svid(rt: HostRuntime) -> Result<(), Fail> {
     let svid = hinted(rt.alloc())?;
-    assert!(rt; is_hinted(&svid));
-    assert!(rt; has_leaf(rt.alloc(), &svid, "LEAF1")?);
-    assert!(rt; has_key(rt.alloc(), &svid, "KEY1")?);
+    let hinted = is_hinted(&svid);
+    let same = is_of(rt.alloc(), &svid, "LEAF1", "KEY1");
+    drop(svid);
+    assert!(rt; hinted);
+    assert!(rt; same?);
     Ok(())
 }
 
-/// Whether the hinted SVID is parsed from that chain, that key and that hint.
-fn is_parsed_from(alloc: Global, chain: &str, key: &str, hint: Option<&str>) -> Result<bool, Fail> {
+/// Whether the SVID is parsed from that chain, that key and that hint.
+fn is_from(
+    alloc: Global,
+    svid: &X509Svid,
+    chain: &str,
+    key: &str,
+    hint: Option<&str>,
+) -> Result<bool, Fail> {
     let chain = octets(alloc, chain)?;
     let key = octets(alloc, key)?;
-    let svid = hinted(alloc)?;
     Ok(svid.is_parsed_from(chain.as_slice(), key.as_slice(), hint))
+}
+
+/// The same of the hinted SVID.
+fn is_parsed_from(alloc: Global, chain: &str, key: &str, hint: Option<&str>) -> Result<bool, Fail> {
+    let svid = hinted(alloc)?;
+    let parsed = is_from(alloc, &svid, chain, key, hint);
+    drop(svid);
+    parsed
 }
 
 /// A chain, a key and a hint, and whether the hinted SVID is parsed from them.
@@ -245,23 +267,21 @@ fn svid_is_parsed_from(rt: HostRuntime) -> Result<(), Fail> {
     Ok(())
 }
 
-/// Whether the SVID without a hint comes before that one.
+/// Whether the SVID without a hint equals its copy, and comes before that one.
 fn plain_is_less(alloc: Global, other: &X509Svid) -> Result<bool, Fail> {
     let plain = svid_with(alloc, None)?;
-    Ok(cmp_svid_for_update(&plain, other) == Ordering::Less)
-}
-
-/// Whether the SVID without a hint equals its copy.
-fn plain_is_copied(alloc: Global) -> Result<bool, Fail> {
-    let plain = svid_with(alloc, None)?;
-    Ok(is_same(plain.try_clone(alloc), &plain))
+    let copied = is_same(plain.try_clone(alloc), &plain);
+    let less = cmp_svid_for_update(&plain, other) == Ordering::Less;
+    drop(plain);
+    Ok(copied && less)
 }
 
 #[test]
 fn svids_are_ordered(rt: HostRuntime) -> Result<(), Fail> {
     let hinted = hinted(rt.alloc())?;
-    assert!(rt; plain_is_less(rt.alloc(), &hinted)?);
-    assert!(rt; plain_is_copied(rt.alloc())?);
+    let less = plain_is_less(rt.alloc(), &hinted);
+    drop(hinted);
+    assert!(rt; less?);
     Ok(())
 }
 
@@ -303,8 +323,7 @@ const LEAVES: &[(&str, &str, &str)] = &[
 /// Whether LEAF1 with one piece replaced by another, and KEY1, are refused with that error.
 fn is_leaf_refused(alloc: Global, old: &str, new: &str, error: &str) -> Result<bool, Fail> {
     let chain = edited(alloc, "LEAF1", old, new)?;
-    let key = octets(alloc, "KEY1")?;
-    Ok(is_answered(alloc, chain.as_slice(), key.as_slice(), error))
+    answers(alloc, chain.as_slice(), "KEY1", error)
 }
 
 #[test]
