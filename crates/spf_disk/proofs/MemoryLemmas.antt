@@ -1,6 +1,6 @@
 -- What a change of a file in memory lets a crash leave.
-use Rattle.std.proofs.Common.{◌≡◌, ℕ, zero, suc, ◌+◌, ◌-◌, ◌<◌, ◌≤◌, ◌⊎◌, inl, inr, ⊎_elim, Bool}
-use Rattle.std.proofs.Common.{true, false}
+use Rattle.std.proofs.Common.{◌≡◌, ◌≢◌, ℕ, zero, suc, ◌+◌, ◌-◌, ◌<◌, ◌≤◌, ◌⊎◌, inl, inr, ⊎_elim}
+use Rattle.std.proofs.Common.{Bool, true, false}
 use Rattle.std.proofs.Common.{List, [], ◌∷◌, ◌++◌, length, take, drop, Option, Some, None}
 use Rattle.std.proofs.Common.{refl, sym, ◌∙◌, ap, subst, arith, max, length-append, replicate}
 use Rattle.std.proofs.lemmas.Grind.{common_steps}
@@ -9,7 +9,7 @@ use Rattle.std.proofs.lemmas.Bool.{cases_lt}
 use Rattle.std.proofs.lemmas.List.{length-replicate}
 use Rattle.std.proofs.lemmas.Option.{slice_get_within}
 use Rattle.std.specs.List.{slice_get}
-use Rattle.spf_disk.specs.Memory.{FileState, IsOutcome, IsUnsettled, longest}
+use Rattle.spf_disk.specs.Memory.{FileState, IsFilledTo, IsOutcome, IsUnsettled, longest}
 
 -- which octet is there outside of what is written
 pub written_outside : (at : ℕ) (piece old : List ℕ) (i : ℕ) → at ≤ length old
@@ -124,13 +124,13 @@ file_stays f state i octet c same left each = elim (known (slice_get f.settled i
   | No free ↦ absurd (unsettled_free f i octet free each)
 ]
 
-pushed_before : (xs : List Bool) (b : Bool) (j : ℕ) → j < length xs
+pushed_before : {X : Type 0} (xs : List X) (b : X) (j : ℕ) → j < length xs
     → slice_get (xs ++ b ∷ []) j ≡ slice_get xs j
 pushed_before [] b j lt = absurd (omega arith)
 pushed_before (x ∷ xs) b zero lt = refl
 pushed_before (x ∷ xs) b (suc j) lt = pushed_before xs b j (omega arith)
 
-pushed_last : (xs : List Bool) (b : Bool) → slice_get (xs ++ b ∷ []) (length xs) ≡ Some b
+pushed_last : {X : Type 0} (xs : List X) (b : X) → slice_get (xs ++ b ∷ []) (length xs) ≡ Some b
 pushed_last [] b = refl
 pushed_last (x ∷ xs) b = pushed_last xs b
 
@@ -167,3 +167,35 @@ unsettled_more from end i old new b if_set then_set so_far = record {
   where
     value_of : (v : Bool) → Some v ≡ Some true → v ≡ true
     value_of v e = cc
+
+-- one more octet that a crash leaves
+pub filled_more : (fill i : ℕ) (f : FileState) (new : List ℕ) (octet : ℕ)
+    → (slice_get f.settled i ≡ Some true → i < length f.bytes → Some octet ≡ slice_get f.bytes i)
+    → ((slice_get f.settled i ≢ Some true) ⊎ (length f.bytes ≤ i) → octet ≡ fill)
+    → IsFilledTo fill i f new → IsFilledTo fill (i + 1) f (new ++ octet ∷ [])
+filled_more fill i f new octet stays fills so_far =
+    let here : slice_get (new ++ octet ∷ []) i ≡ Some octet =
+    ap (slice_get (new ++ octet ∷ [])) (sym so_far.size_is) ∙ pushed_last new octet in
+    record {
+      size_is = omega (arith, so_far.size_is, length-append new (octet ∷ []));
+      stays = λ j lt set inside. ⊎_elim
+          (λ before. pushed_before new octet j (omega (arith, before, so_far.size_is))
+          ∙ so_far.stays j before set inside)
+          (λ past.
+          let at_i : i ≡ j = omega (arith, lt, past) in
+          subst
+          (λ (k : ℕ). slice_get f.settled k ≡ Some true → k < length f.bytes
+          → slice_get (new ++ octet ∷ []) k ≡ slice_get f.bytes k)
+          at_i (λ s w. here ∙ stays s w) set inside)
+          (cases_lt j i);
+      fills = λ j lt free. ⊎_elim
+          (λ before. pushed_before new octet j (omega (arith, before, so_far.size_is))
+          ∙ so_far.fills j before free)
+          (λ past.
+          let at_i : i ≡ j = omega (arith, lt, past) in
+          subst
+          (λ (k : ℕ). (slice_get f.settled k ≢ Some true) ⊎ (length f.bytes ≤ k)
+          → slice_get (new ++ octet ∷ []) k ≡ Some fill)
+          at_i (λ out. here ∙ ap (λ (v : ℕ). Some v) (fills out)) free)
+          (cases_lt j i);
+    }

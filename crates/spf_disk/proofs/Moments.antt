@@ -1,5 +1,6 @@
 -- How a run of disk calls goes on.
-use Rattle.std.proofs.Common.{inl, inr, ⊎_elim, ◌≡◌, ℕ, arith}
+use Rattle.std.proofs.Common.{inl, inr, ⊎_elim, ◌≡◌, ℕ, ◌≤◌, arith}
+use Rattle.spf_io.specs.Outside.{Rose}
 use Rattle.spf_disk.specs.Crash.{Elapses, LeavesOnly}
 use Rattle.spf_disk.specs.Image.{Image}
 
@@ -7,6 +8,11 @@ use Rattle.spf_disk.specs.Image.{Image}
 pub image_same : (c d : Image) → c.gates ≡ d.gates → c.first ≡ d.first → c.second ≡ d.second → c ≡ d
 image_same c d gates first second =
     λ i. record { gates = gates i; first = first i; second = second i }
+
+-- what rose since a moment rose since an earlier one
+pub later_rose : (a b c : ℕ) → a ≤ b → Rose b c → Rose a c
+later_rose a b c le (inl rose) = inl (omega (arith, le, rose))
+later_rose a b c le (inr top) = inr top
 
 module _ {D : Type 0} (moment : D → ℕ) (left_since : D → ℕ → Image → Type 0) where
   -- before the first call
