@@ -3,7 +3,8 @@ use Rattle.std.proofs.Common.{◌≡◌, Bool, true, List, [], ◌∷◌, Option
 use Rattle.std.proofs.Common.{refl, sym, ap, subst, arith, length, take_all}
 use Rattle.spf_view.specs.Sessions.{Grows, GrowsUpTo}
 use Rattle.spf_view.proofs.FollowLemmas.{grows_nil, grows_none}
-use Rattle.spf_feed.specs.Records.{RecordAppends, AppendsOnce}
+use Rattle.spf_feed.specs.Records.{RecordAppends, Appended, AppendsOnce}
+use Rattle.spf_feed.specs.Steps.{PlainStep, HasStep}
 use Rattle.std.specs.Prelude.{IsErr}
 use Rattle.std.specs.Option.{option_to_list}
 use Rattle.spf_view.specs.Steps.{Step}
@@ -31,6 +32,22 @@ one_more (Some before) None r x h = absurd h
 one_more (Some before) (Some after) (Ok done) x h = h
 one_more (Some before) (Some after) (Err e) x h =
     none_since (Some before) (Some after) (x ∷ []) (ap Some h)
+
+-- a call that went through added one
+pub appended : {R : Type 0} (E : Type 0) (old new : Option (List R)) (x : R)
+    → RecordAppends {R = R} {E = E} old new (Ok tt) x → Appended old new x
+appended E None None x h = tt
+appended E None (Some after) x h = absurd h
+appended E (Some before) None x h = absurd h
+appended E (Some before) (Some after) x h = h
+
+-- and so there is a step
+pub has_step : (old new : Option (List PlainStep)) (x : PlainStep) → Appended old new x → HasStep new
+has_step None None x h = tt
+has_step None (Some after) x h = absurd h
+has_step (Some before) None x h = tt
+has_step (Some []) (Some after) x h = λ e. absurd cc
+has_step (Some (first ∷ before)) (Some after) x h = λ e. absurd cc
 
 -- a refused call leaves the list as it was
 pub refused_same : {R E : Type 0} (old new : Option (List R)) (e : E) (x : R)

@@ -1,8 +1,10 @@
-use Rattle.std.proofs.Common.{◌∷◌, [], subst, Err, true, refl}
-use Rattle.spf_view.specs.Sessions.{GrowsUpTo}
-use Rattle.spf_feed.specs.Steps.{PlainStep}
+use Rattle.std.proofs.Common.{◌∷◌, [], subst, sym, Ok, Err, true, refl}
+use Rattle.std.proofs.lemmas.Result.{IfOk-from_err}
+use Rattle.spf_view.specs.Sessions.{Grows, GrowsUpTo}
+use Rattle.spf_feed.specs.Records.{Appended}
+use Rattle.spf_feed.specs.Steps.{PlainStep, MayFollow}
 use Rattle.spf_feed.proofs.HandLemmas.{none_yet, one_more, stopped_there, appends_none}
-use Rattle.spf_feed.proofs.HandLemmas.{refused_same}
+use Rattle.spf_feed.proofs.HandLemmas.{refused_same, appended, has_step}
 use Rattle.spf_feed.proofs.following.publish.Goals as goal
 
 pub returns-in_err-prepared-clause-steps : goal.returns-in_err-prepared-clause-steps
@@ -35,3 +37,85 @@ returns-in_err-publish-2-clause-appends g c =
 pub returns-in_err-prepared-clause-appends : goal.returns-in_err-prepared-clause-appends
 returns-in_err-prepared-clause-appends g c =
     appends_none _ _ _ _ c.from_residual-in_err-prepared.ensures.0 refl
+
+pub returns-in_err-publish-clause-synced : goal.returns-in_err-publish-clause-synced
+returns-in_err-publish-clause-synced g c =
+    IfOk-from_err _ _ c.from_residual.ensures.0
+
+pub returns-in_err-publish-clause-change : goal.returns-in_err-publish-clause-change
+returns-in_err-publish-clause-change g c =
+    IfOk-from_err _ _ c.from_residual.ensures.0
+
+pub returns-in_err-publish-clause-kept : goal.returns-in_err-publish-clause-kept
+returns-in_err-publish-clause-kept g c =
+    IfOk-from_err _ _ c.from_residual.ensures.0
+
+pub returns-in_err-published-clause-synced : goal.returns-in_err-published-clause-synced
+returns-in_err-published-clause-synced g c =
+    IfOk-from_err _ _ c.from_residual-in_err-published.ensures.0
+
+pub returns-in_err-published-clause-change : goal.returns-in_err-published-clause-change
+returns-in_err-published-clause-change g c =
+    IfOk-from_err _ _ c.from_residual-in_err-published.ensures.0
+
+pub returns-in_err-published-clause-kept : goal.returns-in_err-published-clause-kept
+returns-in_err-published-clause-kept g c =
+    IfOk-from_err _ _ c.from_residual-in_err-published.ensures.0
+
+pub returns-in_err-prepared-clause-synced : goal.returns-in_err-prepared-clause-synced
+returns-in_err-prepared-clause-synced g c =
+    IfOk-from_err _ _ c.from_residual-in_err-prepared.ensures.0
+
+pub returns-in_err-prepared-clause-change : goal.returns-in_err-prepared-clause-change
+returns-in_err-prepared-clause-change g c =
+    IfOk-from_err _ _ c.from_residual-in_err-prepared.ensures.0
+
+pub returns-in_err-prepared-clause-kept : goal.returns-in_err-prepared-clause-kept
+returns-in_err-prepared-clause-kept g c =
+    IfOk-from_err _ _ c.from_residual-in_err-prepared.ensures.0
+
+pub returns-in_err-publish-2-clause-synced : goal.returns-in_err-publish-2-clause-synced
+returns-in_err-publish-2-clause-synced g c =
+    IfOk-from_err _ _ c.from_residual-in_err-publish-2.ensures.0
+
+pub returns-in_err-publish-2-clause-change : goal.returns-in_err-publish-2-clause-change
+returns-in_err-publish-2-clause-change g c =
+    IfOk-from_err _ _ c.from_residual-in_err-publish-2.ensures.0
+
+pub returns-in_err-publish-2-clause-kept : goal.returns-in_err-publish-2-clause-kept
+returns-in_err-publish-2-clause-kept g c =
+    IfOk-from_err _ _ c.from_residual-in_err-publish-2.ensures.0
+
+pub publish-requires : goal.publish-requires
+publish-requires g c = c.requires.next
+
+pub publish-requires-2 : goal.publish-requires-2
+publish-requires-2 g c =
+    subst (MayFollow (g.P.Publisher.steps c.args.publisher.now)) (sym c.in_ok-published.ensures)
+    c.requires.next
+
+pub returns-then-is_held-clause-appends : goal.returns-then-is_held-clause-appends
+returns-then-is_held-clause-appends g c = appended _ _ _ _ c.in_ok-publish.ensures.appends
+
+pub returns-then-is_held-clause-steps : goal.returns-then-is_held-clause-steps
+returns-then-is_held-clause-steps g c = one_more _ _ (Ok tt) _ c.in_ok-publish.ensures.appends
+
+pub returns-then-is_held-clause-synced : goal.returns-then-is_held-clause-synced
+returns-then-is_held-clause-synced g c =
+    has_step _ _ _ (appended _ _ _ _ c.in_ok-publish.ensures.appends)
+
+pub returns-clause-appends : goal.returns-clause-appends
+returns-clause-appends g c =
+    subst (Appended (g.P.Publisher.steps c.args.publisher.now)
+    (g.P.Publisher.steps c.publish-2.new.self)) c.in_ok-published.ensures
+    (appended _ _ _ _ c.in_ok-publish-2.ensures.appends)
+
+pub returns-clause-steps : goal.returns-clause-steps
+returns-clause-steps g c =
+    subst (λ (s : PlainStep).
+    Grows (g.P.Publisher.steps c.args.publisher.now) (g.P.Publisher.steps c.publish-2.new.self)
+    (s ∷ [])) c.in_ok-published.ensures (one_more _ _ (Ok tt) _ c.in_ok-publish-2.ensures.appends)
+
+pub returns-clause-synced : goal.returns-clause-synced
+returns-clause-synced g c =
+    has_step _ _ _ (appended _ _ _ _ c.in_ok-publish-2.ensures.appends)
