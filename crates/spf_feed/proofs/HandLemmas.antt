@@ -1,6 +1,7 @@
 -- Lists that are handed on one by one.
-use Rattle.std.proofs.Common.{◌≡◌, Bool, true, List, [], ◌∷◌, Option, Some, None, Result, Ok, Err}
-use Rattle.std.proofs.Common.{refl, sym, ap, subst, arith, length, take_all}
+use Rattle.std.proofs.Common.{◌≡◌, Bool, true, List, [], ◌∷◌, ◌++◌, Option, Some, None, Result, Ok}
+use Rattle.std.proofs.Common.{Err, refl, sym, ap, subst, arith, length, take_all}
+use Rattle.std.proofs.lemmas.List.{take_at}
 use Rattle.spf_view.specs.Sessions.{Grows, GrowsUpTo}
 use Rattle.spf_view.proofs.FollowLemmas.{grows_nil, grows_none}
 use Rattle.spf_feed.specs.Records.{RecordAppends, Appended, AppendsOnce}
@@ -67,6 +68,15 @@ pub stopped_there : {X T E : Type 0} (old new : Option (List X)) (r : Result T E
     → IsErr r → GrowsUpTo old new more true → HandsOn old new r more
 stopped_there old new (Ok done) more bad h = absurd cc
 stopped_there old new (Err e) more bad h = h
+
+-- a refused call handed on no more
+pub stopped_after : {X : Type 0} (old mid new : Option (List X)) (done more : List X)
+    → Grows old mid done → new ≡ mid → GrowsUpTo old new (done ++ more) true
+stopped_after old mid new done more grown same = record {
+  count = length done;
+  grows = rw (same, take_at done more (length done) refl) grown;
+  all = λ e. absurd cc;
+}
 
 -- the whole list was handed on
 unfoldable pub all_grown : {X : Type 0} (old new : Option (List X)) (more : List X) (cut : Bool)

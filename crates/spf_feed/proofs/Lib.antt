@@ -14,6 +14,7 @@ pub mod Plain
 pub mod PlainContexts
 pub mod PlainLines
 pub mod PlainNames
+pub mod Read
 pub mod Received
 mod Rows
 pub mod SameSvids

@@ -162,7 +162,6 @@ fn within_bundles(set: &X509BundleSet, limit: Option<usize>) -> Result<(), Limit
 /// Checks the limits, and returns the first that is passed: SVIDs, bundles, octets per bundle in
 /// the order of the trust domains, then the octets of the revocation lists.
 #[inline(always)]
-#[tactic(auto, unfolding(crate::specs::Limits::within))]
 pub fn validate_limits(ctx: &X509Context, limits: ResourceLimits) -> Result<(), LimitBroken>
     ensures { result ≡ spec.within limits ctx.now }
 {

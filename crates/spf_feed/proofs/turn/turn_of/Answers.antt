@@ -11,3 +11,12 @@ returns-in-ItemStatus-clause-may g c = c.item_status_turn.ensures.may c.args.rul
 
 pub returns-in-Close-clause-may : goal.returns-in-Close-clause-may
 returns-in-Close-clause-may g c = c.close_turn.ensures.may c.args.rules.limits
+
+pub returns-in-ClientFailed-clause-turn : goal.returns-in-ClientFailed-clause-turn
+returns-in-ClientFailed-clause-turn g c = rw c.in-ClientFailed.is c.failure_turn.ensures.turn
+
+pub returns-in-ConnectStatus-clause-turn : goal.returns-in-ConnectStatus-clause-turn
+returns-in-ConnectStatus-clause-turn g c = rw c.in-ConnectStatus.is c.connect_turn.ensures.turn
+
+pub returns-in-ItemStatus-clause-turn : goal.returns-in-ItemStatus-clause-turn
+returns-in-ItemStatus-clause-turn g c = rw c.in-ItemStatus.is c.item_status_turn.ensures.turn
