@@ -1,10 +1,11 @@
 //! Endpoints, and the URIs of those over TCP.
 
+use crate::shown::has_text;
 use spf_api::{EndpointError, EndpointParseError};
 use spf_endpoint::{Endpoint, EndpointHost, tcp_uri};
-use spf_io::OutOfMemory;
 use std::alloc::Global;
 use std::mem::drop;
+use std::process::Abort;
 
 /// What a text names: a Unix socket by its path, a TCP address, or nothing, for the first rule that
 /// it breaks, with the text of the error.
@@ -176,40 +177,39 @@ const ENDPOINTS: &[(&str, Named)] = &[
     ),
 ];
 
-fn has_text(alloc: Global, error: EndpointError, text: &str) -> Result<bool, OutOfMemory> {
-    Ok(format!(in alloc; "{error}")?.as_str() == text)
+/// Whether that is the endpoint that is named.
+fn is_endpoint(found: &Endpoint, wanted: Named) -> bool {
+    match (found, wanted) {
+        (Endpoint::Unix(found), Named::Socket(path)) => found.as_str() == path,
+        (Endpoint::Tcp { host, port }, Named::Address(h, p)) => *host == h && *port == p,
+        _ => false,
+    }
 }
 
-fn is_as_named(
-    alloc: Global,
-    found: &Result<Endpoint, EndpointError>,
-    wanted: Named,
-) -> Result<bool, OutOfMemory> {
-    match (found, wanted) {
-        (Ok(Endpoint::Unix(found)), Named::Socket(path)) => Ok(found.as_str() == path),
-        (Ok(found), Named::Address(host, port)) => Ok(*found == Endpoint::Tcp { host, port }),
-        (Err(found), Named::Nothing(error, text)) => {
-            Ok(*found == error && has_text(alloc, error, text)?)
-        }
-        _ => Ok(false),
+/// Whether that is the error of what names nothing.
+fn is_error(alloc: Global, found: EndpointError, wanted: Named) -> bool {
+    match wanted {
+        Named::Nothing(error, text) => found == error && has_text(alloc, &error, text),
+        _ => false,
     }
 }
 
 /// Whether that is what the text names.
-fn names(alloc: Global, text: &str, wanted: Named) -> Result<bool, OutOfMemory> {
-    let found = Endpoint::parse(alloc, text);
-    let answer = is_as_named(alloc, &found, wanted);
-    drop(found);
-    answer
+fn names(alloc: Global, text: &str, wanted: Named) -> bool {
+    match Endpoint::parse(alloc, text) {
+        Ok(found) => {
+            let is_named = is_endpoint(&found, wanted);
+            drop(found);
+            is_named
+        }
+        Err(found) => is_error(alloc, found, wanted),
+    }
 }
 
 #[test]
 fn endpoints(rt: HostRuntime) {
     for &(text, wanted) in ENDPOINTS {
-        assert!(rt;
-            names(rt.alloc(), text, wanted).expect(&rt, "memory"),
-            "{text}"
-        );
+        assert!(rt; names(rt.alloc(), text, wanted), "{text}");
     }
 }
 
@@ -225,16 +225,16 @@ const URIS: &[(EndpointHost, u16, &str)] = &[
 ];
 
 /// Whether that is the URI of the host and port.
-fn has_uri(alloc: Global, host: EndpointHost, port: u16, uri: &str) -> Result<bool, OutOfMemory> {
-    Ok(tcp_uri(alloc, host, port)?.as_str() == uri)
+fn has_uri(rt: &impl Abort, alloc: Global, host: EndpointHost, port: u16, uri: &str) -> bool {
+    let found = tcp_uri(alloc, host, port).expect(rt, "memory");
+    let is_wanted = found.as_str() == uri;
+    drop(found);
+    is_wanted
 }
 
 #[test]
 fn tcp_uris(rt: HostRuntime) {
     for &(host, port, uri) in URIS {
-        assert!(rt;
-            has_uri(rt.alloc(), host, port, uri).expect(&rt, "memory"),
-            "{uri}"
-        );
+        assert!(rt; has_uri(&rt, rt.alloc(), host, port, uri), "{uri}");
     }
 }

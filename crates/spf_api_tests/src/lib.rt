@@ -6,4 +6,6 @@ mod api;
 #[cfg(test)]
 mod endpoint;
 #[cfg(test)]
+mod shown;
+#[cfg(test)]
 mod system;

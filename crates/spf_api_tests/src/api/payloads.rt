@@ -1,16 +1,18 @@
 //! Payloads: what they lay out, and what is written of it.
 
+use crate::shown::copy_of;
 use spf_api::{
     Claim, ClaimValue, ContextView, Response, ResponseKind, ValidationResponse, WorkloadApiError,
     context_from, context_from_view, context_from_view_sharing, read_context_view, read_payload,
     write_payload,
 };
 use spf_fixtures::octets;
-use spf_io::{List, OutOfMemory, Text};
+use spf_io::{List, OutOfMemory};
 use spf_responses::first_item;
 use spf_x509::X509Context;
 use std::alloc::Global;
 use std::mem::drop;
+use std::process::Abort;
 use std::test::Fail;
 
 /// More octets than the payload of the first item has.
@@ -24,32 +26,38 @@ fn written(alloc: Global, response: Response) -> Result<Vec<u8>, OutOfMemory> {
 }
 
 /// The first octets of the payload of the first item.
-fn first_payload(alloc: Global, length: usize) -> Result<Vec<u8>, Fail> {
-    let item = first_item(alloc)?;
-    let mut payload = written(alloc, Response::Context(item))?;
+fn first_payload(rt: &impl Abort, alloc: Global, length: usize) -> Result<Vec<u8>, Fail> {
+    let item = Response::Context(first_item(alloc)?);
+    let mut payload = written(alloc, item).expect(rt, "memory");
     payload.truncate(length);
     Ok(payload)
 }
 
 /// What the payload lays out: nothing, or what is written as it or as another.
-fn laid_out(alloc: Global, kind: ResponseKind, payload: &[u8]) -> Result<&'static str, Fail> {
-    match read_payload(alloc, kind, payload)? {
-        None => Ok("nothing"),
+fn laid_out(rt: &impl Abort, alloc: Global, kind: ResponseKind, payload: &[u8]) -> &'static str {
+    match read_payload(alloc, kind, payload).expect(rt, "memory") {
+        None => "nothing",
         Some(response) => {
-            if written(alloc, response)?.as_slice() == payload {
-                Ok("the same")
-            } else {
-                Ok("another")
-            }
+            let again = written(alloc, response).expect(rt, "memory");
+            let same = again.as_slice() == payload;
+            drop(again);
+            if same { "the same" } else { "another" }
         }
     }
 }
 
-/// How many octets that payload of the first item has, and what it lays out.
-fn first_laid_out(alloc: Global, length: usize) -> Result<(usize, &'static str), Fail> {
-    let payload = first_payload(alloc, length)?;
-    let found = laid_out(alloc, ResponseKind::Context, payload.as_slice())?;
-    Ok((payload.len(), found))
+/// Whether that payload of the first item has so many octets, and lays out that.
+fn first_is_laid_out(
+    rt: &impl Abort,
+    alloc: Global,
+    length: usize,
+    wanted: (usize, &str),
+) -> Result<bool, Fail> {
+    let payload = first_payload(rt, alloc, length)?;
+    let found = laid_out(rt, alloc, ResponseKind::Context, payload.as_slice());
+    let length = payload.len();
+    drop(payload);
+    Ok(length == wanted.0 && found == wanted.1)
 }
 
 /// Whether the payload is read as that response.
@@ -64,29 +72,27 @@ fn is_read_as(alloc: Global, payload: &[u8], wanted: &Response) -> bool {
 }
 
 /// Whether the payload of the first item is read as the first item.
-fn first_is_read_back(alloc: Global) -> Result<bool, Fail> {
-    let payload = first_payload(alloc, WHOLE)?;
+fn first_is_read_back(rt: &impl Abort, alloc: Global) -> Result<bool, Fail> {
     let item = Response::Context(first_item(alloc)?);
+    let payload = write_payload(alloc, &item).expect(rt, "memory");
     let is_read = is_read_as(alloc, payload.as_slice(), &item);
-    drop(item);
     drop(payload);
+    drop(item);
     Ok(is_read)
 }
 
 /// Whether those are the octets of an item's frame after its kind and its length.
 fn is_item_payload(alloc: Global, item: &str, payload: &[u8]) -> Result<bool, Fail> {
     let frame = octets(alloc, item)?;
-    match frame.as_slice() {
-        [_, _, _, _, _, rest @ ..] => Ok(rest == payload),
-        _ => Ok(false),
-    }
+    let is_item = frame.as_slice().get(5..) == Some(payload);
+    drop(frame);
+    Ok(is_item)
 }
 
 #[test]
 fn written_payload(rt: HostRuntime) -> Result<(), Fail> {
-    let alloc = rt.alloc();
-    let payload = first_payload(alloc, WHOLE)?;
-    let is_written = is_item_payload(alloc, "I1", payload.as_slice());
+    let payload = first_payload(&rt, rt.alloc(), WHOLE)?;
+    let is_written = is_item_payload(rt.alloc(), "I1", payload.as_slice());
     drop(payload);
     assert!(rt; is_written?);
     Ok(())
@@ -98,11 +104,13 @@ const KEPT: &[(usize, (usize, &str))] = &[(WHOLE, (282, "the same")), (281, (281
 
 #[test]
 fn payload(rt: HostRuntime) -> Result<(), Fail> {
-    let alloc = rt.alloc();
     for &(length, wanted) in KEPT {
-        assert!(rt; first_laid_out(alloc, length)? == wanted, "{length}");
+        assert!(rt;
+            first_is_laid_out(&rt, rt.alloc(), length, wanted)?,
+            "{length}"
+        );
     }
-    assert!(rt; first_is_read_back(alloc)?);
+    assert!(rt; first_is_read_back(&rt, rt.alloc())?);
     Ok(())
 }
 
@@ -165,94 +173,88 @@ const PAYLOADS: &[(&str, ResponseKind, &[u8], &str)] = &[
 /// Each kind of response; with one more octet, or with a name that is not UTF-8, a payload lays out
 /// nothing.
 #[test]
-fn further_payloads(rt: HostRuntime) -> Result<(), Fail> {
-    let alloc = rt.alloc();
+fn further_payloads(rt: HostRuntime) {
     for &(name, kind, payload, wanted) in PAYLOADS {
-        assert!(rt; laid_out(alloc, kind, payload)? == wanted, "{name}");
+        assert!(rt;
+            laid_out(&rt, rt.alloc(), kind, payload) == wanted,
+            "{name}"
+        );
     }
-    Ok(())
 }
 
 /// The payload of a validation with one claim, whose value is null within this many lists, each the
 /// only member of the next.
-fn nested_payload(alloc: Global, lists: usize) -> Result<Vec<u8>, Fail> {
+fn nested_payload(rt: &impl Abort, alloc: Global, lists: usize) -> Vec<u8> {
     let mut payload = Vec::new(alloc);
-    payload.extend_from_slice(b"\0\0\0\x01a\x01\0\0\0\x01\0\0\0\x01a")?;
+    let start = b"\0\0\0\x01a\x01\0\0\0\x01\0\0\0\x01a";
+    payload.extend_from_slice(start).expect(rt, "memory");
     for _ in 0..lists {
-        payload.extend_from_slice(b"\x06\0\0\0\x01")?;
+        payload
+            .extend_from_slice(b"\x06\0\0\0\x01")
+            .expect(rt, "memory");
     }
-    payload.push(1)?;
-    Ok(payload)
-}
-
-/// What a payload with a claim of that depth lays out.
-fn nested_laid_out(alloc: Global, lists: usize) -> Result<&'static str, Fail> {
-    let payload = nested_payload(alloc, lists)?;
-    laid_out(alloc, ResponseKind::Validation, payload.as_slice())
+    payload.push(1).expect(rt, "memory");
+    payload
 }
 
 /// A list of that value alone.
-fn listed(alloc: Global, value: ClaimValue) -> Result<ClaimValue, OutOfMemory> {
-    Ok(ClaimValue::Items(List::new(vec![in alloc; value]?)))
+fn listed(rt: &impl Abort, alloc: Global, value: ClaimValue) -> ClaimValue {
+    ClaimValue::Items(List::new(vec![in alloc; value].expect(rt, "memory")))
 }
 
 /// The value null within this many lists.
-fn nested_value(alloc: Global, lists: usize) -> Result<ClaimValue, OutOfMemory> {
+fn nested_value(rt: &impl Abort, alloc: Global, lists: usize) -> ClaimValue {
     let mut value = ClaimValue::Null;
     for _ in 0..lists {
-        value = listed(alloc, value)?;
+        value = listed(rt, alloc, value);
     }
-    Ok(value)
-}
-
-fn nested_claim(alloc: Global, lists: usize) -> Result<Claim, OutOfMemory> {
-    Ok(Claim {
-        name: Text::copy_of(alloc, "a")?,
-        value: nested_value(alloc, lists)?,
-    })
+    value
 }
 
 /// A validation with one claim, whose value is null within this many lists.
-fn nested(alloc: Global, lists: usize) -> Result<Response, OutOfMemory> {
-    let spiffe_id = Text::copy_of(alloc, "a")?;
-    let claims = Some(List::new(vec![in alloc; nested_claim(alloc, lists)?]?));
-    Ok(Response::Validation(ValidationResponse { spiffe_id, claims }))
+fn nested(rt: &impl Abort, alloc: Global, lists: usize) -> Response {
+    let claim = Claim {
+        name: copy_of(rt, alloc, "a"),
+        value: nested_value(rt, alloc, lists),
+    };
+    Response::Validation(ValidationResponse {
+        spiffe_id: copy_of(rt, alloc, "a"),
+        claims: Some(List::new(vec![in alloc; claim].expect(rt, "memory"))),
+    })
 }
 
 /// Whether such a validation is written as that payload.
-fn nested_is_written(alloc: Global, lists: usize) -> Result<bool, Fail> {
-    let wanted = nested_payload(alloc, lists)?;
-    match written(alloc, nested(alloc, lists)?) {
-        Ok(payload) => Ok(payload == wanted),
-        Err(OutOfMemory) => Ok(false),
+fn is_written_as(rt: &impl Abort, alloc: Global, lists: usize, wanted: &[u8]) -> bool {
+    match written(alloc, nested(rt, alloc, lists)) {
+        Ok(payload) => {
+            let is_wanted = payload.as_slice() == wanted;
+            drop(payload);
+            is_wanted
+        }
+        Err(OutOfMemory) => false,
     }
 }
 
-/// What a payload with a claim of that depth lays out, and whether it is written.
-fn nested_outcome(alloc: Global, lists: usize) -> Result<(&'static str, bool), Fail> {
-    let found = nested_laid_out(alloc, lists)?;
-    Ok((found, nested_is_written(alloc, lists)?))
+/// Whether a payload with a claim of that depth lays out that, and is written, as wanted.
+fn is_outcome(rt: &impl Abort, alloc: Global, lists: usize, wanted: (&str, bool)) -> bool {
+    let payload = nested_payload(rt, alloc, lists);
+    let found = laid_out(rt, alloc, ResponseKind::Validation, payload.as_slice());
+    let is_written = is_written_as(rt, alloc, lists, payload.as_slice());
+    drop(payload);
+    found == wanted.0 && is_written == wanted.1
 }
 
 /// Values of claims are at most 64 deep.
 const NESTED: &[(usize, (&str, bool))] = &[(63, ("the same", true)), (64, ("nothing", false))];
 
 #[test]
-fn deep_claims(rt: HostRuntime) -> Result<(), Fail> {
+fn deep_claims(rt: HostRuntime) {
     for &(lists, wanted) in NESTED {
-        assert!(rt; nested_outcome(rt.alloc(), lists)? == wanted, "{lists}");
+        assert!(rt; is_outcome(&rt, rt.alloc(), lists, wanted), "{lists}");
     }
-    Ok(())
 }
 
-/// The context of the first item.
-fn first_context(alloc: Global) -> Result<X509Context, Fail> {
-    let item = first_item(alloc)?;
-    let context = context_from(alloc, &item);
-    drop(item);
-    Ok(context?)
-}
-
+/// Whether the context is that one.
 fn is_context(found: Result<X509Context, WorkloadApiError>, wanted: &X509Context) -> bool {
     match found {
         Ok(context) => {
@@ -267,35 +269,41 @@ fn is_context(found: Result<X509Context, WorkloadApiError>, wanted: &X509Context
     }
 }
 
-/// Whether the view gives the context of the first item, also where it shares what that holds.
-fn gives_first_context(alloc: Global, view: &ContextView<'_>) -> Result<bool, Fail> {
-    let context = first_context(alloc)?;
-    let gives = is_context(context_from_view(alloc, view), &context);
-    let shared = context_from_view_sharing(alloc, view, Some(&context));
-    let shares = is_context(shared, &context);
-    drop(context);
-    Ok(gives && shares)
+/// Whether the view gives that context, also where it shares what that holds.
+fn gives(alloc: Global, view: &ContextView<'_>, context: &X509Context) -> bool {
+    is_context(context_from_view(alloc, view), context)
+        && is_context(
+            context_from_view_sharing(alloc, view, Some(context)),
+            context,
+        )
 }
 
-/// Whether the view of the payload gives the context
-/// of the first item; none where there is no view.
-fn viewed(alloc: Global, payload: &[u8]) -> Result<Option<bool>, Fail> {
-    match read_context_view(alloc, payload)? {
-        None => Ok(None),
-        Some(view) => Ok(Some(gives_first_context(alloc, &view)?)),
+/// Whether the view of the payload gives that context; none where there is no view.
+fn viewed(rt: &impl Abort, alloc: Global, payload: &[u8], context: &X509Context) -> Option<bool> {
+    match read_context_view(alloc, payload).expect(rt, "memory") {
+        None => None,
+        Some(view) => {
+            let gives = gives(alloc, &view, context);
+            drop(view);
+            Some(gives)
+        }
     }
 }
 
-/// What the view of the payload of the first item gives.
-fn first_viewed(alloc: Global) -> Result<Option<bool>, Fail> {
-    let payload = first_payload(alloc, WHOLE)?;
-    viewed(alloc, payload.as_slice())
+/// Whether the payload of the first item is viewed as its context, and what is no payload not.
+fn first_is_viewed(rt: &impl Abort, alloc: Global) -> Result<bool, Fail> {
+    let item = first_item(alloc)?;
+    let context = context_from(alloc, &item).expect(rt, "a context");
+    let payload = written(alloc, Response::Context(item)).expect(rt, "memory");
+    let found = viewed(rt, alloc, payload.as_slice(), &context);
+    drop(payload);
+    let none = viewed(rt, alloc, b"\xff\xff\xff\xff", &context);
+    drop(context);
+    Ok(found == Some(true) && none.is_none())
 }
 
 #[test]
 fn views(rt: HostRuntime) -> Result<(), Fail> {
-    let alloc = rt.alloc();
-    assert!(rt; first_viewed(alloc)? == Some(true));
-    assert!(rt; viewed(alloc, b"\xff\xff\xff\xff")?.is_none());
+    assert!(rt; first_is_viewed(&rt, rt.alloc())?);
     Ok(())
 }

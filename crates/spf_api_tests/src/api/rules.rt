@@ -10,6 +10,7 @@ use spf_responses::{FIRST, SECOND, SvidRow, bundle_entries, context};
 use spf_x509::{Certificate, X509BundleSet, X509Context, X509Svid, X509SvidError};
 use std::alloc::Global;
 use std::mem::drop;
+use std::process::Abort;
 use std::test::Fail;
 
 /// The field that is missing, or the kind of any other result.
@@ -98,9 +99,8 @@ const REFUSALS: &[(&str, Asked, &[SvidRow<'static>], &str)] = &[
 /// An empty bundle comes before an empty spiffe_id.
 #[test]
 fn refusals(rt: HostRuntime) -> Result<(), Fail> {
-    let alloc = rt.alloc();
     for &(name, asked, svids, wanted) in REFUSALS {
-        assert!(rt; refuses(alloc, asked, svids, wanted)?, "{name}");
+        assert!(rt; refuses(rt.alloc(), asked, svids, wanted)?, "{name}");
     }
     Ok(())
 }
@@ -115,22 +115,22 @@ fn is_alone(authorities: &[Certificate], octets: &[u8]) -> bool {
 }
 
 /// Whether the set has a bundle of the trust domain with that authority alone.
-fn has_alone(set: &X509BundleSet, domain: &TrustDomain, octets: &[u8]) -> bool {
-    match set.get_ref(domain) {
-        Some(bundle) => is_alone(bundle.authorities(), octets),
+fn holds(
+    rt: &impl Abort,
+    alloc: Global,
+    set: &X509BundleSet,
+    domain: &str,
+    authority: &str,
+) -> Result<bool, Fail> {
+    let authority = octets(alloc, authority)?;
+    let domain = TrustDomain::new(alloc, domain).expect(rt, "a trust domain");
+    let holds = match set.get_ref(&domain) {
+        Some(bundle) => is_alone(bundle.authorities(), authority.as_slice()),
         None => false,
-    }
-}
-
-/// The same of a trust domain and an authority that are given by name.
-fn holds(alloc: Global, set: &X509BundleSet, domain: &str, authority: &str) -> Result<bool, Fail> {
-    let domain = TrustDomain::new(alloc, domain)?;
-    let holds = match octets(alloc, authority) {
-        Ok(octets) => Ok(has_alone(set, &domain, octets.as_slice())),
-        Err(fail) => Err(fail),
     };
     drop(domain);
-    holds
+    drop(authority);
+    Ok(holds)
 }
 
 /// What a context holds: this many SVIDs and bundles, and for a trust domain that authority or
@@ -143,27 +143,30 @@ struct HeldContext<'a> {
     authority: &'a str,
 }
 
-fn is_held(alloc: Global, found: &X509Context, held: &HeldContext<'_>) -> Result<bool, Fail> {
+fn is_held(
+    rt: &impl Abort,
+    alloc: Global,
+    found: &X509Context,
+    held: &HeldContext<'_>,
+) -> Result<bool, Fail> {
     if found.svids().len() != held.svids || found.bundle_set().len() != held.bundles {
         return Ok(false);
     }
-    holds(alloc, found.bundle_set(), held.domain, held.authority)
+    holds(rt, alloc, found.bundle_set(), held.domain, held.authority)
 }
 
 /// Whether the response of those entries gives a context that holds that.
 fn gives(
+    rt: &impl Abort,
     alloc: Global,
     svids: &[SvidRow<'_>],
     federated: &[(&str, &str)],
     held: &HeldContext<'_>,
 ) -> Result<bool, Fail> {
     let response = context(alloc, svids, federated)?;
-    let found = context_from(alloc, &response);
+    let found = context_from(alloc, &response).expect(rt, "a context");
     drop(response);
-    let answer = match &found {
-        Ok(context) => is_held(alloc, context, held),
-        Err(_) => Ok(false),
-    };
+    let answer = is_held(rt, alloc, &found, held);
     drop(found);
     answer
 }
@@ -215,9 +218,8 @@ const CONTEXTS: &[ContextRow] = &[
 /// The bundle of the second SVID entry replaces that of the first, and a federated one both.
 #[test]
 fn contexts(rt: HostRuntime) -> Result<(), Fail> {
-    let alloc = rt.alloc();
-    for &(name, svids, federated, held) in CONTEXTS {
-        assert!(rt; gives(alloc, svids, federated, &held)?, "{name}");
+    for (name, svids, federated, held) in CONTEXTS {
+        assert!(rt; gives(&rt, rt.alloc(), svids, federated, held)?, "{name}");
     }
     Ok(())
 }
@@ -227,83 +229,61 @@ fn is_first(svid: &X509Svid, hint: Option<&str>) -> bool {
     svid.spiffe_id().as_str() == "spiffe://example.org/w" && svid.hint() == hint
 }
 
-/// Whether both calls succeed, and the one SVID, with that hint, is all that there is.
-fn are_first(
-    all: &Result<Vec<X509Svid>, WorkloadApiError>,
-    one: &Result<X509Svid, WorkloadApiError>,
-    hint: Option<&str>,
-) -> bool {
-    match (all, one) {
-        (Ok(all), Ok(one)) => match all.as_slice() {
-            [only] => *only == *one && is_first(one, hint),
-            _ => false,
-        },
+/// Whether the first SVID, with that hint, is all that the response gives.
+fn gives_first(rt: &impl Abort, alloc: Global, item: &ContextResponse, hint: Option<&str>) -> bool {
+    let all = svids_from(alloc, item).expect(rt, "SVIDs");
+    let one = svid_from(alloc, item).expect(rt, "an SVID");
+    let is_all = match all.as_slice() {
+        [only] => *only == one && is_first(&one, hint),
         _ => false,
-    }
-}
-
-/// Whether the first SVID, with that hint, is all that a response of that hint gives.
-fn gives_first(alloc: Global, given: &str, hint: Option<&str>) -> Result<bool, Fail> {
-    let rows = [SvidRow {
-        hint: given,
-        ..FIRST
-    }];
-    let item = context(alloc, &rows, &[])?;
-    let all = svids_from(alloc, &item);
-    let one = svid_from(alloc, &item);
-    drop(item);
-    let are_first = are_first(&all, &one, hint);
+    };
     drop(one);
     drop(all);
-    Ok(are_first)
+    is_all
 }
 
-const HINTS: &[(&str, &str, Option<&str>)] = &[
-    ("client", "", None),
-    ("hints_are_kept", "internal", Some("internal")),
+/// The first entry with a hint.
+const HINTED: SvidRow<'static> = SvidRow {
+    hint: "internal",
+    ..FIRST
+};
+
+const HINTS: &[(&str, &[SvidRow<'static>], Option<&str>)] = &[
+    ("client", &[FIRST], None),
+    ("hints_are_kept", &[HINTED], Some("internal")),
 ];
 
 /// A hint that is not empty is kept.
 #[test]
 fn client(rt: HostRuntime) -> Result<(), Fail> {
-    let alloc = rt.alloc();
-    for &(name, given, hint) in HINTS {
-        assert!(rt; gives_first(alloc, given, hint)?, "{name}");
+    for &(name, rows, hint) in HINTS {
+        let item = context(rt.alloc(), rows, &[])?;
+        let is_given = gives_first(&rt, rt.alloc(), &item, hint);
+        drop(item);
+        assert!(rt; is_given, "{name}");
     }
     Ok(())
 }
 
-fn bundles(alloc: Global, rows: &[(&str, &str)]) -> Result<BundlesResponse, Fail> {
-    Ok(BundlesResponse {
-        bundles: bundle_entries(alloc, rows)?,
-    })
-}
-
-/// Whether a response of no bundles lacks them.
-fn lacks_bundles(alloc: Global) -> Result<bool, Fail> {
-    let none = bundles(alloc, &[])?;
-    let found = bundle_set_from(alloc, &none);
-    drop(none);
-    Ok(is_refused(found, "X509BundlesResponse.bundles"))
-}
-
-/// Whether a response of the bundle of the first root gives that bundle.
-fn gives_bundle(alloc: Global) -> Result<bool, Fail> {
-    let one = bundles(alloc, &[("example.org", "ROOT1")])?;
-    let found = bundle_set_from(alloc, &one);
-    drop(one);
-    let answer = match &found {
-        Ok(set) => holds(alloc, set, "example.org", "ROOT1"),
-        Err(_) => Ok(false),
-    };
-    drop(found);
-    answer
+/// What a response of those bundles gives.
+fn bundles(
+    alloc: Global,
+    rows: &[(&str, &str)],
+) -> Result<Result<X509BundleSet, WorkloadApiError>, Fail> {
+    let bundles = bundle_entries(alloc, rows)?;
+    let response = BundlesResponse { bundles };
+    let found = bundle_set_from(alloc, &response);
+    drop(response);
+    Ok(found)
 }
 
 #[test]
 fn client_bundles(rt: HostRuntime) -> Result<(), Fail> {
-    let alloc = rt.alloc();
-    assert!(rt; lacks_bundles(alloc)?);
-    assert!(rt; gives_bundle(alloc)?);
+    let none = bundles(rt.alloc(), &[])?;
+    assert!(rt; is_refused(none, "X509BundlesResponse.bundles"));
+    let one = bundles(rt.alloc(), &[("example.org", "ROOT1")])?.expect(&rt, "a bundle");
+    let holds = holds(&rt, rt.alloc(), &one, "example.org", "ROOT1");
+    drop(one);
+    assert!(rt; holds?);
     Ok(())
 }

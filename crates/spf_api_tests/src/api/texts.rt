@@ -1,82 +1,72 @@
 //! Status codes, how a status reads, and the texts of errors.
 
+use crate::shown::{assert_texts, copy_of, has_text, is_shown};
 use spf_api::{
     EndpointError, EndpointParseError, GrpcStatusCode, GrpcStatusError, JsonError, JsonErrorKind,
     JwtBundleError, JwtSvidError, TransportConnectError, TransportError, WorkloadApiError,
 };
 use spf_id::SpiffeIdError;
-use spf_io::{OutOfMemory, Text};
+use spf_io::Text;
 use spf_x509::{X509BundleError, X509SvidError};
 use std::alloc::Global;
-use std::fmt::Display;
+use std::mem::drop;
+use std::process::Abort;
 
-/// The codes of gRPC from 0 on, by their names.
-const CODES: [&str; 17] = [
-    "ok",
-    "cancelled",
-    "unknown",
-    "invalid_argument",
-    "deadline_exceeded",
-    "not_found",
-    "already_exists",
-    "permission_denied",
-    "resource_exhausted",
-    "failed_precondition",
-    "aborted",
-    "out_of_range",
-    "unimplemented",
-    "internal",
-    "unavailable",
-    "data_loss",
-    "unauthenticated",
+/// The codes of gRPC, by their numbers and names.
+const CODES: &[(u8, &str)] = &[
+    (0, "ok"),
+    (1, "cancelled"),
+    (2, "unknown"),
+    (3, "invalid_argument"),
+    (4, "deadline_exceeded"),
+    (5, "not_found"),
+    (6, "already_exists"),
+    (7, "permission_denied"),
+    (8, "resource_exhausted"),
+    (9, "failed_precondition"),
+    (10, "aborted"),
+    (11, "out_of_range"),
+    (12, "unimplemented"),
+    (13, "internal"),
+    (14, "unavailable"),
+    (15, "data_loss"),
+    (16, "unauthenticated"),
 ];
 
-/// The name of the code with that number, where there is one.
-fn name_of(number: u8) -> Option<&'static str> {
-    Some(GrpcStatusCode::from_number(number)?.as_str())
+/// Whether the code of that number has that name.
+fn is_code(number: u8, name: &str) -> bool {
+    match GrpcStatusCode::from_number(number) {
+        Some(code) => code.as_str() == name,
+        None => false,
+    }
 }
 
 #[test]
 fn status_codes(rt: HostRuntime) {
-    for number in 0..17u8 {
-        let wanted = CODES.get(number as usize).copied();
-        assert!(rt; name_of(number) == wanted, "{number}");
+    for &(number, name) in CODES {
+        assert!(rt; is_code(number, name), "{number}");
     }
     assert!(rt; GrpcStatusCode::from_number(17).is_none());
     assert!(rt; GrpcStatusCode::from_number(7) == Some(GrpcStatusCode::PermissionDenied));
 }
 
-/// Whether that is the text of the value.
-fn has_text<T: Display + Drop>(alloc: Global, value: T, text: &str) -> Result<bool, OutOfMemory> {
-    Ok(value.to_string(alloc)?.as_str() == text)
-}
-
 /// How a status reads.
 fn reading(
+    rt: &impl Abort,
     alloc: Global,
     code: GrpcStatusCode,
     message: &str,
-) -> Result<WorkloadApiError, OutOfMemory> {
-    let message = Text::copy_of(alloc, message)?;
-    Ok(WorkloadApiError::from_status(GrpcStatusError::new(code, message)))
+) -> WorkloadApiError {
+    let message = copy_of(rt, alloc, message);
+    WorkloadApiError::from_status(GrpcStatusError::new(code, message))
 }
 
-/// Whether that is the text of how a status reads.
-fn reads_as(
-    alloc: Global,
-    code: GrpcStatusCode,
-    message: &str,
-    text: &str,
-) -> Result<bool, OutOfMemory> {
-    has_text(alloc, reading(alloc, code, message)?, text)
-}
-
-/// Whether such a status reads as an invalid argument, and whether as unimplemented.
-fn kinds(alloc: Global, code: GrpcStatusCode) -> Result<(bool, bool), OutOfMemory> {
-    let error = reading(alloc, code, "")?;
-    let kinds = (error.is_invalid_argument(), error.is_unimplemented());
+/// Whether such a status reads as an invalid argument, and whether as unimplemented, as wanted.
+fn is_kind(rt: &impl Abort, alloc: Global, code: GrpcStatusCode, wanted: (bool, bool)) -> bool {
+    let error = reading(rt, alloc, code, "");
+    let (argument, unimplemented) = (error.is_invalid_argument(), error.is_unimplemented());
     drop(error);
-    Ok(kinds)
+    argument == wanted.0 && unimplemented == wanted.1
 }
 
 const STATUSES: &[(GrpcStatusCode, &str, &str)] = &[
@@ -99,10 +89,9 @@ const STATUSES: &[(GrpcStatusCode, &str, &str)] = &[
 
 #[test]
 fn from_status(rt: HostRuntime) {
-    let alloc = rt.alloc();
     for &(code, message, text) in STATUSES {
         assert!(rt;
-            reads_as(alloc, code, message, text).expect(&rt, "memory"),
+            is_shown(rt.alloc(), reading(&rt, rt.alloc(), code, message), text),
             "{text}"
         );
     }
@@ -116,13 +105,8 @@ const KINDS: &[(GrpcStatusCode, (bool, bool))] = &[
 
 #[test]
 fn codes_of_errors(rt: HostRuntime) {
-    let alloc = rt.alloc();
     for &(code, wanted) in KINDS {
-        assert!(rt;
-            kinds(alloc, code).expect(&rt, "memory") == wanted,
-            "{}",
-            code.as_str()
-        );
+        assert!(rt; is_kind(&rt, rt.alloc(), code, wanted), "{}", code.as_str());
     }
 }
 
@@ -284,28 +268,17 @@ const ENDPOINT_TEXTS: &[(EndpointError, &str)] = &[
 ];
 
 /// Whether that is the text of the error of that row of a table, which keeps the text `T`.
-fn is_row_text(alloc: Global, table: usize, row: usize, text: &str) -> Result<bool, OutOfMemory> {
-    let kept = Text::copy_of(alloc, "T")?;
+fn is_row_text(rt: &impl Abort, alloc: Global, table: usize, row: usize, text: &str) -> bool {
+    let kept = copy_of(rt, alloc, "T");
     match table {
-        0 => has_text(alloc, api_error(row, kept), text),
-        1 => has_text(alloc, transport_error(row, kept), text),
-        2 => has_text(alloc, jwt_svid_error(row, kept), text),
-        _ => has_text(alloc, jwt_bundle_error(row), text),
-    }
-}
-
-/// The first of the texts that is not that of its row of the table.
-fn first_other(
-    alloc: Global,
-    table: usize,
-    texts: &[&'static str],
-) -> Result<Option<&'static str>, OutOfMemory> {
-    for (row, text) in texts.iter().enumerate() {
-        if !is_row_text(alloc, table, row, text)? {
-            return Ok(Some(*text));
+        0 => is_shown(alloc, api_error(row, kept), text),
+        1 => is_shown(alloc, transport_error(row, kept), text),
+        2 => is_shown(alloc, jwt_svid_error(row, kept), text),
+        _ => {
+            drop(kept);
+            is_shown(alloc, jwt_bundle_error(row), text)
         }
     }
-    Ok(None)
 }
 
 /// The tables by their numbers, with the texts of their rows.
@@ -319,27 +292,24 @@ const TABLES: &[(usize, &[&'static str])] = &[
 #[test]
 fn error_texts(rt: HostRuntime) {
     for &(table, texts) in TABLES {
-        let other = first_other(rt.alloc(), table, texts).expect(&rt, "memory");
-        assert!(rt; other.is_none(), "{table}: {other:?}");
+        for (row, text) in texts.iter().enumerate() {
+            assert!(rt;
+                is_row_text(&rt, rt.alloc(), table, row, text),
+                "{table}: {text}"
+            );
+        }
     }
 }
 
 #[test]
 fn endpoint_error_texts(rt: HostRuntime) {
-    let alloc = rt.alloc();
-    for &(error, text) in ENDPOINT_TEXTS {
-        assert!(rt;
-            has_text(alloc, error, text).expect(&rt, "memory"),
-            "{text}"
-        );
-    }
-    assert!(rt; has_text(alloc, EndpointParseError, "invalid URI").expect(&rt, "memory"));
+    assert_texts(&rt, rt.alloc(), ENDPOINT_TEXTS);
+    assert!(rt; has_text(rt.alloc(), &EndpointParseError, "invalid URI"));
 }
 
 #[test]
 fn json_error_texts(rt: HostRuntime) {
-    let alloc = rt.alloc();
     let ended = JsonError::new(JsonErrorKind::Eof);
-    assert!(rt; has_text(alloc, ended, "Eof").expect(&rt, "memory"));
-    assert!(rt; has_text(alloc, JsonErrorKind::Syntax, "Syntax").expect(&rt, "memory"));
+    assert!(rt; has_text(rt.alloc(), &ended, "Eof"));
+    assert!(rt; has_text(rt.alloc(), &JsonErrorKind::Syntax, "Syntax"));
 }
