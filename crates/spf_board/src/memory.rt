@@ -76,9 +76,7 @@ fn read<K: Replay, L: Look<K::Snapshot>>(
     ensures entered { IfSome result.1 (λ t.
         IsPrefix entered.now.list t.front.list × (t.front.book ≡ entered.now.book)) }
 {
-    #[tactic(none)]
     match reader.enter_as::<Takes>() {
-        #[tactic(auto)]
         Ok(reading) => {
             let taken = newer(reading.get(), entered, seen, looks_again, look);
             (reading.leave(), taken)

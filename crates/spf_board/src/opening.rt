@@ -32,7 +32,6 @@ fn claim<K: Replay, R: Wait>(
         × Posts K.replays result.0.desk.shown.value.snapshot result.0.desk.shown.value.front
         (view result.0.desk.place)) }
 {
-    #[tactic(none)]
     let (writer, published) = writer.publish_as::<Puts, R>(rt);
     match published {
         Ok(()) => (writer, Ok(())),
@@ -52,7 +51,6 @@ fn seat<K: Replay>(writer: &mut PostWriter<K>) -> Result<PostReader<K>, OutOfMem
 {
     match writer.factory().reader() {
         Ok(mut reader) => {
-            #[tactic(none)]
             reader.learn::<Notes>(writer.tell::<Notes>());
             Ok(reader)
         }

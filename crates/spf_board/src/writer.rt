@@ -35,7 +35,6 @@ pub(crate) fn push<K: Replay, R: Wait>(
 {
     match writer.append(post) {
         Ok(()) => {
-            #[tactic(none)]
             let (writer, published) = writer.publish_as::<Puts, R>(rt);
             match published {
                 Ok(()) => (writer, Ok(())),
