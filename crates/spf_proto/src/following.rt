@@ -111,6 +111,7 @@ fn follow_lent<N: Origin, T: LentSource, K: Sink, P: Publisher, M: MetricsRecord
         acceptance.ready,
     );
     let end = FrameEnd::of(&followed);
+    drop(followed);
     let result = translator.result_of(end, max_messages);
     (result, translator.into_source())
 }
