@@ -12,6 +12,25 @@ use Rattle.spf_helper.specs.declared.helper_error.HelperError.TheVariants as err
 use Rattle.spf_helper.specs.Runs.{Ran, is_disk_fault}
 use Rattle.spf_helper.specs.Watching.{status_of_end}
 
+-- 1 is the status of other words
+pub never_one : (r : Result ℕ HelperError) → status_of_end r ≡ 1 → ⊥
+never_one (Ok count) is = omega (arith, is)
+never_one (Err (errors.Open opening.OutOfMemory)) is = omega (arith, is)
+never_one (Err (errors.Open opening.DiskFault)) is = omega (arith, is)
+never_one (Err (errors.Open opening.Damaged)) is = omega (arith, is)
+never_one (Err (errors.Follow follow_errors.OutOfMemory)) is = omega (arith, is)
+never_one (Err (errors.Follow follow_errors.ReadFault)) is = omega (arith, is)
+never_one (Err (errors.Follow follow_errors.WriteFault)) is = omega (arith, is)
+never_one (Err (errors.Follow follow_errors.SessionTooLong)) is = omega (arith, is)
+never_one (Err (errors.Follow (follow_errors.BadFrame frame))) is = omega (arith, is)
+never_one (Err (errors.Follow (follow_errors.Source e))) is = omega (arith, is)
+never_one (Err (errors.Follow (follow_errors.UnsupportedRpc e))) is = omega (arith, is)
+never_one (Err (errors.Follow follow_errors.InitialSyncTimeout)) is = omega (arith, is)
+never_one (Err (errors.Follow follow_errors.Closed)) is = omega (arith, is)
+never_one (Err (errors.Follow follow_errors.NeverSynced)) is = omega (arith, is)
+never_one (Err errors.DiskFault) is = omega (arith, is)
+never_one (Err errors.Full) is = omega (arith, is)
+
 pub read_failed : (r : Result ℕ HelperError) → status_of_end r ≡ 3
     → r ≡ Err (errors.Follow follow_errors.ReadFault)
 read_failed (Ok count) is = absurd (omega (arith, is))

@@ -26,9 +26,11 @@ fn ended(followed: Result<u64, FollowError>, fault: bool, full: bool) -> Result<
     ensures { result ≡ ended_as fault full followed }
 {
     if fault {
+        drop(followed);
         return Err(HelperError::DiskFault);
     }
     if full {
+        drop(followed);
         return Err(HelperError::Full);
     }
     match followed {

@@ -71,5 +71,7 @@ pub fn helper_watch<S: Source, D: Disk, K: Sink, E: Sink>(
     }
     let limits = ResourceLimits::default_limits();
     let end = helper_follow(alloc, source, out, disk, limits, MAX_FRAMES);
-    report(errors, &end)
+    let status = report(errors, &end);
+    drop(end);
+    status
 }
