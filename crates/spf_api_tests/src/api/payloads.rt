@@ -46,7 +46,7 @@ fn laid_out(rt: &impl Abort, alloc: Global, kind: ResponseKind, payload: &[u8]) 
     }
 }
 
-/// Whether that payload of the first item has so many octets, and lays out that.
+/// Whether the first item's payload, cut to that length, is as long and lays out as wanted.
 fn first_is_laid_out(
     rt: &impl Abort,
     alloc: Global,
