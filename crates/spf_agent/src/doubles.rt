@@ -5,12 +5,10 @@ ghost use Rattle.std.specs.Prelude.{◌≡◌, Ok};
 
 use crate::marks::Marks;
 use spf_api::{ClientFault, EndpointError, LinkFault, Response};
-use spf_endpoint::Endpoint;
 use spf_feed::{MetricsErrorKind, MetricsRecorder};
 use spf_io::{OutOfMemory, Text};
-use spf_link::{Connector, Headers, Link, Request};
+use spf_link::{Connector, Endpoint, EndpointConnector, Headers, Link, Request, SocketLink};
 use spf_system::{Clock, Pause, StopFlag};
-use spf_wire::{EndpointConnector, SocketLink};
 use std::alloc::Global;
 use std::thread;
 use std::time::Duration;

@@ -2,7 +2,7 @@
 
 use crate::shown::has_text;
 use spf_api::{EndpointError, EndpointParseError};
-use spf_endpoint::{Endpoint, EndpointHost, tcp_uri};
+use spf_link::{Endpoint, EndpointHost, tcp_uri};
 use std::alloc::Global;
 use std::mem::drop;
 use std::process::Abort;

@@ -2,8 +2,7 @@
 
 use crate::shown::copy_of;
 use spf_api::{EndpointError, WorkloadApiError};
-use spf_endpoint::{Endpoint, from_env};
-use spf_link::Headers;
+use spf_link::{Endpoint, Headers, from_env};
 use spf_system::{
     Clock, EnvValue, Environment, MemClock, MemEnvironment, MemPause, Pause, StdClock,
     StdEnvironment, StdPause, StopFlag,

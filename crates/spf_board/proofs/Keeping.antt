@@ -6,10 +6,10 @@ use lib.ListN.{get_elem?}
 use Rattle.left_right.specs.Register.{Admits, TurnsAt, Turns, Forks, Merges}
 use Rattle.atomic_table.proofs.Lists.{at_set, at_snoc, set_again}
 use Rattle.logbook.specs.Pages.{Book}
-use Rattle.spf_history.specs.declared.entry.Entry.{Entry}
-use Rattle.spf_history.specs.Lists.{steps_of}
-use Rattle.spf_history.specs.Past.{Past, added}
-use Rattle.spf_history.proofs.Prefixes.{steps_more, steps_end}
+use Rattle.spf_board.specs.declared.entry.Entry.{Entry}
+use Rattle.spf_board.specs.Lists.{steps_of}
+use Rattle.spf_board.specs.Past.{Past, added}
+use Rattle.spf_board.proofs.Prefixes.{steps_more, steps_end}
 use Rattle.spf_board.specs.declared.rule.Place.{Place}
 use Rattle.spf_board.specs.declared.posted.Change.{Change}
 use Rattle.spf_board.specs.declared.posted.Change.TheVariants as change

@@ -3,9 +3,9 @@ use Rattle.std.proofs.Common.{◌≡◌, ℕ, ◌+◌, ◌-◌, ◌^◌, ◌<◌
 use Rattle.std.proofs.Common.{inl, inr, arith, lt_of_not-le}
 use native.Mathlib.Decide.{dec_le}
 use mathlib.Core.List.{IsPrefix}
-use Rattle.spf_history.specs.Lists.{steps_of, IsBoardList}
-use Rattle.spf_history.specs.Past.{Past}
-use Rattle.spf_history.proofs.Prefixes.{begins_self, begins_trans, ended_stays}
+use Rattle.spf_board.specs.Lists.{steps_of, IsBoardList}
+use Rattle.spf_board.specs.Past.{Past}
+use Rattle.spf_board.proofs.Prefixes.{begins_self, begins_trans, ended_stays}
 use Rattle.spf_board.specs.declared.rule.Place.{Place}
 use Rattle.spf_io.specs.Outside.{Rose}
 use Rattle.spf_board.specs.Passes.{remembered, passed, KeepsAll, Finds, Renews, Peeks}

@@ -4,8 +4,8 @@ use Rattle.std.specs.Prelude.{◌≡◌, ℕ, ◌+◌, true, false, List}
 use mathlib.Core.Option.{some}
 use lib.ListN.{get_elem?}
 use Rattle.logbook.specs.Pages.{Book}
-use Rattle.spf_history.specs.Lists.{steps_of}
-use Rattle.spf_history.specs.Past.{Past}
+use Rattle.spf_board.specs.Lists.{steps_of}
+use Rattle.spf_board.specs.Past.{Past}
 use Rattle.spf_board.specs.declared.rule.Place.{Place}
 
 abbrev pub unbound : Place

@@ -1,7 +1,7 @@
 -- What a writer holds between two calls.
 use Rattle.std.specs.Prelude.{◌≡◌, List, [], Option, IfSome}
-use Rattle.spf_history.specs.Lists.{steps_of, IsBoardList}
-use Rattle.spf_history.specs.Past.{Past, past}
+use Rattle.spf_board.specs.Lists.{steps_of, IsBoardList}
+use Rattle.spf_board.specs.Past.{Past, past}
 use Rattle.spf_board.specs.declared.rule.Place.{Place}
 use Rattle.spf_board.specs.Board.{IsBoundTo}
 

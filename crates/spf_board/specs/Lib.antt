@@ -3,3 +3,10 @@ pub mod Desks
 pub mod Passes
 pub mod Places
 pub mod Posted
+pub mod Lists
+pub mod Past
+pub mod Rules
+pub mod Passing
+pub mod Showing
+pub mod Sources
+pub mod Writers

@@ -3,9 +3,9 @@ use Rattle.std.specs.Prelude.{◌≡◌, ℕ, ◌+◌, ◌-◌, ◌^◌, ◌<◌
 use mathlib.Core.List.{IsPrefix}
 use Rattle.logbook.specs.Pages.{Book}
 use Rattle.spf_io.specs.Outside.{Rose}
-use Rattle.spf_history.specs.declared.entry.Entry.{Entry}
-use Rattle.spf_history.specs.Lists.{steps_of, is_ended, IsBoardList}
-use Rattle.spf_history.specs.Past.{Past}
+use Rattle.spf_board.specs.declared.entry.Entry.{Entry}
+use Rattle.spf_board.specs.Lists.{steps_of, is_ended, IsBoardList}
+use Rattle.spf_board.specs.Past.{Past}
 use Rattle.spf_board.specs.declared.rule.Place.{Place}
 
 -- what a pass remembers

@@ -1,6 +1,6 @@
 -- What is published.
-use Rattle.spf_history.specs.declared.entry.Entry.{Entry}
-use Rattle.spf_history.specs.declared.entry.Entry.TheVariants as entry
+use Rattle.spf_board.specs.declared.entry.Entry.{Entry}
+use Rattle.spf_board.specs.declared.entry.Entry.TheVariants as entry
 use Rattle.spf_board.specs.declared.posted.Change.{Change}
 use Rattle.spf_board.specs.declared.posted.Change.TheVariants as change
 

@@ -1,6 +1,6 @@
 //! What a board is a board of.
 
-use spf_history::Kind;
+use crate::entry::Kind;
 use spf_io::OutOfMemory;
 
 /// A kind of step, with the snapshot that steps make. Nothing here allocates. A copy shares what it

@@ -3,15 +3,16 @@
 ghost use Rattle.std.specs.Prelude.{◌≡◌, ◌+◌, false, OnSome, IfSome, IfNone};
 ghost use mathlib.Core.List.{IsPrefix};
 ghost use Rattle.left_right.specs.Sides.{view};
-ghost use Rattle.spf_history.specs.Lists.{IsBoardList};
+ghost use Rattle.spf_board.specs.Lists.{IsBoardList};
 ghost use Rattle.spf_board.specs.Board.{IsBoundTo};
 ghost use Rattle.spf_io.specs.Outside.{Rose};
 ghost use Rattle.spf_board.specs.Passes.{Finds};
 
+use crate::entry::Kind;
+use crate::front::Front;
 use crate::kind::{Look, Replay};
 use crate::posted::Posted;
 use crate::rule::{PostReader, Takes};
-use spf_history::{Front, Kind};
 use spf_io::OutOfMemory;
 use std::marker::{Model, PhantomData};
 
@@ -137,7 +138,7 @@ pub struct Memory<K: Replay> {
 impl<K: Replay> Model for Memory<K> {
     ghost use Rattle.std.specs.Prelude.{◌≡◌};
     ghost use mathlib.Core.List.{IsPrefix};
-    ghost use Rattle.spf_history.specs.Lists.{steps_of, IsBoardList};
+    ghost use Rattle.spf_board.specs.Lists.{steps_of, IsBoardList};
     ghost use Rattle.spf_board.specs.Passes.{Remembered, remembered};
 
     ghost Value = { Remembered K.Step };
@@ -169,7 +170,7 @@ impl<K: Replay> Look<K::Snapshot> for Copied<K> {
 impl<K: Replay> Memory<K> {
     ghost use Rattle.std.specs.Prelude.{◌≡◌, IfOk, OnOk, OnErr};
     ghost use Rattle.left_right.specs.Sides.{view};
-    ghost use Rattle.spf_history.specs.Lists.{steps_of, IsBoardList};
+    ghost use Rattle.spf_board.specs.Lists.{steps_of, IsBoardList};
     ghost use Rattle.spf_board.specs.Board.{IsBoundTo};
     ghost use Rattle.spf_board.specs.Passes.{remembered, passed, KeepsAll, Renews, Peeks};
 

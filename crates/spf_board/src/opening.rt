@@ -2,18 +2,18 @@
 
 ghost use Rattle.std.specs.Prelude.{◌≡◌, ◌∷◌, [], drop, Some, OnOk, IfOk, All};
 ghost use Rattle.left_right.specs.Sides.{view};
-ghost use Rattle.spf_history.specs.declared.entry.Entry.TheVariants as entry;
+ghost use Rattle.spf_board.specs.declared.entry.Entry.TheVariants as entry;
 ghost use Rattle.spf_board.specs.Board.{IsBoundTo, Posts};
 ghost use Rattle.spf_board.specs.Desks.{IsRested};
 ghost use Rattle.spf_board.specs.Passes.{remembered};
-ghost use Rattle.spf_history.specs.Lists.{IsBoardList};
+ghost use Rattle.spf_board.specs.Lists.{IsBoardList};
 
 use crate::kind::Replay;
 use crate::memory::Memory;
 use crate::posted::Posted;
 use crate::rule::{Notes, PostReader, PostWriter, Puts};
+use crate::scribe::Scribe;
 use left_right::writer::Writer;
-use spf_history::Scribe;
 use spf_io::OutOfMemory;
 use std::alloc::Global;
 use std::sync::Wait;

@@ -2,9 +2,9 @@
 
 ghost use Rattle.std.specs.Prelude.{◌≡◌, IfOk};
 
+use crate::front::Front;
 use crate::kind::Replay;
 use left_right::Absorb;
-use spf_history::Front;
 use spf_io::OutOfMemory;
 use std::alloc::AllocError;
 

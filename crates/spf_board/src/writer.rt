@@ -3,9 +3,9 @@
 ghost use Rattle.std.specs.Prelude.{◌≡◌, ◌∷◌, ◌++◌, [], false, drop, None, OnOk, OnErr};
 ghost use Rattle.std.specs.Bool.{OnTrue};
 ghost use Rattle.left_right.specs.Sides.{view};
-ghost use Rattle.spf_history.specs.declared.entry.Entry.TheVariants as entry;
-ghost use Rattle.spf_history.specs.Lists.{steps_of, is_ended, MayFollow};
-ghost use Rattle.spf_history.specs.Past.{added};
+ghost use Rattle.spf_board.specs.declared.entry.Entry.TheVariants as entry;
+ghost use Rattle.spf_board.specs.Lists.{steps_of, is_ended, MayFollow};
+ghost use Rattle.spf_board.specs.Past.{added};
 ghost use Rattle.spf_board.specs.Board.{Posts};
 ghost use Rattle.spf_board.specs.Desks.{IsRested};
 ghost use Rattle.spf_board.specs.Posted.{entry_of};
@@ -13,7 +13,7 @@ ghost use Rattle.spf_board.specs.Posted.{entry_of};
 use crate::kind::Replay;
 use crate::posted::{Change, Post, Twice};
 use crate::rule::{PostWriter, Puts};
-use spf_history::Scribe;
+use crate::scribe::Scribe;
 use spf_io::OutOfMemory;
 use std::sync::Wait;
 

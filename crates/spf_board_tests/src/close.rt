@@ -1,6 +1,6 @@
 //! The closed cell of a live source, and its bell.
 
-use spf_close::{Bell, Closer, Maker, Watch, closed_cell};
+use spf_system::{Bell, Closer, Maker, Watch, closed_cell};
 use std::thread;
 
 fn maker_seen(watch: &Watch) -> Option<Maker> {

@@ -4,7 +4,7 @@ ghost use Rattle.std.specs.Prelude.{◌≡◌, ◌+◌};
 
 use rand_core::Rng;
 use spf_io::Failed;
-use spf_job::{
+use spf_system::{
     InlineSpawner, Job, Joins, RefusingSpawner, Running, Spawner, StepWords, start_thread,
 };
 use std::thread::Threads;

@@ -1,9 +1,10 @@
 //! The board of a JWT source, which threads share, and its places.
 
 ghost use Rattle.std.specs.Prelude.{◌≡◌, ◌≢◌, Some, [], IfOk};
-ghost use Rattle.spf_history.specs.Lists.{steps_of};
+ghost use Rattle.spf_board.specs.Lists.{steps_of};
 ghost use Rattle.spf_jwt_feed.specs.Steps.{MayFollow};
 
+use spf_board::Places;
 use spf_feed::Denial;
 use spf_io::OutOfMemory;
 use spf_jwt::{JwtBundleSet, JwtResourceLimits, validate_jwt_limits};
@@ -12,7 +13,6 @@ use spf_jwt_board::{
     RefusingPlaces, SharedStep, Usable, open, publish_on, settle,
 };
 use spf_jwt_feed::JwtStep;
-use spf_pass::Places;
 use std::alloc::Global;
 use std::snapshot::Snapshot;
 use std::sync::{Arc, Wait};

@@ -1,12 +1,12 @@
 //! The board of an X.509 source, which threads share, and its places.
 
 ghost use Rattle.std.specs.Prelude.{◌≡◌, ◌≢◌, Some, [], IfOk};
-ghost use Rattle.spf_history.specs.Lists.{steps_of};
+ghost use Rattle.spf_board.specs.Lists.{steps_of};
 ghost use Rattle.spf_feed.specs.Steps.{MayFollow};
 
+use spf_board::Places;
 use spf_feed::{Denial, Prepared, ResourceLimits, Step, validate_limits};
 use spf_io::OutOfMemory;
-use spf_pass::Places;
 use spf_x509::{X509BundleSet, X509Context};
 use spf_x509_board::{
     BoardPlaces, Desk, Ended, Front, PLACES, Pass, PlaceFault, RefusingPlaces, UsableAt, X509,

@@ -4,8 +4,8 @@ use Rattle.spf_system.specs.declared.environment.EnvValue.{EnvValue}
 use Rattle.spf_api.specs.declared.error.WorkloadApiError.{WorkloadApiError}
 use Rattle.spf_api.specs.declared.error.WorkloadApiError.TheVariants as api
 use Rattle.spf_api.specs.declared.link.ClientFault.{ClientFault}
-use Rattle.spf_endpoint.specs.Environment.{ReadsEndpoint}
-use Rattle.spf_endpoint.specs.declared.endpoint.Endpoint.{Endpoint}
+use Rattle.spf_link.specs.Environment.{ReadsEndpoint}
+use Rattle.spf_link.specs.declared.endpoint.Endpoint.{Endpoint}
 use Rattle.spf_link.specs.Asked.{Connected}
 use Rattle.spf_link.specs.declared.answer.Answer.{Answer}
 use Rattle.spf_link.specs.declared.connector.Connector as connectors

@@ -8,8 +8,7 @@ ghost use Rattle.spf_client.specs.Asking.{Asks, Begins};
 
 use crate::reading::{fault_error, first_response};
 use spf_api::{Response, WorkloadApiError};
-use spf_endpoint::Endpoint;
-use spf_link::{Headers, Interceptor, Link, MetadataAdder, Request};
+use spf_link::{Endpoint, Headers, Interceptor, Link, MetadataAdder, Request};
 use std::alloc::Global;
 use std::fmt;
 

@@ -7,10 +7,11 @@ ghost use Rattle.spf_client.specs.Connecting.{IsConnected, ReadsAndConnects};
 use crate::client::WorkloadApiClient;
 use crate::reading::client_fault_error;
 use spf_api::WorkloadApiError;
-use spf_endpoint::{Endpoint, WORKLOAD_API_ENDPOINT_ENV, from_env};
-use spf_link::{Connector, Link, NoInterceptor};
+use spf_link::{
+    Connector, Endpoint, EndpointConnector, Link, NoInterceptor, SocketLink,
+    WORKLOAD_API_ENDPOINT_ENV, from_env,
+};
 use spf_system::Environment;
-use spf_wire::{EndpointConnector, SocketLink};
 use std::alloc::Global;
 use std::net::{Net, TcpStream};
 

@@ -3,9 +3,8 @@
 use crate::link_doubles::{connector, link};
 use spf_api::WorkloadApiError;
 use spf_client::{WorkloadApiClient, X509BundleStream, X509ContextStream, X509SvidStream};
-use spf_endpoint::Endpoint;
 use spf_io::Text;
-use spf_link::{MemConnector, MemLink, NoInterceptor};
+use spf_link::{Endpoint, MemConnector, MemLink, NoInterceptor};
 use spf_x509::{X509BundleSet, X509Context, X509Svid};
 use std::alloc::Global;
 use std::mem::drop;

@@ -1,14 +1,15 @@
 //! Links over real sockets, to server threads of the tests.
 
+use spf_agent::first_item;
 use spf_api::{ClientFault, GrpcStatusCode, LinkFault, Response, TransportError, WorkloadApiError};
 use spf_client::WorkloadApiClient;
-use spf_endpoint::Endpoint;
 use spf_fixtures::octets;
 use spf_io::{OutOfMemory, Text};
-use spf_link::{Connector, Headers, Link, NoInterceptor, Request};
-use spf_responses::first_item;
+use spf_link::{
+    Connector, Endpoint, EndpointConnector, EnvConnector, Headers, Link, NoInterceptor, Request,
+    SocketLink,
+};
 use spf_system::{EnvValue, MemEnvironment, StopFlag};
-use spf_wire::{EndpointConnector, EnvConnector, SocketLink};
 use spf_x509::X509Svid;
 use std::alloc::Global;
 use std::fs;

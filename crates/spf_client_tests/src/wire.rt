@@ -1,11 +1,10 @@
 //! The wire over memory.
 
+use spf_agent::first_item;
 use spf_api::{LinkFault, Response};
 use spf_fixtures::octets;
 use spf_io::{MemSink, MemSource, Text};
-use spf_link::{Headers, Link, Request};
-use spf_responses::first_item;
-use spf_wire::WireLink;
+use spf_link::{Headers, Link, Request, WireLink};
 use std::alloc::Global;
 use std::mem::drop;
 use std::process::Abort;

@@ -2,7 +2,11 @@
 //! what a reader finds, and how an entry is replaced so that a crash leaves the old or the new one.
 #![tactic(auto)]
 
+mod contents;
 mod disk;
+mod folder_disk;
+mod folder_fault;
+mod folder_files;
 mod generation;
 pub mod laws;
 mod mem_disk;
@@ -16,6 +20,8 @@ mod slot;
 mod writer;
 
 pub use disk::{Disk, DiskFailed, HelperFile};
+pub use folder_disk::FolderDisk;
+pub use folder_fault::FolderFault;
 pub use generation::{AuthorityList, Entry, Generation};
 pub use mem_disk::MemDisk;
 pub use open_error::OpenError;

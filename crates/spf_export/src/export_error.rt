@@ -1,7 +1,6 @@
 //! Why nothing, or not all, is exported.
 
-use spf_disk::OpenError;
-use spf_folder::FolderFault;
+use spf_disk::{FolderFault, OpenError};
 use spf_io::OutOfMemory;
 use spf_program::ArgumentsError;
 use spf_x509::X509SvidError;

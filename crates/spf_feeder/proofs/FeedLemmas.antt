@@ -8,7 +8,7 @@ use Rattle.spf_link.specs.Connecting.{Member}
 use Rattle.spf_link.specs.declared.answer.Answer.{Answer}
 use Rattle.spf_link.specs.declared.connector.Connector as connectors
 use Rattle.spf_link.specs.declared.link.Link as links
-use Rattle.spf_pace.specs.declared.pacer.AttemptEnd.{AttemptEnd}
+use Rattle.spf_system.specs.declared.pacer.AttemptEnd.{AttemptEnd}
 use Rattle.spf_view.specs.Steps.{steps_of}
 use Rattle.spf_view.specs.Views.{has_synced}
 use Rattle.spf_view.proofs.ViewLemmas.{last_first}

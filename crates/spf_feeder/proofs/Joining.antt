@@ -3,7 +3,7 @@ use Rattle.std.proofs.Common.{◌≡◌, [], ◌∷◌, true, List, Option, ap, 
 use Rattle.std.specs.Prelude.{ℤ}
 use Rattle.spf_link.specs.declared.connector.Connector as connectors
 use Rattle.spf_link.specs.declared.link.Link as links
-use Rattle.spf_pace.specs.declared.pace.Pace.{Pace}
+use Rattle.spf_system.specs.declared.pace.Pace.{Pace}
 use Rattle.spf_view.specs.Steps.{Step, steps_of}
 use Rattle.spf_view.specs.Views.{has_synced}
 use Rattle.spf_feed.specs.declared.event.SessionEvent.{SessionEvent}

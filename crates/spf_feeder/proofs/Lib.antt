@@ -7,3 +7,7 @@ pub mod TurnLemmas
 pub mod RunLemmas
 pub mod YieldLemmas
 pub mod TimeLemmas
+pub mod Leaving
+pub mod Recording
+pub mod Sending
+pub mod Unyielded

@@ -2,7 +2,7 @@
 use Rattle.std.proofs.Common.{◌≡◌, true, false, not, ◌||◌, ◌&&◌, List, [], ◌∷◌, ◌++◌, reverse}
 use Rattle.std.proofs.Common.{None, refl, sym, ap, ◌∙◌, subst}
 use Rattle.std.specs.Prelude.{ℤ, if◌then◌else◌, is_some}
-use Rattle.spf_pace.specs.declared.pace.Pace.{Pace}
+use Rattle.spf_system.specs.declared.pace.Pace.{Pace}
 use Rattle.spf_view.specs.Views.{Subject, brings, has_synced, keep_if, last_moment, outcome}
 use Rattle.spf_view.proofs.ViewLemmas.{last_first}
 use Rattle.spf_feed.specs.declared.event.SessionEvent.{SessionEvent}

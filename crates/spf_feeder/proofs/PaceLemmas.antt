@@ -3,11 +3,11 @@ use Rattle.std.proofs.Common.{◌≡◌, ℕ, Bool, true, false, not, ◌||◌, 
 use Rattle.std.proofs.Common.{reverse, Option, None, Some, refl, sym, ap, ◌∙◌, subst}
 use Rattle.std.specs.Prelude.{is_some}
 use Rattle.std.specs.Option.{option_map_or}
-use Rattle.spf_pace.specs.declared.pacer.AttemptEnd.{AttemptEnd}
-use Rattle.spf_pace.specs.declared.pace.Pace.{Pace}
-use Rattle.spf_pace.specs.Delays.{PaceStep}
-use Rattle.spf_pace.specs.Pacing.{AreSynced, Paces, ended, paced_by, synchronised}
-use Rattle.spf_pace.proofs.PaceLemmas.{paces_as, step_synced}
+use Rattle.spf_system.specs.declared.pacer.AttemptEnd.{AttemptEnd}
+use Rattle.spf_system.specs.declared.pace.Pace.{Pace}
+use Rattle.spf_system.specs.Delays.{PaceStep}
+use Rattle.spf_system.specs.Pacing.{AreSynced, Paces, ended, paced_by, synchronised}
+use Rattle.spf_system.proofs.PaceLemmas.{paces_as, step_synced}
 use Rattle.spf_view.specs.Views.{Accepted, Subject, brings, denied_or_passed, has_synced}
 use Rattle.spf_view.specs.Views.{last_moment, outcome}
 use Rattle.spf_view.proofs.ViewLemmas.{last_first}

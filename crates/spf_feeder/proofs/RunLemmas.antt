@@ -13,7 +13,7 @@ use Rattle.spf_view.specs.Standing.{Kept}
 use Rattle.spf_view.specs.Steps.{Accept, Deny, Step, step_in, step_with, steps_of}
 use Rattle.spf_view.proofs.KeepingLemmas.{at_more, outcome_at, synced_at}
 use Rattle.spf_view.proofs.ViewLemmas.{last_first, steps_more}
-use Rattle.spf_pace.specs.declared.pacer.AttemptEnd.{AttemptEnd}
+use Rattle.spf_system.specs.declared.pacer.AttemptEnd.{AttemptEnd}
 use Rattle.spf_feed.specs.declared.event.SessionEvent.{SessionEvent}
 use Rattle.spf_feed.specs.declared.event.SessionEvent.TheVariants as events
 use Rattle.spf_feed.specs.declared.phase.Phase.{Phase}

@@ -6,8 +6,8 @@ use Rattle.spf_api.specs.declared.error.WorkloadApiError.{WorkloadApiError}
 use Rattle.spf_api.specs.declared.error.WorkloadApiError.TheVariants as api
 use Rattle.spf_api.specs.declared.link.ClientFault.{ClientFault}
 use Rattle.spf_api.specs.declared.link.ClientFault.TheVariants as client
-use Rattle.spf_pace.specs.declared.pacer.AttemptEnd.{AttemptEnd}
-use Rattle.spf_pace.specs.declared.pacer.AttemptEnd.TheVariants as ends
+use Rattle.spf_system.specs.declared.pacer.AttemptEnd.{AttemptEnd}
+use Rattle.spf_system.specs.declared.pacer.AttemptEnd.TheVariants as ends
 use Rattle.spf_view.specs.Views.{Outcome, Subject, Accepted, Denied, Passed, outcome}
 use Rattle.spf_feed.specs.declared.event.SessionEvent.{SessionEvent}
 use Rattle.spf_feed.specs.declared.event.SessionEvent.TheVariants as events

@@ -1,7 +1,7 @@
 -- What is kept of a run: its events, oldest first, what it published, and where it stands.
 use Rattle.std.specs.Prelude.{◌≡◌, ℕ, ℤ, Bool, true, false, IsTrue, is_some, List, ◌∷◌, [], ◌++◌}
 use Rattle.std.specs.Prelude.{reverse, Option, None, Some, Result, Ok, Err, ◌⊎◌, IfSome}
-use Rattle.spf_pace.specs.declared.pacer.AttemptEnd.{AttemptEnd}
+use Rattle.spf_system.specs.declared.pacer.AttemptEnd.{AttemptEnd}
 use Rattle.spf_view.specs.Keeping.{IsAt, kept_with_any}
 use Rattle.spf_view.specs.Sessions.{Grows}
 use Rattle.spf_view.specs.Standing.{Kept}

@@ -11,3 +11,8 @@ pub mod Orderly
 pub mod Pacing
 pub mod Taking
 pub mod Times
+pub mod Boards
+pub mod Building
+pub mod Connectors
+pub mod Records
+pub mod Shutdowns

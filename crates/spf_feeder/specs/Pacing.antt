@@ -1,9 +1,9 @@
 -- The delays of a run: the pauses after its attempts, by the random words that were drawn.
 use Rattle.std.specs.Prelude.{◌≡◌, ℕ, Bool, not, ◌&&◌, List, [], ◌∷◌, reverse, Result, Ok, Err}
 use Rattle.std.specs.Prelude.{◌⊎◌, ◌++◌}
-use Rattle.spf_pace.specs.declared.pace.Pace.{Pace}
-use Rattle.spf_pace.specs.Delays.{PaceStep}
-use Rattle.spf_pace.specs.Pacing.{Paces, paced_by}
+use Rattle.spf_system.specs.declared.pace.Pace.{Pace}
+use Rattle.spf_system.specs.Delays.{PaceStep}
+use Rattle.spf_system.specs.Pacing.{Paces, paced_by}
 use Rattle.spf_view.specs.Views.{Subject, has_synced, outcome}
 use Rattle.spf_feed.specs.declared.event.SessionEvent.{SessionEvent}
 use Rattle.spf_feed.specs.declared.phase.Phase.{Phase}

@@ -2,7 +2,7 @@
 use Rattle.std.specs.Prelude.{◌≡◌, Bool, List, ◌∷◌, [], ◌++◌, reverse, Option, None, Some}
 use Rattle.std.specs.Prelude.{Result, Ok, Err, if◌then◌else◌}
 use Rattle.std.specs.Option.{option_or}
-use Rattle.spf_pace.specs.declared.pacer.AttemptEnd.{AttemptEnd}
+use Rattle.spf_system.specs.declared.pacer.AttemptEnd.{AttemptEnd}
 use Rattle.spf_view.specs.Standing.{Kept}
 use Rattle.spf_view.specs.Steps.{Step}
 use Rattle.spf_feed.specs.declared.event.SessionEvent.{SessionEvent}

@@ -10,7 +10,7 @@ use crate::received::copy_of_status;
 use spf_api::{ClientFault, GrpcStatusError, WorkloadApiError};
 use spf_feed::{Phase, SessionEvent};
 use spf_io::OutOfMemory;
-use spf_pace::AttemptEnd;
+use spf_system::AttemptEnd;
 use std::alloc::Global;
 use std::mem::drop;
 

@@ -15,7 +15,7 @@ use crate::session::{ItemOf, Session, Stop};
 use spf_feed::{Phase, SessionEvent};
 use spf_io::OutOfMemory;
 use spf_link::Connector;
-use spf_pace::AttemptEnd;
+use spf_system::AttemptEnd;
 use std::alloc::Global;
 use std::marker::Model;
 use std::mem::drop;

@@ -5,7 +5,7 @@ use spf_api::Response;
 use spf_feed::{Phase, SessionEvent, Terminal};
 use spf_io::OutOfMemory;
 use spf_link::Request;
-use spf_pace::AttemptEnd;
+use spf_system::AttemptEnd;
 use std::snapshot;
 
 /// Why a run goes no further.

@@ -8,10 +8,8 @@ ghost use Rattle.spf_feeder.specs.Pacing.{Halted, KeepsPaceOf, PacesOn};
 use crate::feeder::SessionFeeder;
 use crate::session::{Session, Stop};
 use rand_core::Rng;
-use spf_close::{Closed, Maker, Watch};
 use spf_link::Connector;
-use spf_pace::Pace;
-use spf_system::Pause;
+use spf_system::{Closed, Maker, Pace, Pause, Watch};
 use std::mem::drop;
 use std::sync::Wait;
 

@@ -8,15 +8,14 @@ ghost use Rattle.spf_feeder.specs.Orderly.{IsAboutToAsk, IsFirstStep, IsOpening,
 ghost use Rattle.spf_feeder.specs.Pacing.{KeepsPaceOf};
 ghost use Rattle.spf_feeder.specs.Times.{GivesMoments, TakesMoment};
 ghost use Rattle.spf_feeder.specs.Times as spec;
-ghost use Rattle.spf_pace.specs.declared.pace.Pace.{Pace as Paces};
+ghost use Rattle.spf_system.specs.declared.pace.Pace.{Pace as Paces};
 
 use crate::feeder::SessionFeeder;
 use crate::session::{Session, Stop};
 use crate::supervisor::paced_ask;
 use rand_core::Rng;
 use spf_link::Connector;
-use spf_pace::Pace;
-use spf_system::{Clock, Pause};
+use spf_system::{Clock, Pace, Pause};
 use std::sync::Wait;
 use std::time::Duration;
 

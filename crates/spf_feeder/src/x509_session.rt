@@ -24,7 +24,7 @@ use spf_feed::{
 };
 use spf_io::OutOfMemory;
 use spf_link::Request;
-use spf_pace::AttemptEnd;
+use spf_system::AttemptEnd;
 use std::alloc::Global;
 use std::marker::Model;
 use std::mem::drop;

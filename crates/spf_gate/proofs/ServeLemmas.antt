@@ -9,7 +9,7 @@ use Rattle.std.specs.Io.KnownBytes.{Appends, prepend_known}
 use Rattle.std.proofs.KnownBytes.{Appends-trans, Appends-nil}
 use Rattle.std.proofs.lemmas.List.{append-nil}
 use mathlib.Core.List.{IsPrefix}
-use Rattle.spf_history.proofs.Prefixes.{begins_self, begins_trans}
+use Rattle.spf_board.proofs.Prefixes.{begins_self, begins_trans}
 use Rattle.spf_io.specs.Rule.{◌>>=◌}
 use Rattle.spf_feed.specs.Steps.{StateView}
 use Rattle.spf_x509_board.specs.Passes.{PassView}

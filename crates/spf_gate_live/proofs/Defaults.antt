@@ -2,7 +2,7 @@
 use Rattle.std.proofs.Common.{◌≡◌, ◌∙◌, ap, sym, subst, None}
 use Rattle.std.specs.Duration.{as_nanos}
 use Rattle.std.specs.Option.{option_map}
-use Rattle.spf_pace.specs.Bounds.{IsDefault as HasDefaultBounds}
+use Rattle.spf_system.specs.Bounds.{IsDefault as HasDefaultBounds}
 use Rattle.spiffe.specs.declared.builder.Settings.{Settings}
 use Rattle.spiffe.specs.Building.{IsDefault}
 

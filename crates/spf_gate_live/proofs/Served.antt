@@ -3,7 +3,7 @@ use Rattle.std.proofs.Common.{◌≡◌, sym, ap, ◌∙◌, refl, subst, ℕ, B
 use Rattle.std.proofs.Common.{map, reverse, Option, None, Some, Result, Ok, Err}
 use Rattle.std.specs.Prelude.{ℤ, IfSome, IfOk, is_ok}
 use mathlib.Core.List.{IsPrefix}
-use Rattle.spf_history.specs.Lists.{is_ended, steps_of}
+use Rattle.spf_board.specs.Lists.{is_ended, steps_of}
 use Rattle.spf_io.specs.declared.memory.OutOfMemory.{OutOfMemory}
 use Rattle.spf_link.specs.Connecting.{Member}
 use Rattle.spf_x509.specs.Svid.{Svid}

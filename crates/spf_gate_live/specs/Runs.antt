@@ -4,7 +4,7 @@ use Rattle.std.specs.Prelude.{Result, Ok, Err, IfErr}
 use mathlib.Core.List.{IsPrefix}
 use Rattle.spf_api.specs.declared.endpoint_error.EndpointError.{EndpointError}
 use Rattle.spf_api.specs.declared.error.WorkloadApiError.{WorkloadApiError}
-use Rattle.spf_history.specs.Lists.{is_ended, steps_of}
+use Rattle.spf_board.specs.Lists.{is_ended, steps_of}
 use Rattle.spf_link.specs.Connecting.{Member}
 use Rattle.spf_program.specs.Reports.{IsEndReported}
 use Rattle.spf_program.specs.Streams.{Side}

@@ -5,7 +5,7 @@
 mod help;
 
 use help::HELP;
-use spf_folder::{FolderDisk, FolderFault};
+use spf_disk::{FolderDisk, FolderFault};
 use spf_helper::helper_watch;
 use spf_io::{Sink, StdSink, StdSource};
 use spf_program::{ArgumentsError, program_arguments, put_help, report};

@@ -1,7 +1,7 @@
 -- What contracts see of a pass.
 use Rattle.spf_board.specs.Passes as passes
 pub use Rattle.spf_board.specs.Passes.{read_of}
-use Rattle.spf_close.specs.Marks.{Mark}
+use Rattle.spf_system.specs.Marks.{Mark}
 use Rattle.spf_jwt_feed.specs.Steps.{PlainStep}
 
 abbrev pub PassView : Type 0

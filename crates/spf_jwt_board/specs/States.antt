@@ -1,13 +1,13 @@
 -- What a state says that was read through a pass, and what an error tells.
 use Rattle.std.specs.Prelude.{◌≡◌, Bool, List}
-use Rattle.spf_history.specs.declared.entry.Entry.{Entry}
-use Rattle.spf_history.specs.Lists.{steps_of}
+use Rattle.spf_board.specs.declared.entry.Entry.{Entry}
+use Rattle.spf_board.specs.Lists.{steps_of}
 use Rattle.spf_jwt_feed.specs.declared.state.JwtSourceError.{JwtSourceError}
 use Rattle.spf_jwt_feed.specs.declared.state.JwtSourceError.TheVariants as errors
 use Rattle.spf_jwt_feed.specs.States.{StateView}
 use Rattle.spf_jwt_feed.specs.Steps.{PlainStep}
 use Rattle.spf_jwt_board.specs.Steps.{Legal, Replays}
-use Rattle.spf_pass.specs.Showing.{Showing, Told, ToldClosed, ToldMemory, ToldNoPlace, ToldOther}
+use Rattle.spf_board.specs.Showing.{Showing, Told, ToldClosed, ToldMemory, ToldNoPlace, ToldOther}
 
 -- the state is the replay of the steps of a legal board list, and says whether the source is closed
 pub record IsStateOf (list : List (Entry PlainStep)) (closed : Bool) (s : StateView) : Type 0 where

@@ -1,7 +1,7 @@
 //! Opening a board.
 
 ghost use Rattle.std.specs.Prelude.{◌≡◌, ◌∷◌, [], true, None, Some, IfOk};
-ghost use Rattle.spf_history.specs.declared.entry.Entry.TheVariants as entry;
+ghost use Rattle.spf_board.specs.declared.entry.Entry.TheVariants as entry;
 ghost use Rattle.spf_jwt_feed.specs.Steps.{MayFollow};
 ghost use Rattle.spf_jwt_board.specs.Steps.{Legal};
 

@@ -2,9 +2,9 @@
 
 ghost use Rattle.std.specs.Prelude.{◌≡◌, ◌⊎◌, ◌++◌, ◌∷◌, [], false, drop, Some, OnOk, OnErr};
 ghost use Rattle.left_right.specs.Sides.{view};
-ghost use Rattle.spf_history.specs.declared.entry.Entry.TheVariants as entry;
-ghost use Rattle.spf_history.specs.Lists.{steps_of, is_ended, IsBoardList};
-ghost use Rattle.spf_history.specs.Past.{added};
+ghost use Rattle.spf_board.specs.declared.entry.Entry.TheVariants as entry;
+ghost use Rattle.spf_board.specs.Lists.{steps_of, is_ended, IsBoardList};
+ghost use Rattle.spf_board.specs.Past.{added};
 ghost use Rattle.spf_board.specs.Desks.{IsRested};
 ghost use Rattle.spf_feed.specs.Records.{RecordAppends};
 ghost use Rattle.spf_jwt_feed.specs.Steps.{MayFollow, plain};
@@ -12,11 +12,9 @@ ghost use Rattle.spf_jwt_board.specs.Steps.{Legal, Replays};
 
 use crate::kind::Jwt;
 use crate::shared_step::SharedStep;
-use spf_board::{PostWriter, publish_end, publish_step};
-use spf_history::{Front, Scribe};
+use spf_board::{Front, PostWriter, Scribe, Writes, publish_end, publish_step};
 use spf_io::OutOfMemory;
 use spf_jwt_feed::JwtStep;
-use spf_pass::Writes;
 use std::marker::Model;
 use std::sync::Wait;
 
@@ -32,7 +30,7 @@ pub struct DeskWriter<R: Wait + Drop> {
 impl<R: Wait + Drop> Model for DeskWriter<R> {
     ghost use Rattle.std.specs.Prelude.{drop};
     ghost use Rattle.left_right.specs.Sides.{view as known};
-    ghost use Rattle.spf_history.specs.Past.{Past};
+    ghost use Rattle.spf_board.specs.Past.{Past};
     ghost use Rattle.spf_jwt_feed.specs.Steps.{PlainStep};
     ghost use Rattle.spf_board.specs.Desks.{IsRested};
     ghost use Rattle.spf_jwt_board.specs.Steps.{Legal, Replays};
@@ -75,9 +73,9 @@ impl<R: Wait + Drop> DeskWriter<R> {
 
 impl<R: Wait + Drop> Writes<Jwt> for DeskWriter<R> {
     ghost use Rattle.std.specs.Prelude.{◌≡◌, ◌⊎◌, ◌++◌, ◌∷◌, [], false, OnOk, OnErr};
-    ghost use Rattle.spf_history.specs.declared.entry.Entry.TheVariants as entry;
-    ghost use Rattle.spf_history.specs.Lists.{steps_of, is_ended, IsBoardList};
-    ghost use Rattle.spf_history.specs.Past.{added};
+    ghost use Rattle.spf_board.specs.declared.entry.Entry.TheVariants as entry;
+    ghost use Rattle.spf_board.specs.Lists.{steps_of, is_ended, IsBoardList};
+    ghost use Rattle.spf_board.specs.Past.{added};
     ghost use Rattle.spf_jwt_board.specs.Steps.{Legal};
 
     ghost past = { λ writer. writer };
@@ -112,10 +110,10 @@ impl<R: Wait + Drop> Writes<Jwt> for DeskWriter<R> {
 }
 
 /// The one writer of a board. Contracts see what it has published.
-pub type JwtDesk<R> = spf_pass::Desk<Jwt, DeskWriter<R>>;
+pub type JwtDesk<R> = spf_board::Desk<Jwt, DeskWriter<R>>;
 
 /// A writer that publishes nothing more. Contracts see what it has published.
-pub type JwtEnded<R> = spf_pass::Ended<Jwt, DeskWriter<R>>;
+pub type JwtEnded<R> = spf_board::Ended<Jwt, DeskWriter<R>>;
 
 /// Publishes a step.
 pub fn publish_on<R: Wait + Drop>(desk: &mut JwtDesk<R>, step: JwtStep) -> Result<(), OutOfMemory>

@@ -2,11 +2,9 @@
 
 use crate::shared_step::SharedStep;
 use crate::shown::Shown;
-use spf_board::{Look, Replay};
-use spf_history::Kind;
+use spf_board::{Kind, Look, Replay, Shows};
 use spf_io::OutOfMemory;
 use spf_jwt_feed::{JwtSourceError, JwtSourceState};
-use spf_pass::Shows;
 use std::alloc::Global;
 use std::fmt;
 
@@ -106,7 +104,7 @@ impl Shows for Jwt {
 }
 
 /// What one reader has seen.
-pub type JwtPass = spf_pass::Pass<Jwt>;
+pub type JwtPass = spf_board::Pass<Jwt>;
 
 /// Whether a bundle set with a key is permitted.
 #[derive(Clone, Copy, Debug)]

@@ -15,6 +15,4 @@ pub use kind::{Jwt, JwtPass, Usable};
 pub use places::JwtPlaces;
 pub use shared_step::SharedStep;
 pub use shown::Shown;
-pub use spf_board::{BoardPlaces, PLACES, PlaceFault, RefusingPlaces};
-pub use spf_history::Front;
-pub use spf_pass::settle;
+pub use spf_board::{BoardPlaces, Front, PLACES, PlaceFault, RefusingPlaces, settle};

@@ -3,6 +3,6 @@
 use crate::kind::Jwt;
 
 /// Gives passes their places on a board. Whatever gives them for a board of this kind is one.
-pub trait JwtPlaces: spf_pass::Places<Jwt> {}
+pub trait JwtPlaces: spf_board::Places<Jwt> {}
 
-impl<L: spf_pass::Places<Jwt>> JwtPlaces for L {}
+impl<L: spf_board::Places<Jwt>> JwtPlaces for L {}

@@ -3,7 +3,7 @@ use Rattle.std.proofs.Common.{◌≡◌, Bool, Err, Ok, Result, false, inl, inr,
 use Rattle.std.specs.Prelude.{MatchBool, if◌then◌else◌}
 use Rattle.spf_api.specs.declared.endpoint_error.EndpointError.{EndpointError}
 use Rattle.spf_api.specs.declared.error.WorkloadApiError.TheVariants as api
-use Rattle.spf_endpoint.specs.Endpoint.{is_memory}
+use Rattle.spf_link.specs.Endpoint.{is_memory}
 use Rattle.spf_io.specs.Rule.{Gives}
 use Rattle.spf_jwt_feed.specs.declared.state.JwtSourceError.TheVariants as errors
 use Rattle.spf_feed.specs.declared.turn.Terminal.TheVariants as terminal

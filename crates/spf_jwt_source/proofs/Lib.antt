@@ -1,1 +1,3 @@
 pub mod Failing
+pub mod FeedLemmas
+pub mod RunLemmas

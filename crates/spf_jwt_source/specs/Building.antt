@@ -6,9 +6,9 @@ use Rattle.std.specs.Option.{option_map}
 use Rattle.spf_api.specs.declared.endpoint_error.EndpointError.{EndpointError}
 use Rattle.spf_api.specs.declared.error.WorkloadApiError.TheVariants as api
 use Rattle.spf_io.specs.Outside.{Rose}
-use Rattle.spf_endpoint.specs.Endpoint.{is_memory}
+use Rattle.spf_link.specs.Endpoint.{is_memory}
 use Rattle.spf_link.specs.Connecting.{Member}
-use Rattle.spf_pace.specs.Bounds.{IsDefault as HasDefaultBounds}
+use Rattle.spf_system.specs.Bounds.{IsDefault as HasDefaultBounds}
 use Rattle.spf_feed.specs.declared.turn.Terminal.{Terminal}
 use Rattle.spf_feed.specs.declared.turn.Terminal.TheVariants as terminal
 use Rattle.spf_feeder.specs.declared.session.Stop.{Stop}
@@ -18,11 +18,11 @@ use Rattle.spf_jwt.specs.Limits.{default_limits}
 use Rattle.spf_jwt_feed.specs.declared.state.JwtSourceError.{JwtSourceError}
 use Rattle.spf_jwt_feed.specs.declared.state.JwtSourceError.TheVariants as errors
 use Rattle.spf_jwt_board.specs.Passes.{PassView}
-use Rattle.spf_jwt_feeder.specs.declared.rules.JwtRules.{JwtRules}
-use Rattle.spf_jwt_feeder.specs.Governed.{kind_of}
-use Rattle.spf_jwt_feeder.specs.Kinds.{jwt}
-use Rattle.spf_pass.specs.Sources.{Source}
-use Rattle.spf_supervisor.specs.Building.{IsAssignedBy, IsBuiltBy}
+use Rattle.spf_jwt_source.specs.declared.rules.JwtRules.{JwtRules}
+use Rattle.spf_jwt_source.specs.Governed.{kind_of}
+use Rattle.spf_jwt_source.specs.Kinds.{jwt}
+use Rattle.spf_board.specs.Sources.{Source}
+use Rattle.spf_feeder.specs.Building.{IsAssignedBy, IsBuiltBy}
 use Rattle.spf_jwt_source.specs.declared.builder.JwtSettings.{JwtSettings}
 use Rattle.spf_jwt_source.specs.Records.{Assigned}
 

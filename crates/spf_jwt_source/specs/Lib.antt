@@ -2,3 +2,13 @@ pub mod Building
 pub mod Records
 pub mod Reads
 pub mod Updating
+pub mod Asking
+pub mod Coming
+pub mod Fed
+pub mod Governed
+pub mod Kept
+pub mod Kinds
+pub mod Laws
+pub mod Orderly
+pub mod Pacing
+pub mod Taking

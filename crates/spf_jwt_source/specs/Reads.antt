@@ -10,8 +10,8 @@ use Rattle.spf_view.specs.Views.{View}
 use Rattle.spf_view.specs.Standing.{held_in, reason_of}
 use Rattle.spf_x509.specs.Bundle.{find_entry}
 use Rattle.spf_board.specs.Passes.{Renews}
-use Rattle.spf_close.specs.Marks.{mark_by}
-use Rattle.spf_close.specs.declared.maker.Maker.TheVariants as makers
+use Rattle.spf_system.specs.Marks.{mark_by}
+use Rattle.spf_system.specs.declared.maker.Maker.TheVariants as makers
 use Rattle.spf_feed.specs.declared.step.Denial.{Denial}
 use Rattle.spf_jwt.specs.Bundle.{Bundle}
 use Rattle.spf_jwt_feed.specs.declared.state.JwtSourceError.{JwtSourceError}
@@ -26,10 +26,10 @@ use Rattle.spf_link.specs.declared.connector.Connector as connectors
 use Rattle.spf_link.specs.declared.link.Link as links
 use Rattle.spf_link.specs.declared.request.Request.{Request}
 use Rattle.spf_jwt_client.specs.Fetching.{FetchesJwt, Fetcher}
-use Rattle.spf_pass.specs.Passing.{FollowsBy, IsHealthyBy}
-pub use Rattle.spf_pass.specs.Passing.{IsClosedByCaller, LooksAt, SaysClosed, SeesNoLess}
-use Rattle.spf_pass.specs.Showing.{HasPlaceCauseBy, IsRevisionBy}
-use Rattle.spf_pass.specs.Sources.{Source, Updates}
+use Rattle.spf_board.specs.Passing.{FollowsBy, IsHealthyBy}
+pub use Rattle.spf_board.specs.Passing.{IsClosedByCaller, LooksAt, SaysClosed, SeesNoLess}
+use Rattle.spf_board.specs.Showing.{HasPlaceCauseBy, IsRevisionBy}
+use Rattle.spf_board.specs.Sources.{Source, Updates}
 
 -- something is so of a state that the pass has read, and it knows of no mark of the closed cell
 pub record Reads (old new : PassView) (holds : View BundleSet Denial → Type 0) : Type 0 where

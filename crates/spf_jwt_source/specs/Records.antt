@@ -4,11 +4,11 @@ use Rattle.spf_api.specs.declared.response.BundlesResponse.{BundlesResponse}
 use Rattle.spf_link.specs.Connecting.{Member}
 use Rattle.spf_jwt_feed.specs.declared.step.JwtStep.{JwtStep}
 use Rattle.spf_jwt_feed.specs.Steps.{PlainStep, plain}
-use Rattle.spf_jwt_feeder.specs.declared.rules.JwtRules.{JwtRules}
-use Rattle.spf_jwt_feeder.specs.Governed.{kind_of}
-use Rattle.spf_supervisor.specs.Records.{AssignedOf, IsLeftByOf, IsOfBy, IsRecordBy, LeftOf}
-use Rattle.spf_supervisor.specs.Records.{RecordedOf}
-pub use Rattle.spf_supervisor.specs.Records.{assigned, left_of, recorded_of, task_of}
+use Rattle.spf_jwt_source.specs.declared.rules.JwtRules.{JwtRules}
+use Rattle.spf_jwt_source.specs.Governed.{kind_of}
+use Rattle.spf_feeder.specs.Records.{AssignedOf, IsLeftByOf, IsOfBy, IsRecordBy, LeftOf}
+use Rattle.spf_feeder.specs.Records.{RecordedOf}
+pub use Rattle.spf_feeder.specs.Records.{assigned, left_of, recorded_of, task_of}
 
 -- what a supervisor is given, where S is its connector
 abbrev pub Assigned : Type 0 → Type 0

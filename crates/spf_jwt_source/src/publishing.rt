@@ -1,16 +1,16 @@
 //! The publisher of a supervisor: its steps stand on the board, and in its record.
 
 ghost use Rattle.std.specs.Prelude.{◌≡◌, Some, map};
-ghost use Rattle.spf_history.specs.Lists.{steps_of};
+ghost use Rattle.spf_board.specs.Lists.{steps_of};
 ghost use Rattle.spf_feed.specs.Records.{RecordAppends};
 ghost use Rattle.spf_jwt_feed.specs.Steps.{MayFollow, plain};
 
-use spf_close::Bell;
+use crate::session::JwtSession;
+use spf_feeder::Finishes;
 use spf_io::OutOfMemory;
 use spf_jwt_board::{Front, Jwt, JwtDesk, JwtEnded, JwtPass, publish_on, settle};
 use spf_jwt_feed::{JwtMetricsRecorder, JwtPublisher, JwtStep};
-use spf_jwt_feeder::JwtSession;
-use spf_supervisor::Finishes;
+use spf_system::Bell;
 use std::marker::Model;
 use std::sync::Wait;
 
@@ -27,8 +27,8 @@ pub struct BoardPublisher<R: Wait + Drop> {
 
 impl<R: Wait + Drop> Model for BoardPublisher<R> {
     ghost use Rattle.std.specs.Prelude.{◌≡◌, map};
-    ghost use Rattle.spf_history.specs.Lists.{steps_of};
-    ghost use Rattle.spf_history.specs.Past.{Past};
+    ghost use Rattle.spf_board.specs.Lists.{steps_of};
+    ghost use Rattle.spf_board.specs.Past.{Past};
     ghost use Rattle.spf_jwt_feed.specs.Steps.{PlainStep, plain};
 
     ghost Value = { Past PlainStep };
@@ -62,10 +62,10 @@ fn ended<R: Wait + Drop>(desk: JwtDesk<R>, is_refused: bool) -> JwtEnded<R>
 
 impl<R: Wait + Drop> JwtPublisher for BoardPublisher<R> {
     ghost use Rattle.std.specs.Prelude.{◌≡◌, Some};
-    ghost use Rattle.spf_history.specs.Lists.{steps_of};
+    ghost use Rattle.spf_board.specs.Lists.{steps_of};
     ghost use Rattle.spf_feed.specs.Records.{RecordAppends};
     ghost use Rattle.spf_jwt_feed.specs.Steps.{MayFollow, plain};
-    ghost use Rattle.spf_supervisor.specs.Boards.{numbers_of};
+    ghost use Rattle.spf_feeder.specs.Boards.{numbers_of};
 
     ghost steps = { λ p. Some (steps_of p.list) };
 
@@ -98,7 +98,7 @@ impl<R: Wait + Drop, M: JwtMetricsRecorder + Drop> Finishes<Jwt, JwtSession<Boar
     type Ended = JwtEnded<R>;
 
     ghost use Rattle.std.specs.Prelude.{◌≡◌, refl, map};
-    ghost use Rattle.spf_history.specs.Lists.{steps_of};
+    ghost use Rattle.spf_board.specs.Lists.{steps_of};
     ghost use Rattle.spf_jwt_feed.specs.Steps.{plain};
 
     ghost board = { λ p. p.book };

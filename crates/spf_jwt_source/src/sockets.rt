@@ -3,8 +3,8 @@
 ghost use Rattle.std.specs.Prelude.{◌≡◌, IfErr, IfOk, Some};
 ghost use Rattle.std.specs.Duration.{as_nanos};
 ghost use Rattle.std.specs.Option.{option_map};
-ghost use Rattle.spf_endpoint.specs.Endpoint.{endpoint_rule};
-ghost use Rattle.spf_wire.specs.Endpoints.{kept};
+ghost use Rattle.spf_link.specs.Endpoint.{endpoint_rule};
+ghost use Rattle.spf_link.specs.Endpoints.{kept};
 ghost use Rattle.spf_jwt_source.specs.Building.{FailsByDefault, IsAssignedByDefault};
 ghost use Rattle.spf_jwt_source.specs.Building.{IsBuilt, IsDefault};
 
@@ -13,12 +13,10 @@ use crate::handle::{JwtJob, JwtSupervisorHandle};
 use crate::source::JwtSource;
 use rand_core::Rng;
 use spf_io::OutOfMemory;
-use spf_job::Spawner;
 use spf_jwt_board::{JwtPass, JwtPlaces};
 use spf_jwt_feed::{JwtMetricsRecorder, JwtSourceError, NoRecorder};
-use spf_link::Connector;
-use spf_system::{Clock, Environment, Pause};
-use spf_wire::{EndpointConnector, EnvConnector};
+use spf_link::{Connector, EndpointConnector, EnvConnector};
+use spf_system::{Clock, Environment, Pause, Spawner};
 use std::alloc::Global;
 use std::mem::drop;
 use std::net::{Net, TcpStream};

@@ -2,7 +2,7 @@
 
 ghost use Rattle.std.specs.Prelude.{◌≡◌, ◌≢◌, IfOk, MatchBool, None, OnOk};
 ghost use Rattle.std.specs.Option.{option_map};
-ghost use Rattle.spf_close.specs.declared.maker.Maker.TheVariants as makers;
+ghost use Rattle.spf_system.specs.declared.maker.Maker.TheVariants as makers;
 ghost use Rattle.spf_board.specs.Passes.{Renews};
 ghost use Rattle.spf_jwt_feed.specs.declared.state.JwtSourceError.TheVariants as errors;
 ghost use Rattle.spf_jwt_feed.specs.States.{SetAnswer};
@@ -16,7 +16,7 @@ ghost use Rattle.spf_jwt_source.specs.Reads.{SaysClosed};
 ghost use Rattle.spf_jwt_source.specs.Reads.{Follows, HasPlaceCause, SeesNoLess, TriesBundle};
 ghost use Rattle.spf_jwt_source.specs.Updating.{ReadsFrom};
 
-use spf_close::{Bell, Closer, Closing, LastHandle, Maker, Watch, closing_of};
+use spf_board::{SourceUpdates, another_pass, check_open, look};
 use spf_id::{SpiffeId, TrustDomain};
 use spf_io::{OutOfMemory, Text};
 use spf_jwt::{JwtBundle, JwtBundleSet, JwtSvid};
@@ -24,8 +24,7 @@ use spf_jwt_board::{Front, Jwt, JwtPass, JwtPlaces, Usable};
 use spf_jwt_client::JwtFetcher;
 use spf_jwt_feed::{JwtSourceError, JwtSourceState};
 use spf_link::Connector;
-use spf_pass::{SourceUpdates, another_pass, check_open, look};
-use spf_system::StopFlag;
+use spf_system::{Bell, Closer, Closing, LastHandle, Maker, StopFlag, Watch, closing_of};
 use spf_x509::BundleSource;
 use std::alloc::Global;
 use std::fmt;
@@ -49,7 +48,7 @@ pub struct JwtSource {
 
 impl Model for JwtSource {
     ghost use Rattle.std.specs.Prelude.{◌≡◌};
-    ghost use Rattle.spf_pass.specs.Sources.{Source};
+    ghost use Rattle.spf_board.specs.Sources.{Source};
 
     ghost Value = { Source };
 

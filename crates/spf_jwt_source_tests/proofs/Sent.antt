@@ -9,10 +9,10 @@ use Rattle.spf_jwt_feed.specs.contracts.record.JwtMetricsRecord as JwtMetricsRec
 use Rattle.spf_jwt_feed.specs.contracts.record.NoRecorderJwtMetricsRecorder.TheImpl as records
 use Rattle.spf_jwt_feed.specs.contracts.step.JwtStep as JwtStep
 use Rattle.spf_feeder.specs.contracts.feeder.SessionFeeder as SessionFeeder
-use Rattle.spf_jwt_feeder.specs.contracts.rules.JwtRules as JwtRules
-use Rattle.spf_jwt_feeder.specs.contracts.rules.JwtRulesGoverns.TheImpl as governs
-use Rattle.spf_jwt_feeder.specs.contracts.session.JwtSession as JwtSession
-use Rattle.spf_jwt_feeder.specs.contracts.session.JwtSessionSession.TheImpl as sessions
+use Rattle.spf_jwt_source.specs.contracts.rules.JwtRules as JwtRules
+use Rattle.spf_jwt_source.specs.contracts.rules.JwtRulesGoverns.TheImpl as governs
+use Rattle.spf_jwt_source.specs.contracts.session.JwtSession as JwtSession
+use Rattle.spf_jwt_source.specs.contracts.session.JwtSessionSession.TheImpl as sessions
 use Rattle.spf_jwt_source.specs.contracts.publishing.BoardPublisher as BoardPublisher
 use Rattle.spf_jwt_source.specs.contracts.publishing.BoardPublisherJwtPublisher.TheImpl as publishes
 use Rattle.spf_agent.specs.contracts.doubles.AgentConnector as AgentConnector
@@ -20,7 +20,7 @@ use Rattle.spf_agent.specs.contracts.doubles.AgentConnectorConnector.TheImpl as 
 use Rattle.spf_agent.specs.contracts.doubles.AgentLink as AgentLink
 use Rattle.spf_agent.specs.contracts.doubles.AgentLinkLink.TheImpl as links
 use Rattle.spf_feed.proofs.record.NoRecorder.TheSendSync as recorder
-use Rattle.spf_jwt_feeder.proofs.session.JwtSession.TheSendSync as session
+use Rattle.spf_jwt_source.proofs.session.JwtSession.TheSendSync as session
 use Rattle.spf_jwt_source.proofs.publishing.BoardPublisher.TheSendSync as board
 use Rattle.spf_agent.proofs.doubles.AgentConnector.TheSendSync as connector
 use Rattle.spf_agent.proofs.doubles.AgentLink.TheSendSync as link

@@ -1,11 +1,10 @@
 //! A source before and after it is closed.
 
 ghost use Rattle.std.specs.Prelude.{◌≡◌, ◌≢◌, Some, [], IfOk};
-ghost use Rattle.spf_history.specs.Lists.{steps_of};
+ghost use Rattle.spf_board.specs.Lists.{steps_of};
 ghost use Rattle.spf_jwt_feed.specs.Steps.{MayFollow};
 
 use crate::links::key_sets;
-use spf_close::{Bell, closed_cell};
 use spf_feed::Denial;
 use spf_id::TrustDomain;
 use spf_io::OutOfMemory;
@@ -13,7 +12,7 @@ use spf_jwt::{JwtBundleSet, JwtResourceLimits, jwt_bundle_set_from, validate_jwt
 use spf_jwt_board::{BoardPlaces, JwtDesk, JwtPass, RefusingPlaces, SharedStep, open, publish_on};
 use spf_jwt_feed::{JwtSourceError, JwtStep};
 use spf_jwt_source::{JwtSource, JwtSourceUpdates};
-use spf_system::StopFlag;
+use spf_system::{Bell, StopFlag, closed_cell};
 use std::alloc::Global;
 use std::process::Abort;
 use std::sync::{Arc, Wait};

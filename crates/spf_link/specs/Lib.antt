@@ -6,3 +6,11 @@ pub mod Interceptor
 pub mod Links
 pub mod Metadata
 pub mod Request
+pub mod Endpoint
+pub mod Environment
+pub mod TcpUri
+pub mod Answers
+pub mod Endpoints
+pub mod Laid
+pub mod Requests
+pub mod Wire

@@ -2,7 +2,7 @@
 
 ghost use Rattle.std.specs.Prelude.{◌≡◌, ℕ, List, Option, Result};
 ghost use Rattle.spf_io.specs.Rule.{Gives};
-ghost use Rattle.spf_endpoint.specs.Endpoint.{is_memory};
+ghost use Rattle.spf_link.specs.Endpoint.{is_memory};
 ghost use Rattle.spf_api.specs.declared.link.ClientFault.{ClientFault as Fault};
 ghost use Rattle.spf_api.specs.declared.endpoint_error.EndpointError.{EndpointError as Invalid};
 ghost use Rattle.spf_link.specs.Connecting.{Connects, HasClientCause, Member};

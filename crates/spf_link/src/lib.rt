@@ -3,17 +3,33 @@
 #![tactic(auto)]
 
 mod answer;
+mod answers;
 mod connector;
+mod endpoint;
+mod endpoint_connector;
+mod env_connector;
+mod environment;
 mod headers;
 mod interceptor;
+mod kinds;
 mod link;
 mod mem_connector;
 mod mem_link;
 mod metadata;
 mod request;
+mod socket;
+mod socket_link;
+mod uri;
+mod wire_fault;
+mod wire_link;
+mod wire_request;
 
 pub use answer::Answer;
 pub use connector::Connector;
+pub use endpoint::{Endpoint, EndpointHost, WORKLOAD_API_ENDPOINT_ENV};
+pub use endpoint_connector::EndpointConnector;
+pub use env_connector::EnvConnector;
+pub use environment::from_env;
 pub use headers::Headers;
 pub use interceptor::{
     InterceptFunction, Interceptor, InterceptorFault, InterceptorFn, NoInterceptor,
@@ -23,3 +39,7 @@ pub use mem_connector::MemConnector;
 pub use mem_link::MemLink;
 pub use metadata::MetadataAdder;
 pub use request::{Request, Start};
+pub use socket::SocketEnd;
+pub use socket_link::SocketLink;
+pub use uri::tcp_uri;
+pub use wire_link::WireLink;

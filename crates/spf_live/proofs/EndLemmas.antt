@@ -5,7 +5,7 @@ use Rattle.std.specs.Prelude.{◌↔◌, IfErr}
 use Rattle.spf_api.specs.declared.endpoint_error.EndpointError.{EndpointError}
 use Rattle.spf_link.specs.Connecting.{Member}
 use Rattle.spf_x509.specs.Svid.{Svid}
-use Rattle.spf_options.specs.Live.{LiveSetting}
+use Rattle.spf_program.specs.Live.{LiveSetting}
 use Rattle.spf_live.specs.Ends.{end_status}
 use Rattle.spf_live.specs.Printing.{Moments}
 use Rattle.spf_live.specs.Runs.{Does, FailsBy, Runs}

@@ -10,7 +10,7 @@ use Rattle.spf_feed.specs.declared.state.X509SourceError.TheVariants as source
 use Rattle.spiffe.specs.declared.builder.Settings.{Settings}
 use Rattle.spiffe.specs.Building.{PrepareFails}
 use Rattle.spiffe.specs.Reads.{HasPlaceCause}
-use Rattle.spf_options.specs.Live.{LiveSetting}
+use Rattle.spf_program.specs.Live.{LiveSetting}
 use Rattle.spf_live.specs.Ends.{end_of, error_of}
 use Rattle.spf_live.specs.Runs.{FailsBy, FollowFails, IsSetTo}
 use Rattle.spf_live.specs.declared.error.LiveError.{LiveError}

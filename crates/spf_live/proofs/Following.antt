@@ -3,7 +3,7 @@ use Rattle.std.proofs.Common.{◌≡◌, ◌∙◌, ap, refl, subst, sym, ℕ, B
 use Rattle.std.proofs.Common.{Some, Result, Ok, Err, map}
 use Rattle.std.specs.Prelude.{IfSome, IfOk, is_ok}
 use mathlib.Core.List.{IsPrefix}
-use Rattle.spf_history.specs.Lists.{is_ended, steps_of}
+use Rattle.spf_board.specs.Lists.{is_ended, steps_of}
 use Rattle.spf_io.specs.declared.memory.OutOfMemory.{OutOfMemory}
 use Rattle.spf_link.specs.Connecting.{Member}
 use Rattle.spf_x509.specs.Svid.{Svid}
@@ -12,8 +12,8 @@ use Rattle.spiffe.specs.declared.builder.Settings.{Settings}
 use Rattle.spiffe.specs.Building.{IsAssigned}
 use Rattle.spiffe.specs.Records.{Assigned, IsLeftBy, IsOf, IsRecord, Left, Recorded}
 use Rattle.spf_feeder.specs.Governed.{kind_by}
-use Rattle.spf_supervisor.proofs.Unyielded.{assigned_as}
-use Rattle.spf_options.specs.Live.{LiveSetting}
+use Rattle.spf_feeder.proofs.Unyielded.{assigned_as}
+use Rattle.spf_program.specs.Live.{LiveSetting}
 use Rattle.spf_live.specs.Ends.{end_of}
 use Rattle.spf_live.specs.Printing.{Moments, PrintsTo}
 use Rattle.spf_x509_board.specs.Passes.{Seen}

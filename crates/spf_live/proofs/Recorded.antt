@@ -4,7 +4,7 @@ use Rattle.std.proofs.Common.{◌++◌, reverse, Option, None, Some, Result, Ok,
 use Rattle.std.specs.Prelude.{ℤ, IfSome, IfOk}
 use Rattle.std.specs.Option.{option_map}
 use Rattle.std.proofs.lemmas.List.{append-nil}
-use Rattle.spf_history.specs.Lists.{steps_of}
+use Rattle.spf_board.specs.Lists.{steps_of}
 use Rattle.spf_link.specs.Connecting.{Member}
 use Rattle.spf_x509.specs.Svid.{Svid}
 use Rattle.spf_feed.specs.Items.{Event}
@@ -19,7 +19,7 @@ use Rattle.spf_feeder.proofs.TimeLemmas.{moments_append}
 use Rattle.spiffe.specs.declared.builder.Settings.{Settings}
 use Rattle.spiffe.specs.Building.{IsAssigned}
 use Rattle.spiffe.specs.Records.{Assigned, IsOf, IsRecord, Recorded}
-use Rattle.spf_options.specs.Live.{LiveSetting}
+use Rattle.spf_program.specs.Live.{LiveSetting}
 use Rattle.spf_live.specs.Printing.{Moments}
 use Rattle.spf_x509_board.specs.Passes.{Seen}
 use Rattle.spf_live.specs.Runs.{Follows, IsRecordOf, IsSetTo, Runs}

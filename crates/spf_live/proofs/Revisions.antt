@@ -4,9 +4,9 @@ use Rattle.std.proofs.Common.{cond, List, [], ◌∷◌, ◌++◌, append_assoc,
 use Rattle.std.proofs.Common.{arith}
 use Rattle.std.proofs.lemmas.List.{append-nil, length-reverse}
 use mathlib.Core.List.{IsPrefix}
-use Rattle.spf_history.specs.declared.entry.Entry.{Entry}
-use Rattle.spf_history.specs.declared.entry.Entry.TheVariants as entry
-use Rattle.spf_history.specs.Lists.{steps_of}
+use Rattle.spf_board.specs.declared.entry.Entry.{Entry}
+use Rattle.spf_board.specs.declared.entry.Entry.TheVariants as entry
+use Rattle.spf_board.specs.Lists.{steps_of}
 use Rattle.spf_view.specs.Steps.{Step, Accept, Deny, BeginsWithAccept, done, replay_revision}
 use Rattle.spf_view.specs.Steps.{replay_view}
 use Rattle.spf_view.specs.Views.{same_view, view_of}

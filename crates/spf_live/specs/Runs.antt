@@ -5,7 +5,7 @@ use Rattle.std.specs.Duration.{as_nanos}
 use Rattle.std.specs.Option.{option_map}
 use Rattle.spf_api.specs.declared.endpoint_error.EndpointError.{EndpointError}
 use Rattle.spf_api.specs.declared.error.WorkloadApiError.{WorkloadApiError}
-use Rattle.spf_history.specs.Lists.{steps_of}
+use Rattle.spf_board.specs.Lists.{steps_of}
 use Rattle.spf_link.specs.Connecting.{Member}
 use Rattle.spf_x509.specs.Svid.{Svid}
 use Rattle.spf_feed.specs.Pick.{first_with_hint}
@@ -17,7 +17,7 @@ use Rattle.spf_feeder.specs.Times.{GivesMoments}
 use Rattle.spiffe.specs.declared.builder.Settings.{Settings}
 use Rattle.spiffe.specs.Building.{SyncFails}
 use Rattle.spiffe.specs.Records.{Assigned, IsOf, IsRecord, Recorded}
-use Rattle.spf_options.specs.Live.{LiveSetting}
+use Rattle.spf_program.specs.Live.{LiveSetting}
 use Rattle.spf_program.specs.Reports.{IsEndReported}
 use Rattle.spf_program.specs.Streams.{Side}
 use Rattle.spf_live.specs.Ends.{end_status, error_line}

@@ -8,7 +8,7 @@ ghost use Rattle.spf_live.specs.Runs.{IsSetTo};
 use spf_feed::{HintPicker, NoRecorder, SvidPicker};
 use spf_io::{OutOfMemory, Text};
 use spf_link::Connector;
-use spf_options::LiveOptions;
+use spf_program::LiveOptions;
 use spiffe::X509SourceBuilder;
 use std::alloc::Global;
 use std::mem::drop;

@@ -1,8 +1,8 @@
 //! The endpoint that the environment of a program names.
 
 use spf_api::WorkloadApiError;
-use spf_endpoint::from_env;
 use spf_io::{OutOfMemory, Sink};
+use spf_link::from_env;
 use spf_system::StdEnvironment;
 use std::alloc::Global;
 use std::mem::drop;

@@ -5,11 +5,10 @@ ghost use Rattle.std.specs.Prelude.{◌≡◌};
 
 use spf_api::{ClientFault, EndpointError, LinkFault, Response};
 use spf_io::{OutOfMemory, Text};
-use spf_link::{Connector, Headers, Link, Request};
+use spf_link::{Connector, EnvConnector, Headers, Link, Request, SocketLink};
 use spf_system::{
     EnvValue, Environment, MemEnvironment, Pause, StdEnvironment, StdPause, StopFlag,
 };
-use spf_wire::{EnvConnector, SocketLink};
 use std::alloc::Global;
 use std::time::Duration;
 

@@ -2,7 +2,7 @@
 
 ghost use Rattle.std.specs.Prelude.{◌≡◌, ◌↔◌, None, map, string_bytes};
 ghost use Rattle.spf_io.specs.Outside.{Rose};
-ghost use Rattle.spf_options.specs.Live.{live_setting};
+ghost use Rattle.spf_program.specs.Live.{live_setting};
 ghost use Rattle.spf_program.specs.Streams.{side};
 ghost use Rattle.spf_live.specs.Runs.{Does, Ended};
 
@@ -13,10 +13,9 @@ use crate::follow::print_source;
 use rand_core::Rng;
 use spf_feed::{HintPicker, NoRecorder, SvidPicker};
 use spf_io::{Failed, OutOfMemory, Sink};
-use spf_job::Spawner;
 use spf_link::Connector;
-use spf_options::live_options;
-use spf_system::{Clock, Pause};
+use spf_program::live_options;
+use spf_system::{Clock, Pause, Spawner};
 use spf_x509_board::Places;
 use spiffe::X509Job;
 use std::alloc::Global;

@@ -6,7 +6,7 @@ ghost use Rattle.spiffe.specs.Records.{task_of};
 use crate::host::{HostConnector, HostPause};
 use spf_feed::{HintPicker, NoRecorder};
 use spf_io::Failed;
-use spf_job::{Job, Joins, StepWords};
+use spf_system::{Job, Joins, StepWords};
 use spiffe::{Task, X509Done, X509Job};
 use std::mem::drop;
 use std::snapshot::Snapshot;

@@ -2,7 +2,7 @@
 
 ghost use Rattle.std.specs.Prelude.{◌≡◌, ◌↔◌, ◌≤◌, IfErr, None, Ok, map, string_bytes};
 ghost use Rattle.spf_io.specs.Outside.{Rose};
-ghost use Rattle.spf_options.specs.Live.{live_setting};
+ghost use Rattle.spf_program.specs.Live.{live_setting};
 ghost use Rattle.spf_program.specs.Streams.{side};
 ghost use Rattle.spf_live.specs.Runs.{Does, Ended, FollowFails, Follows};
 
@@ -14,9 +14,8 @@ use crate::host::{HostConnector, HostPause};
 use crate::on_thread::{HostJob, OnThread, start_on_thread};
 use spf_feed::{HintPicker, SvidPicker};
 use spf_io::{Failed, OutOfMemory, Sink};
-use spf_job::StepWords;
-use spf_options::live_options;
-use spf_system::{Clock, StdClock};
+use spf_program::live_options;
+use spf_system::{Clock, StdClock, StepWords};
 use spf_x509_board::{BoardPlaces, Pass};
 use spiffe::{SupervisorHandle, X509Source};
 use std::alloc::Global;

@@ -1,2 +1,4 @@
 pub mod Numbers
 pub mod Pieces
+pub mod PairLemmas
+pub mod Settings

@@ -1,11 +1,11 @@
 //! Sources that are built over doubles: what a build gives, by the answers of its links.
 
 use crate::building::{Builder, built};
+use spf_agent::{good_link, refusing_link};
 use spf_api::{ClientFault, GrpcStatusCode};
 use spf_io::Text;
-use spf_job::{InlineSpawner, RefusingSpawner};
 use spf_link::{MemConnector, MemLink};
-use spf_responses::{good_link, refusing_link};
+use spf_system::{InlineSpawner, RefusingSpawner};
 use spf_x509_board::{BoardPlaces, RefusingPlaces};
 use spiffe::X509Source;
 use std::alloc::Global;

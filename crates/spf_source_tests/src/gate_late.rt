@@ -1,7 +1,7 @@
 //! A denial between two asks.
 
 ghost use Rattle.std.specs.Prelude.{◌≡◌, ◌≢◌, []};
-ghost use Rattle.spf_history.specs.Lists.{steps_of};
+ghost use Rattle.spf_board.specs.Lists.{steps_of};
 
 use crate::source::{Held, opened, withdraw};
 use spf_gate::gate_serve;
@@ -35,7 +35,7 @@ struct LateAsk<R: Wait + Drop> {
 
 impl<R: Wait + Drop> Model for LateAsk<R> {
     ghost use Rattle.std.specs.Prelude.{◌≡◌, ◌≢◌, [], IfSome, ℕ};
-    ghost use Rattle.spf_history.specs.Lists.{steps_of};
+    ghost use Rattle.spf_board.specs.Lists.{steps_of};
 
     ghost Value = { ℕ };
 

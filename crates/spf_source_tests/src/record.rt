@@ -1,11 +1,11 @@
 //! The record of a supervisor that runs where it is joined.
 
 use crate::building::{BuiltJob, FixedClock, SummedPause};
+use spf_agent::{connector, good_link};
 use spf_feed::{NoPicker, Step};
 use spf_io::OutOfMemory;
-use spf_job::{InlineSpawner, Spawner, StepWords};
 use spf_link::MemConnector;
-use spf_responses::{connector, good_link};
+use spf_system::{InlineSpawner, Spawner, StepWords};
 use spf_x509_board::BoardPlaces;
 use spiffe::{Supervised, SupervisorEnd, X509Source};
 use std::alloc::Global;

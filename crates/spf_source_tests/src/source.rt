@@ -1,18 +1,17 @@
 //! A source before and after it is closed.
 
 ghost use Rattle.std.specs.Prelude.{◌≡◌, ◌≢◌, Some, [], IfOk};
-ghost use Rattle.spf_history.specs.Lists.{steps_of};
+ghost use Rattle.spf_board.specs.Lists.{steps_of};
 ghost use Rattle.spf_feed.specs.Steps.{MayFollow};
 
+use spf_agent::first_item;
 use spf_api::context_from;
-use spf_close::{Bell, closed_cell};
 use spf_feed::{
     Denial, NoPicker, Prepared, ResourceLimits, Step, X509SourceError, select_svid, validate_limits,
 };
 use spf_id::TrustDomain;
 use spf_io::OutOfMemory;
-use spf_responses::first_item;
-use spf_system::StopFlag;
+use spf_system::{Bell, StopFlag, closed_cell};
 use spf_x509::X509Context;
 use spf_x509_board::{BoardPlaces, Desk, Pass, RefusingPlaces, open, publish_on};
 use spiffe::{X509Source, X509SourceUpdates};

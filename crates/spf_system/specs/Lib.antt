@@ -1,3 +1,11 @@
 pub mod Clock
 pub mod Environment
 pub mod Pause
+pub mod Backoff
+pub mod Bounds
+pub mod Delays
+pub mod Pacing
+pub mod Tracked
+pub mod Marks
+pub mod Starts
+pub mod Words

@@ -5,6 +5,8 @@
 #[cfg(test)]
 mod feed;
 #[cfg(test)]
+mod folder;
+#[cfg(test)]
 mod helper;
 #[cfg(test)]
 mod jwt;

@@ -4,8 +4,8 @@ use Rattle.std.specs.Prelude.{codes}
 use Rattle.spf_feed.specs.declared.ready.Ready.TheVariants as readiness
 use Rattle.spf_watch.specs.declared.arguments.Command.TheVariants as commands
 use Rattle.spf_program.specs.Numbers.{number_up_to, number_in, is_numeral}
-use Rattle.spf_options.specs.Pairs.{option_in}
-use Rattle.spf_options.specs.Values.{limit_in, ready_in}
+use Rattle.spf_program.specs.Pairs.{option_in}
+use Rattle.spf_program.specs.Values.{limit_in, ready_in}
 use Rattle.spf_watch.specs.Arguments.{command_in, option_names}
 use Rattle.spf_watch.specs.Arguments.{x509_setting, make_arguments_in}
 

@@ -5,8 +5,8 @@ use Rattle.spf_feed.specs.declared.ready.Ready.{Ready}
 use Rattle.spf_feed.specs.declared.ready.Ready.TheVariants as readiness
 use Rattle.spf_watch.specs.Setting.{default_setting, default_jwt_setting}
 use Rattle.spf_program.specs.Numbers.{number_in}
-use Rattle.spf_options.specs.Pairs.{are_pairs, is_one_of, option_in}
-use Rattle.spf_options.specs.Values.{limit_in, optional_moment_in, ready_in, text_in}
+use Rattle.spf_program.specs.Pairs.{are_pairs, is_one_of, option_in}
+use Rattle.spf_program.specs.Values.{limit_in, optional_moment_in, ready_in, text_in}
 use Rattle.spf_watch.specs.Arguments.{option_names, not_there, jwt_setting, x509_setting}
 
 pub setting_read : (arguments : List (List ℕ)) (a b c d : Option ℕ) (e : Option ℤ) (f : ℕ)

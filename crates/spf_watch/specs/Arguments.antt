@@ -5,8 +5,8 @@ use Rattle.std.specs.Option.{option_map}
 use Rattle.std.specs.Str.{bytes_eq}
 use Rattle.spf_io.specs.Option.{◌>>=◌}
 use Rattle.spf_program.specs.Numbers.{number_up_to, number_in}
-use Rattle.spf_options.specs.Pairs.{are_pairs, is_one_of, option_in}
-use Rattle.spf_options.specs.Values.{limit_in, optional_moment_in, ready_in, text_in}
+use Rattle.spf_program.specs.Pairs.{are_pairs, is_one_of, option_in}
+use Rattle.spf_program.specs.Values.{limit_in, optional_moment_in, ready_in, text_in}
 use Rattle.spf_watch.specs.Setting.{Setting, default_setting, default_jwt_setting}
 use Rattle.spf_watch.specs.declared.arguments.Command.{Command}
 use Rattle.spf_watch.specs.declared.arguments.Command.TheVariants as commands

@@ -1,7 +1,7 @@
 //! The arguments of the command line.
 
 ghost use Rattle.std.specs.Prelude.{◌≡◌, map, string_bytes};
-ghost use Rattle.spf_options.specs.Pairs.{are_pairs, is_one_of, option_in};
+ghost use Rattle.spf_program.specs.Pairs.{are_pairs, is_one_of, option_in};
 ghost use Rattle.spf_watch.specs.Arguments.{
   command_in,
   make_arguments_in,
@@ -13,10 +13,10 @@ ghost use Rattle.spf_watch.specs.Arguments.{
 
 use spf_feed::{Ready, ResourceLimits};
 use spf_jwt::JwtResourceLimits;
-use spf_options::{
-    are_pairs, limit_option, moment_option, number_option, ready_option, text_option, value_of,
+use spf_program::{
+    are_pairs, limit_option, moment_option, number_option, number_up_to, ready_option, text_option,
+    value_of,
 };
-use spf_program::number_up_to;
 use std::marker::Model;
 
 /// The default of `--max-frames`.
@@ -160,7 +160,7 @@ fn jwt_arguments(arguments: &[String]) -> Option<JwtArguments>
 }
 
 /// `None` where an option of `x509` alone is set.
-#[tactic(auto, unfolding(spf_options::specs::Pairs::option_in))]
+#[tactic(auto, unfolding(spf_program::specs::Pairs::option_in))]
 fn no_option(arguments: &[String], option: &str) -> Option<()>
     ensures { result ≡ option_in not_there tt option.now (map string_bytes arguments.now) }
 {

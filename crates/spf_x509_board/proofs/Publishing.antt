@@ -2,10 +2,10 @@
 use Rattle.std.proofs.Common.{◌≡◌, ◌++◌, ◌∷◌, [], List, Option, Some, Result, Ok, Err}
 use Rattle.std.proofs.Common.{OnOk, OnErr, ap, ◌∙◌}
 use Rattle.std.specs.List.{AllByRecursion}
-use Rattle.spf_history.specs.declared.entry.Entry.TheVariants as entry
-use Rattle.spf_history.specs.Lists.{steps_of}
-use Rattle.spf_history.specs.Past.{Past, added}
-use Rattle.spf_history.proofs.Prefixes.{steps_more}
+use Rattle.spf_board.specs.declared.entry.Entry.TheVariants as entry
+use Rattle.spf_board.specs.Lists.{steps_of}
+use Rattle.spf_board.specs.Past.{Past, added}
+use Rattle.spf_board.proofs.Prefixes.{steps_more}
 use Rattle.spf_view.specs.Steps.{Accept, Deny, BeginsWithAccept, IsFit}
 use Rattle.spf_feed.specs.Records.{RecordAppends}
 use Rattle.spf_feed.specs.Steps.{MayFollow, PlainStep, fits}

@@ -1,11 +1,11 @@
 -- What a state says that was read through a pass, and what an error tells.
 use Rattle.std.specs.Prelude.{◌≡◌, Bool, List}
-use Rattle.spf_history.specs.declared.entry.Entry.{Entry}
-use Rattle.spf_history.specs.Lists.{steps_of}
+use Rattle.spf_board.specs.declared.entry.Entry.{Entry}
+use Rattle.spf_board.specs.Lists.{steps_of}
 use Rattle.spf_feed.specs.declared.state.X509SourceError.{X509SourceError}
 use Rattle.spf_feed.specs.declared.state.X509SourceError.TheVariants as errors
 use Rattle.spf_feed.specs.Steps.{PlainStep, StateView}
-use Rattle.spf_pass.specs.Showing.{Showing, Told, ToldClosed, ToldMemory, ToldNoPlace, ToldOther}
+use Rattle.spf_board.specs.Showing.{Showing, Told, ToldClosed, ToldMemory, ToldNoPlace, ToldOther}
 use Rattle.spf_x509_board.specs.Steps.{Legal, Replays}
 
 -- the state is the replay of the steps of a legal board list, and says whether the source is closed

@@ -1,10 +1,8 @@
 //! X.509 steps and their snapshot, as a board has them.
 
-use spf_board::{Look, Replay};
+use spf_board::{Kind, Look, Replay, Shows};
 use spf_feed::{Prepared, Snapshot, X509SourceError, X509SourceState};
-use spf_history::Kind;
 use spf_io::OutOfMemory;
-use spf_pass::Shows;
 use std::alloc::Global;
 use std::fmt;
 
@@ -110,7 +108,7 @@ impl Shows for X509 {
 }
 
 /// What one reader has seen.
-pub type Pass = spf_pass::Pass<X509>;
+pub type Pass = spf_board::Pass<X509>;
 
 /// Whether the chosen SVID is there and unexpired at a moment.
 #[derive(Clone, Copy, Debug)]

@@ -11,6 +11,4 @@ pub use board::open;
 pub use desk::{Desk, DeskWriter, Ended, publish_on};
 pub use kind::{Pass, UsableAt, X509};
 pub use places::Places;
-pub use spf_board::{BoardPlaces, PLACES, PlaceFault, RefusingPlaces};
-pub use spf_history::Front;
-pub use spf_pass::settle;
+pub use spf_board::{BoardPlaces, Front, PLACES, PlaceFault, RefusingPlaces, settle};

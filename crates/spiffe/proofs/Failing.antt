@@ -4,7 +4,7 @@ use Rattle.std.proofs.Common.{ℕ}
 use Rattle.std.specs.Prelude.{MatchBool, if◌then◌else◌}
 use Rattle.spf_api.specs.declared.endpoint_error.EndpointError.{EndpointError}
 use Rattle.spf_api.specs.declared.error.WorkloadApiError.TheVariants as api
-use Rattle.spf_endpoint.specs.Endpoint.{is_memory}
+use Rattle.spf_link.specs.Endpoint.{is_memory}
 use Rattle.spf_io.specs.Rule.{Gives}
 use Rattle.spf_x509.specs.Svid.{Svid}
 use Rattle.spf_feed.specs.declared.state.X509SourceError.TheVariants as errors

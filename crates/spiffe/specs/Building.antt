@@ -6,9 +6,9 @@ use Rattle.std.specs.Option.{option_map}
 use Rattle.spf_api.specs.declared.endpoint_error.EndpointError.{EndpointError}
 use Rattle.spf_api.specs.declared.error.WorkloadApiError.TheVariants as api
 use Rattle.spf_io.specs.Outside.{Rose}
-use Rattle.spf_endpoint.specs.Endpoint.{is_memory}
+use Rattle.spf_link.specs.Endpoint.{is_memory}
 use Rattle.spf_link.specs.Connecting.{Member}
-use Rattle.spf_pace.specs.Bounds.{IsDefault as HasDefaultBounds}
+use Rattle.spf_system.specs.Bounds.{IsDefault as HasDefaultBounds}
 use Rattle.spf_x509.specs.Svid.{Svid}
 use Rattle.spf_x509_board.specs.Passes.{PassView}
 use Rattle.spf_feed.specs.Limits.{default_limits}
@@ -26,8 +26,8 @@ use Rattle.spf_feeder.specs.Kinds.{x509}
 use Rattle.spf_feeder.specs.Opened.{HasDeadline, StopsOpening}
 use Rattle.spiffe.specs.declared.builder.Settings.{Settings}
 use Rattle.spiffe.specs.Records.{Assigned}
-use Rattle.spf_pass.specs.Sources.{Source}
-use Rattle.spf_supervisor.specs.Building.{IsAssignedBy, IsBuiltBy}
+use Rattle.spf_board.specs.Sources.{Source}
+use Rattle.spf_feeder.specs.Building.{IsAssignedBy, IsBuiltBy}
 
 -- the settings of a builder on which nothing was set
 pub record IsDefault {K : Type 0} (set : Settings K) : Type 0 where

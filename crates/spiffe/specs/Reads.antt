@@ -12,15 +12,15 @@ use Rattle.spf_feed.specs.declared.step.Denial.{Denial}
 use Rattle.spf_feed.specs.Steps.{StateView, View, Material, PlainStep, held_in, reason_of}
 use Rattle.spf_io.specs.declared.memory.OutOfMemory.{OutOfMemory}
 use Rattle.spf_board.specs.Passes.{Renews}
-use Rattle.spf_close.specs.Marks.{mark_by}
-use Rattle.spf_close.specs.declared.maker.Maker.TheVariants as makers
+use Rattle.spf_system.specs.Marks.{mark_by}
+use Rattle.spf_system.specs.declared.maker.Maker.TheVariants as makers
 use Rattle.spf_x509_board.specs.Passes.{PassView, read_of}
 use Rattle.spf_x509_board.specs.Steps.{Legal, Replays, is_usable}
 use Rattle.spf_x509_board.specs.States.{IsStateOf, showing}
-use Rattle.spf_pass.specs.Passing.{FollowsBy, IsHealthyBy}
-pub use Rattle.spf_pass.specs.Passing.{IsClosedByCaller, LooksAt, SaysClosed, SeesNoLess}
-use Rattle.spf_pass.specs.Showing.{HasPlaceCauseBy, IsRevisionBy}
-use Rattle.spf_pass.specs.Sources.{Source, Updates}
+use Rattle.spf_board.specs.Passing.{FollowsBy, IsHealthyBy}
+pub use Rattle.spf_board.specs.Passing.{IsClosedByCaller, LooksAt, SaysClosed, SeesNoLess}
+use Rattle.spf_board.specs.Showing.{HasPlaceCauseBy, IsRevisionBy}
+use Rattle.spf_board.specs.Sources.{Source, Updates}
 
 -- the bundles of a set, by the names of their trust domains
 abbrev pub Bundles : Type 0

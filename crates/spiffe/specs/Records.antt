@@ -7,10 +7,10 @@ use Rattle.spf_feed.specs.declared.step.Step.{Step}
 use Rattle.spf_feed.specs.Steps.{PlainStep, plain}
 use Rattle.spf_feeder.specs.declared.x509_rules.X509Rules.{X509Rules}
 use Rattle.spf_feeder.specs.Governed.{kind_by}
-use Rattle.spf_supervisor.specs.Records.{AssignedOf, IsLeftByOf, IsOfBy, IsRecordBy, LeftOf}
-use Rattle.spf_supervisor.specs.Records.{RecordedOf}
-pub use Rattle.spf_supervisor.specs.Connectors.{unyielded}
-pub use Rattle.spf_supervisor.specs.Records.{assigned, left_of, recorded_of, task_of}
+use Rattle.spf_feeder.specs.Records.{AssignedOf, IsLeftByOf, IsOfBy, IsRecordBy, LeftOf}
+use Rattle.spf_feeder.specs.Records.{RecordedOf}
+pub use Rattle.spf_feeder.specs.Connectors.{unyielded}
+pub use Rattle.spf_feeder.specs.Records.{assigned, left_of, recorded_of, task_of}
 
 -- what a supervisor is given, where S is its connector and K its picker
 abbrev pub Assigned : Type 0 → Type 0 → Type 0

@@ -1,5 +1,5 @@
 -- What updates have read.
-use Rattle.spf_pass.specs.Passing.{ReadsFromBy}
+use Rattle.spf_board.specs.Passing.{ReadsFromBy}
 use Rattle.spf_x509_board.specs.Passes.{PassView, Seen}
 use Rattle.spf_x509_board.specs.Steps.{Legal}
 

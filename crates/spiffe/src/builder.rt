@@ -8,15 +8,12 @@ use crate::handle::{PendingHandle, SupervisorHandle, X509Job};
 use crate::opening::{joined, synchronised};
 use crate::source::X509Source;
 use rand_core::Rng;
-use spf_close::open_cells;
 use spf_feed::{
     MetricsRecorder, NoPicker, NoRecorder, Ready, ResourceLimits, SvidPicker, X509SourceError,
 };
 use spf_io::OutOfMemory;
-use spf_job::Spawner;
 use spf_link::Connector;
-use spf_pace::ReconnectConfig;
-use spf_system::{Clock, Pause};
+use spf_system::{Clock, Pause, ReconnectConfig, Spawner, open_cells};
 use spf_x509_board::{Pass, Places};
 use std::alloc::Global;
 use std::fmt;

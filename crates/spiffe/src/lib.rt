@@ -13,4 +13,4 @@ pub use builder::{Settings, X509SourceBuilder};
 pub use handle::{PendingHandle, Supervised, SupervisorHandle, Task, X509Done, X509Job};
 pub use publishing::BoardPublisher;
 pub use source::{X509Source, X509SourceUpdates};
-pub use spf_supervisor::SupervisorEnd;
+pub use spf_feeder::SupervisorEnd;

@@ -4,13 +4,13 @@ ghost use Rattle.std.specs.Prelude.{◌≡◌, ◌∷◌, [], false, map, Err, I
 ghost use Rattle.std.specs.Prelude.{reverse};
 ghost use Rattle.std.specs.Option.{ForSome};
 ghost use Rattle.spf_view.specs.Steps.{steps_of};
-ghost use Rattle.spf_history.specs.Lists.{steps_of as board_steps};
+ghost use Rattle.spf_board.specs.Lists.{steps_of as board_steps};
 ghost use Rattle.spf_feed.specs.Steps.{MayFollow, plain};
 ghost use Rattle.spf_feeder.specs.Governed.{kind_by};
 ghost use Rattle.spf_feeder.specs.Opened.{IsOpened};
 ghost use Rattle.spf_feeder.specs.Orderly.{IsFirstStep, IsOneStep, IsSyncedOf};
 ghost use Rattle.spf_feeder.specs.Pacing.{KeepsPaceOf};
-ghost use Rattle.spf_close.specs.declared.maker.Maker.TheVariants as makers;
+ghost use Rattle.spf_system.specs.declared.maker.Maker.TheVariants as makers;
 ghost use Rattle.spiffe.specs.Building.{IsBuilt, IsSetBy, SyncFails, refused_as, stopped_as};
 ghost use Rattle.spiffe.specs.Reads.{HasPlaceCause};
 
@@ -20,20 +20,18 @@ use crate::publishing::BoardPublisher;
 use crate::source::X509Source;
 use rand_core::Rng;
 use spf_api::{EndpointError, WorkloadApiError};
-use spf_close::{Bell, Cells, Closing, SourceCells};
+use spf_board::placed;
 use spf_feed::{
     MemPublisher, MetricsRecorder, Prepared, SessionRules, Step, SvidPicker, Terminal,
     X509SourceError,
 };
 use spf_feeder::{
-    Feeder, Session, Stop, X509Rules, X509Session, deadline_of, first_moment, open_session,
+    Feeder, Session, Stop, SupervisorJob, X509Rules, X509Session, deadline_of, first_moment,
+    make_ready, open_session,
 };
 use spf_io::OutOfMemory;
 use spf_link::Connector;
-use spf_pace::Pace;
-use spf_pass::placed;
-use spf_supervisor::{SupervisorJob, make_ready};
-use spf_system::{Clock, Pause, StopFlag};
+use spf_system::{Bell, Cells, Clock, Closing, Pace, Pause, SourceCells, StopFlag};
 use spf_x509_board::{Desk, Front, Pass, Places, X509, open};
 use std::alloc::Global;
 use std::mem::drop;

@@ -1,15 +1,14 @@
 //! The publisher of a supervisor: its steps stand on the board, and in its record.
 
 ghost use Rattle.std.specs.Prelude.{◌≡◌, Some, map};
-ghost use Rattle.spf_history.specs.Lists.{steps_of};
+ghost use Rattle.spf_board.specs.Lists.{steps_of};
 ghost use Rattle.spf_feed.specs.Records.{RecordAppends};
 ghost use Rattle.spf_feed.specs.Steps.{MayFollow, plain};
 
-use spf_close::Bell;
 use spf_feed::{MetricsRecorder, Publisher, Step, SvidPicker};
-use spf_feeder::X509Session;
+use spf_feeder::{Finishes, X509Session};
 use spf_io::OutOfMemory;
-use spf_supervisor::Finishes;
+use spf_system::Bell;
 use spf_x509_board::{Desk, Ended, Front, Pass, X509, publish_on, settle};
 use std::alloc::Global;
 use std::marker::Model;
@@ -29,8 +28,8 @@ pub struct BoardPublisher<R: Wait + Drop> {
 
 impl<R: Wait + Drop> Model for BoardPublisher<R> {
     ghost use Rattle.std.specs.Prelude.{◌≡◌, map};
-    ghost use Rattle.spf_history.specs.Lists.{steps_of};
-    ghost use Rattle.spf_history.specs.Past.{Past};
+    ghost use Rattle.spf_board.specs.Lists.{steps_of};
+    ghost use Rattle.spf_board.specs.Past.{Past};
     ghost use Rattle.spf_feed.specs.Steps.{PlainStep, plain};
 
     ghost Value = { Past PlainStep };
@@ -70,10 +69,10 @@ fn ended<R: Wait + Drop>(desk: Desk<R>, is_refused: bool) -> Ended<R>
 
 impl<R: Wait + Drop> Publisher for BoardPublisher<R> {
     ghost use Rattle.std.specs.Prelude.{◌≡◌, Some};
-    ghost use Rattle.spf_history.specs.Lists.{steps_of};
+    ghost use Rattle.spf_board.specs.Lists.{steps_of};
     ghost use Rattle.spf_feed.specs.Records.{RecordAppends};
     ghost use Rattle.spf_feed.specs.Steps.{MayFollow, plain};
-    ghost use Rattle.spf_supervisor.specs.Boards.{numbers_of};
+    ghost use Rattle.spf_feeder.specs.Boards.{numbers_of};
 
     ghost steps = { λ p. Some (steps_of p.list) };
 
@@ -108,7 +107,7 @@ impl<R: Wait + Drop, M: MetricsRecorder + Drop, K: SvidPicker + Drop> Finishes<
     type Ended = Ended<R>;
 
     ghost use Rattle.std.specs.Prelude.{◌≡◌, refl, map};
-    ghost use Rattle.spf_history.specs.Lists.{steps_of};
+    ghost use Rattle.spf_board.specs.Lists.{steps_of};
     ghost use Rattle.spf_feed.specs.Steps.{plain};
 
     ghost board = { λ p. p.book };

@@ -3,8 +3,8 @@
 ghost use Rattle.std.specs.Prelude.{◌≡◌, IfErr, IfOk, Some};
 ghost use Rattle.std.specs.Duration.{as_nanos};
 ghost use Rattle.std.specs.Option.{option_map};
-ghost use Rattle.spf_endpoint.specs.Endpoint.{endpoint_rule};
-ghost use Rattle.spf_wire.specs.Endpoints.{kept};
+ghost use Rattle.spf_link.specs.Endpoint.{endpoint_rule};
+ghost use Rattle.spf_link.specs.Endpoints.{kept};
 ghost use Rattle.spiffe.specs.Building.{FailsByDefault, IsAssignedByDefault, IsBuilt, IsDefault};
 
 use crate::builder::X509SourceBuilder;
@@ -13,10 +13,8 @@ use crate::source::X509Source;
 use rand_core::Rng;
 use spf_feed::{MetricsRecorder, NoPicker, NoRecorder, SvidPicker, X509SourceError};
 use spf_io::OutOfMemory;
-use spf_job::Spawner;
-use spf_link::Connector;
-use spf_system::{Clock, Environment, Pause};
-use spf_wire::{EndpointConnector, EnvConnector};
+use spf_link::{Connector, EndpointConnector, EnvConnector};
+use spf_system::{Clock, Environment, Pause, Spawner};
 use spf_x509_board::{Pass, Places};
 use std::alloc::Global;
 use std::mem::drop;

@@ -1,7 +1,7 @@
 //! A handle of a live source of X.509 identities.
 
 ghost use Rattle.std.specs.Prelude.{◌≡◌, ◌≢◌, IfOk, MatchBool, OnOk};
-ghost use Rattle.spf_close.specs.declared.maker.Maker.TheVariants as makers;
+ghost use Rattle.spf_system.specs.declared.maker.Maker.TheVariants as makers;
 ghost use Rattle.spf_feed.specs.declared.state.X509SourceError.TheVariants as errors;
 ghost use Rattle.spf_feed.specs.States.{ContextAnswer, SvidAnswer};
 ghost use Rattle.spf_board.specs.Passes.{Renews};
@@ -12,12 +12,11 @@ ghost use Rattle.spiffe.specs.Reads.{BundleAnswer, BundlesAnswer, Gets, IsHealth
 ghost use Rattle.spiffe.specs.Reads.{Follows, HasPlaceCause, SeesNoLess, Tries, TriesBundle};
 ghost use Rattle.spiffe.specs.Updating.{ReadsFrom};
 
-use spf_close::{Bell, Closer, Closing, LastHandle, Watch, closing_of};
+use spf_board::{SourceUpdates, another_pass, check_open, look};
 use spf_feed::{X509SourceError, X509SourceState};
 use spf_id::TrustDomain;
 use spf_io::OutOfMemory;
-use spf_pass::{SourceUpdates, another_pass, check_open, look};
-use spf_system::StopFlag;
+use spf_system::{Bell, Closer, Closing, LastHandle, StopFlag, Watch, closing_of};
 use spf_x509::{BundleSource, SvidSource, X509Bundle, X509BundleSet, X509Context, X509Svid};
 use spf_x509_board::{Front, Pass, Places, UsableAt, X509};
 use std::alloc::Global;
@@ -42,7 +41,7 @@ pub struct X509Source {
 
 impl Model for X509Source {
     ghost use Rattle.std.specs.Prelude.{◌≡◌};
-    ghost use Rattle.spf_pass.specs.Sources.{Source};
+    ghost use Rattle.spf_board.specs.Sources.{Source};
 
     ghost Value = { Source };
 

@@ -1,15 +1,14 @@
 //! A source over a board that this program publishes on.
 
 ghost use Rattle.std.specs.Prelude.{◌≡◌, ◌≢◌, Some, [], IfOk};
-ghost use Rattle.spf_close.specs.declared.maker.Maker.TheVariants as makers;
-ghost use Rattle.spf_history.specs.Lists.{steps_of};
+ghost use Rattle.spf_system.specs.declared.maker.Maker.TheVariants as makers;
+ghost use Rattle.spf_board.specs.Lists.{steps_of};
 ghost use Rattle.spf_feed.specs.Steps.{MayFollow, plain};
 
 use crate::item::first_context;
-use spf_close::{Bell, Closer, closed_cell};
 use spf_feed::{NoPicker, Prepared, ResourceLimits, Step, select_svid, validate_limits};
 use spf_io::OutOfMemory;
-use spf_system::StopFlag;
+use spf_system::{Bell, Closer, StopFlag, closed_cell};
 use spf_x509::X509Context;
 use spf_x509_board::{Desk, Front, Pass, X509, open};
 use spiffe::X509Source;

@@ -1,7 +1,7 @@
 //! The measurements and their lines.
 
 ghost use Rattle.std.specs.Prelude.{◌≡◌, ◌≢◌, [], All, IfOk, OnOk};
-ghost use Rattle.spf_history.specs.Lists.{steps_of};
+ghost use Rattle.spf_board.specs.Lists.{steps_of};
 
 use crate::bench_error::BenchError;
 use crate::board::opened;

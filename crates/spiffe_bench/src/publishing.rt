@@ -1,7 +1,7 @@
 //! A writer that publishes without pause.
 
 ghost use Rattle.std.specs.Prelude.{◌≢◌, [], IfOk, OnOk};
-ghost use Rattle.spf_history.specs.Lists.{steps_of};
+ghost use Rattle.spf_board.specs.Lists.{steps_of};
 
 use crate::board::accepting;
 use crate::item::first_context;

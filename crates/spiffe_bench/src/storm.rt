@@ -1,7 +1,7 @@
 //! Readers that check what they read while a writer publishes without pause.
 
 ghost use Rattle.std.specs.Prelude.{◌≡◌, ◌≢◌, []};
-ghost use Rattle.spf_history.specs.Lists.{steps_of};
+ghost use Rattle.spf_board.specs.Lists.{steps_of};
 
 use crate::bench_error::BenchError;
 use crate::board::{accepting, opened};

@@ -1,12 +1,12 @@
 //! What responses mean, and the first rule that they break.
 
+use spf_agent::{FIRST, SECOND, SvidRow, bundle_entries, context};
 use spf_api::{
     BundlesResponse, ContextResponse, WorkloadApiError, bundle_set_from, context_from, svid_from,
     svids_from,
 };
 use spf_fixtures::octets;
 use spf_id::TrustDomain;
-use spf_responses::{FIRST, SECOND, SvidRow, bundle_entries, context};
 use spf_x509::{Certificate, X509BundleSet, X509Context, X509Svid, X509SvidError};
 use std::alloc::Global;
 use std::mem::drop;

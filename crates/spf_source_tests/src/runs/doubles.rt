@@ -1,9 +1,9 @@
 //! What live runs are given in memory.
 
+use spf_agent::{connector, good_link, refusing_link};
 use spf_api::GrpcStatusCode;
 use spf_io::{MemSink, OutOfMemory};
 use spf_link::MemConnector;
-use spf_responses::{connector, good_link, refusing_link};
 use spf_system::{MemClock, MemPause};
 use std::alloc::Global;
 use std::process::Abort;

@@ -3,7 +3,7 @@
 use crate::runs::doubles::arguments;
 use spf_feed::Ready;
 use spf_io::OutOfMemory;
-use spf_options::{LiveOptions, live_options};
+use spf_program::{LiveOptions, live_options};
 use std::alloc::Global;
 use std::test::Fail;
 

@@ -8,7 +8,7 @@ use spf_agent::{
 };
 use spf_feed::{NoPicker, Step};
 use spf_io::{OutOfMemory, Text};
-use spf_job::StepWords;
+use spf_system::StepWords;
 use spf_x509_board::{BoardPlaces, Pass};
 use spiffe::{Supervised, SupervisorEnd, SupervisorHandle, X509Source};
 use std::io;

@@ -6,7 +6,7 @@ ghost use Rattle.spiffe.specs.Records.{task_of};
 use spf_agent::{AgentConnector, HeldRecorder, ShortPause};
 use spf_feed::NoPicker;
 use spf_io::Failed;
-use spf_job::{Job, Joins, StepWords};
+use spf_system::{Job, Joins, StepWords};
 use spiffe::{Task, X509Done, X509Job};
 use std::snapshot::Snapshot;
 use std::sync::Wait;

@@ -1,7 +1,7 @@
 use Rattle.std.proofs.Common.{◌≡◌, ◌∷◌, [], ap, sym, ◌∙◌, subst}
-use Rattle.spf_history.specs.declared.entry.Entry.TheVariants as entry
-use Rattle.spf_history.specs.Lists.{steps_of}
-use Rattle.spf_history.proofs.Prefixes.{first_may, first_steps}
+use Rattle.spf_board.specs.declared.entry.Entry.TheVariants as entry
+use Rattle.spf_board.specs.Lists.{steps_of}
+use Rattle.spf_board.proofs.Prefixes.{first_may, first_steps}
 use Rattle.spf_board.proofs.Keeping.{opens}
 use Rattle.spf_board.proofs.opening.blank.Goals as goal
 

@@ -1,4 +1,4 @@
-use Rattle.spf_history.proofs.Prefixes.{end_may}
+use Rattle.spf_board.proofs.Prefixes.{end_may}
 use Rattle.spf_board.proofs.writer.publish_end.Goals as goal
 
 pub publish-requires-clause-follows : goal.publish-requires-clause-follows

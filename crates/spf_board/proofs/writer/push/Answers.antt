@@ -1,6 +1,6 @@
 use Rattle.std.proofs.Common.{◌≡◌, drop}
 use Rattle.left_right.specs.Sides.{view}
-use Rattle.spf_history.specs.Past.{added}
+use Rattle.spf_board.specs.Past.{added}
 use Rattle.spf_board.specs.Posted.{entry_of}
 use Rattle.spf_board.proofs.Keeping.{pushes}
 use Rattle.spf_board.proofs.writer.push.Goals as goal

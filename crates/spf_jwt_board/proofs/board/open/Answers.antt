@@ -1,7 +1,7 @@
 use Rattle.std.proofs.Common.{IfSome, ap, ◌∙◌, sym, subst}
 use Rattle.std.proofs.lemmas.List.Elements.{All-pop}
 use Rattle.left_right.specs.Sides.{view}
-use Rattle.spf_history.proofs.Prefixes.{first_unended}
+use Rattle.spf_board.proofs.Prefixes.{first_unended}
 use Rattle.spf_board.specs.Board.{IsBoundTo}
 use Rattle.spf_jwt_board.proofs.board.open.Goals as goal
 

@@ -1,6 +1,6 @@
 use Rattle.std.proofs.Common.{sym, ap, ◌∙◌}
-use Rattle.spf_history.specs.Lists.{steps_of as board_steps}
-use Rattle.spf_jwt_feeder.specs.Governed.{kind_of}
+use Rattle.spf_board.specs.Lists.{steps_of as board_steps}
+use Rattle.spf_jwt_source.specs.Governed.{kind_of}
 use Rattle.spf_feeder.proofs.Joining.{paces_as, steps_as, synced_as}
 use Rattle.spf_jwt_source.proofs.opening.joined.Goals as goal
 

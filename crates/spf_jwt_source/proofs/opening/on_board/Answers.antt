@@ -1,10 +1,10 @@
 use Rattle.std.proofs.Common.{ap, subst, sym, ◌∙◌}
 use Rattle.spf_view.specs.Steps.{steps_of}
-use Rattle.spf_history.specs.Lists.{steps_of as board_steps}
-use Rattle.spf_jwt_feeder.specs.Governed.{kind_of, rules_of}
+use Rattle.spf_board.specs.Lists.{steps_of as board_steps}
+use Rattle.spf_jwt_source.specs.Governed.{kind_of, rules_of}
 use Rattle.spf_feeder.specs.Kept.{progress}
-use Rattle.spf_jwt_feeder.specs.Orderly.{IsOneStep}
-use Rattle.spf_jwt_feeder.proofs.FeedLemmas.{one_step}
+use Rattle.spf_jwt_source.specs.Orderly.{IsOneStep}
+use Rattle.spf_jwt_source.proofs.FeedLemmas.{one_step}
 use Rattle.spf_feeder.proofs.Joining.{fed_as}
 use Rattle.spf_jwt_source.proofs.opening.on_board.Goals as goal
 

@@ -1,5 +1,5 @@
 use Rattle.std.proofs.Common.{sym, ap, ◌∙◌}
-use Rattle.spf_history.specs.Lists.{steps_of as board_steps}
+use Rattle.spf_board.specs.Lists.{steps_of as board_steps}
 use Rattle.spf_jwt_source.proofs.opening.opened.Goals as goal
 
 pub returns-clause-kept : goal.returns-clause-kept

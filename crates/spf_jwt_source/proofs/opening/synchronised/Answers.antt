@@ -1,9 +1,9 @@
 use Rattle.std.proofs.Common.{rules, ◌≡◌, ap, arith, of_z, subst, sym, to_z}
 use Rattle.std.proofs.lemmas.Int.{ints, to_z-of_z}
 use Rattle.std.specs.Int.{w64}
-use Rattle.spf_jwt_feeder.specs.Governed.{kind_of}
+use Rattle.spf_jwt_source.specs.Governed.{kind_of}
 use Rattle.spf_feeder.specs.Kept.{Given}
-use Rattle.spf_jwt_feeder.specs.declared.rules.JwtRules.{JwtRules}
+use Rattle.spf_jwt_source.specs.declared.rules.JwtRules.{JwtRules}
 use Rattle.spf_feeder.proofs.FeedLemmas.{stops_as}
 use Rattle.spf_feeder.proofs.Joining.{opened_of}
 use Rattle.spf_jwt_source.specs.Building.{SyncFails}

@@ -1,4 +1,4 @@
-use Rattle.spf_supervisor.proofs.Leaving.{same_steps}
+use Rattle.spf_feeder.proofs.Leaving.{same_steps}
 use Rattle.spf_jwt_source.proofs.publishing.ended.Goals as goal
 
 pub returns-else-is_refused : goal.returns-else-is_refused

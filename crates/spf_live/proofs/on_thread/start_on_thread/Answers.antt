@@ -1,13 +1,13 @@
 use denote.Exit.{no}
 use denote.Param.Send.{arg_send, param_send, sendable}
 use Rattle.std.proofs.Crossing.{crosses}
-use Rattle.spf_job.specs.contracts.step_words.StepWords as StepWords
-use Rattle.spf_job.specs.contracts.step_words.StepWordsRng.TheImpl as draws
-use Rattle.spf_pace.proofs.pace.Pace.TheSendSync as pace
-use Rattle.spf_close.proofs.bell.Bell.TheSendSync as bell
-use Rattle.spf_close.proofs.cell.Closer.TheSendSync as closer
-use Rattle.spf_close.proofs.cell.Watch.TheSendSync as watch
-use Rattle.spf_job.proofs.step_words.StepWords.TheSendSync as words
+use Rattle.spf_system.specs.contracts.step_words.StepWords as StepWords
+use Rattle.spf_system.specs.contracts.step_words.StepWordsRng.TheImpl as draws
+use Rattle.spf_system.proofs.pace.Pace.TheSendSync as pace
+use Rattle.spf_system.proofs.bell.Bell.TheSendSync as bell
+use Rattle.spf_system.proofs.cell.Closer.TheSendSync as closer
+use Rattle.spf_system.proofs.cell.Watch.TheSendSync as watch
+use Rattle.spf_system.proofs.step_words.StepWords.TheSendSync as words
 use Rattle.spf_api.specs.contracts.response.ContextResponse as ContextResponse
 use Rattle.spf_feed.specs.contracts.prepared.Prepared as Prepared
 use Rattle.spf_feed.specs.contracts.record.MetricsRecord as MetricsRecord
@@ -19,7 +19,7 @@ use Rattle.spf_feeder.specs.contracts.x509_rules.X509Rules as X509Rules
 use Rattle.spf_feeder.specs.contracts.x509_rules.X509RulesGoverns.TheImpl as governs
 use Rattle.spf_feeder.specs.contracts.x509_session.X509Session as X509Session
 use Rattle.spf_feeder.specs.contracts.x509_session.X509SessionSession.TheImpl as sessions
-use Rattle.spf_pass.specs.contracts.desk.Ended as Ended
+use Rattle.spf_board.specs.contracts.desk.Ended as Ended
 use Rattle.spf_x509_board.specs.contracts.desk.DeskWriter as DeskWriter
 use Rattle.spf_x509_board.specs.contracts.desk.DeskWriterWritesX509.TheImpl as writes
 use Rattle.spf_x509_board.specs.contracts.kind.X509 as X509
@@ -41,7 +41,7 @@ use Rattle.spf_live.specs.contracts.host.HostPause as HostPause
 use Rattle.spf_live.specs.contracts.host.HostPausePause.TheImpl as pauses
 use Rattle.spf_live.proofs.host.HostPause.TheSendSync as pause
 use Rattle.spf_live.proofs.Sent.{feeder_send}
-use Rattle.spf_supervisor.proofs.Sending.{capture_send, job_send, row_of}
+use Rattle.spf_feeder.proofs.Sending.{capture_send, job_send, row_of}
 use Rattle.spf_live.proofs.on_thread.start_on_thread.Goals as goal
 
 pub spawn_with-requires-send-F : goal.spawn_with-requires-send-F

@@ -1,5 +1,5 @@
 use Rattle.std.proofs.Common.{Some, subst, sym}
-use Rattle.spf_history.specs.Lists.{steps_of}
+use Rattle.spf_board.specs.Lists.{steps_of}
 use Rattle.spf_feed.specs.Records.{RecordAppends}
 use Rattle.spf_feed.specs.Steps.{MayFollow}
 use Rattle.spf_x509_board.proofs.Publishing.{appended, legal_next}

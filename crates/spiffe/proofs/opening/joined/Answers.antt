@@ -1,5 +1,5 @@
 use Rattle.std.proofs.Common.{sym, ap, ◌∙◌}
-use Rattle.spf_history.specs.Lists.{steps_of as board_steps}
+use Rattle.spf_board.specs.Lists.{steps_of as board_steps}
 use Rattle.spf_feeder.specs.Governed.{kind_by}
 use Rattle.spf_feeder.proofs.Joining.{paces_as, steps_as, synced_as}
 use Rattle.spiffe.proofs.opening.joined.Goals as goal

@@ -1,6 +1,6 @@
 use Rattle.std.proofs.Common.{ap, subst, sym, ◌∙◌}
 use Rattle.spf_view.specs.Steps.{steps_of}
-use Rattle.spf_history.specs.Lists.{steps_of as board_steps}
+use Rattle.spf_board.specs.Lists.{steps_of as board_steps}
 use Rattle.spf_feeder.specs.Governed.{kind_by, rules_by}
 use Rattle.spf_feeder.specs.Kept.{progress}
 use Rattle.spf_feeder.specs.Orderly.{IsOneStep}

@@ -1,5 +1,5 @@
 use Rattle.std.proofs.Common.{◌≢◌, []}
-use Rattle.spf_history.specs.Lists.{steps_of}
+use Rattle.spf_board.specs.Lists.{steps_of}
 use Rattle.spiffe_bench.proofs.publishing.publish_in_turn.Given as goal
 
 abbrev pub invariant-publishing : goal.invariant-publishing

@@ -1,8 +1,8 @@
 use Rattle.std.proofs.Common.{◌≡◌, ◌⊎◌, ap, ◌∙◌, subst}
-use Rattle.spf_history.specs.declared.entry.Entry.TheVariants as entry
-use Rattle.spf_history.specs.Lists.{is_ended}
-use Rattle.spf_history.specs.Past.{added}
-use Rattle.spf_pass.proofs.Publishing.{ended_by, either_end}
+use Rattle.spf_board.specs.declared.entry.Entry.TheVariants as entry
+use Rattle.spf_board.specs.Lists.{is_ended}
+use Rattle.spf_board.specs.Past.{added}
+use Rattle.spf_board.proofs.Publishing.{ended_by, either_end}
 use Rattle.spf_jwt_board.proofs.desk.DeskWriterWritesJwt.end.Goals as goal
 
 pub returns-clause-whole : goal.returns-clause-whole

@@ -1,6 +1,6 @@
 use Rattle.std.proofs.Common.{◌∙◌}
-use Rattle.spf_jwt_feeder.specs.Governed.{kind_of}
-use Rattle.spf_supervisor.proofs.Unyielded.{built_as}
+use Rattle.spf_jwt_source.specs.Governed.{kind_of}
+use Rattle.spf_feeder.proofs.Unyielded.{built_as}
 use Rattle.spf_jwt_source.proofs.builder.JwtSourceBuilder.build.Goals as goal
 
 pub returns-in-Ok-clause-built : goal.returns-in-Ok-clause-built

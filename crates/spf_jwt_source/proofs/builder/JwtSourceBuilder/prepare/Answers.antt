@@ -1,8 +1,8 @@
 use Rattle.std.proofs.Common.{[], ap, refl, subst, sym, ◌∙◌}
-use Rattle.spf_jwt_feeder.specs.Governed.{kind_of}
+use Rattle.spf_jwt_source.specs.Governed.{kind_of}
 use Rattle.spf_feeder.specs.Times.{GivesMoments}
 use Rattle.spf_feeder.proofs.Joining.{synced_as}
-use Rattle.spf_supervisor.proofs.Unyielded.{built_as}
+use Rattle.spf_feeder.proofs.Unyielded.{built_as}
 use Rattle.spf_jwt_source.specs.Building.{IsSetBy}
 use Rattle.spf_jwt_source.proofs.builder.JwtSourceBuilder.prepare.Goals as goal
 

@@ -2,13 +2,13 @@ use denote.Exit.{no}
 use denote.Param.Send.{arg_send, param_send, sendable}
 use denote.Struct.Field.{unit-field}
 use Rattle.std.proofs.Crossing.{crosses}
-use Rattle.spf_job.specs.contracts.step_words.StepWords as StepWords
-use Rattle.spf_job.specs.contracts.step_words.StepWordsRng.TheImpl as draws
-use Rattle.spf_pace.proofs.pace.Pace.TheSendSync as pace
-use Rattle.spf_close.proofs.bell.Bell.TheSendSync as bell
-use Rattle.spf_close.proofs.cell.Closer.TheSendSync as closer
-use Rattle.spf_close.proofs.cell.Watch.TheSendSync as watch
-use Rattle.spf_job.proofs.step_words.StepWords.TheSendSync as words
+use Rattle.spf_system.specs.contracts.step_words.StepWords as StepWords
+use Rattle.spf_system.specs.contracts.step_words.StepWordsRng.TheImpl as draws
+use Rattle.spf_system.proofs.pace.Pace.TheSendSync as pace
+use Rattle.spf_system.proofs.bell.Bell.TheSendSync as bell
+use Rattle.spf_system.proofs.cell.Closer.TheSendSync as closer
+use Rattle.spf_system.proofs.cell.Watch.TheSendSync as watch
+use Rattle.spf_system.proofs.step_words.StepWords.TheSendSync as words
 use Rattle.spf_api.specs.contracts.response.BundlesResponse as BundlesResponse
 use Rattle.spf_feed.specs.contracts.record.NoRecorder as NoRecorder
 use Rattle.spf_jwt_feed.specs.contracts.record.JwtMetricsRecord as JwtMetricsRecord
@@ -16,11 +16,11 @@ use Rattle.spf_jwt_feed.specs.contracts.record.NoRecorderJwtMetricsRecorder.TheI
 use Rattle.spf_jwt_feed.specs.contracts.state.JwtSourceError as JwtSourceError
 use Rattle.spf_jwt_feed.specs.contracts.state.JwtSourceState as JwtSourceState
 use Rattle.spf_jwt_feed.specs.contracts.step.JwtStep as JwtStep
-use Rattle.spf_jwt_feeder.specs.contracts.rules.JwtRules as JwtRules
-use Rattle.spf_jwt_feeder.specs.contracts.rules.JwtRulesGoverns.TheImpl as governs
-use Rattle.spf_jwt_feeder.specs.contracts.session.JwtSession as JwtSession
-use Rattle.spf_jwt_feeder.specs.contracts.session.JwtSessionSession.TheImpl as sessions
-use Rattle.spf_pass.specs.contracts.desk.Ended as Ended
+use Rattle.spf_jwt_source.specs.contracts.rules.JwtRules as JwtRules
+use Rattle.spf_jwt_source.specs.contracts.rules.JwtRulesGoverns.TheImpl as governs
+use Rattle.spf_jwt_source.specs.contracts.session.JwtSession as JwtSession
+use Rattle.spf_jwt_source.specs.contracts.session.JwtSessionSession.TheImpl as sessions
+use Rattle.spf_board.specs.contracts.desk.Ended as Ended
 use Rattle.spf_jwt_board.specs.contracts.desk.DeskWriter as DeskWriter
 use Rattle.spf_jwt_board.specs.contracts.desk.DeskWriterWritesJwt.TheImpl as writes
 use Rattle.spf_jwt_board.specs.contracts.kind.Jwt as Jwt
@@ -40,7 +40,7 @@ use Rattle.spf_agent.specs.contracts.doubles.ShortPause as ShortPause
 use Rattle.spf_agent.specs.contracts.doubles.ShortPausePause.TheImpl as pauses
 use Rattle.spf_agent.proofs.doubles.ShortPause.TheSendSync as pause
 use Rattle.spf_jwt_source_tests.proofs.Sent.{feeder_send}
-use Rattle.spf_supervisor.proofs.Sending.{capture_send, job_send, row_of}
+use Rattle.spf_feeder.proofs.Sending.{capture_send, job_send, row_of}
 use Rattle.spf_jwt_source_tests.proofs.threads.on_thread.start_on_thread.Goals as goal
 
 pub spawn_with-requires-send-F : goal.spawn_with-requires-send-F

@@ -1,6 +1,6 @@
 use Rattle.std.proofs.Common.{◌∙◌}
 use Rattle.spf_feeder.specs.Governed.{kind_by}
-use Rattle.spf_supervisor.proofs.Unyielded.{built_as}
+use Rattle.spf_feeder.proofs.Unyielded.{built_as}
 use Rattle.spiffe.proofs.builder.X509SourceBuilder.build.Goals as goal
 
 pub returns-in-Ok-clause-built : goal.returns-in-Ok-clause-built

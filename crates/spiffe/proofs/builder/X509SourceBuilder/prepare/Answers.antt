@@ -2,7 +2,7 @@ use Rattle.std.proofs.Common.{[], ap, refl, subst, sym, ◌∙◌}
 use Rattle.spf_feeder.specs.Governed.{kind_by}
 use Rattle.spf_feeder.specs.Times.{GivesMoments}
 use Rattle.spf_feeder.proofs.Joining.{synced_as}
-use Rattle.spf_supervisor.proofs.Unyielded.{built_as}
+use Rattle.spf_feeder.proofs.Unyielded.{built_as}
 use Rattle.spiffe.specs.Building.{IsSetBy}
 use Rattle.spiffe.proofs.builder.X509SourceBuilder.prepare.Goals as goal
 

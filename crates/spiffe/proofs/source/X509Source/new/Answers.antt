@@ -1,5 +1,5 @@
 use Rattle.std.proofs.Common.{ap, ◌∙◌}
-use Rattle.spf_supervisor.proofs.Unyielded.{assigned_as, built_as}
+use Rattle.spf_feeder.proofs.Unyielded.{assigned_as, built_as}
 use Rattle.spiffe.proofs.source.X509Source.new.Goals as goal
 
 pub returns-in-Ok-clause-built : goal.returns-in-Ok-clause-built

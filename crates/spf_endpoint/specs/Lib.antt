@@ -1,3 +1,0 @@
-pub mod Endpoint
-pub mod Environment
-pub mod TcpUri

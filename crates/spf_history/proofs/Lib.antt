@@ -1,2 +1,0 @@
-mod Adding
-pub mod Prefixes

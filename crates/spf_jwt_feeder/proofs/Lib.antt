@@ -1,2 +1,0 @@
-pub mod FeedLemmas
-pub mod RunLemmas

@@ -1,0 +1,28 @@
+//! What stands in the way of an answer.
+
+use spf_frame::FrameError;
+use spf_io::OutOfMemory;
+
+/// Why a call of a link was not answered by the other side.
+#[derive(Drop)]
+pub(crate) enum WireFault {
+    /// The payload of the request is longer than 2^24.
+    RequestTooLong,
+    /// The request could not be put whole.
+    PutFault,
+    /// No answer was read.
+    Unread(FrameError),
+    /// Memory ran out before anything was put.
+    OutOfMemory,
+}
+
+impl From<OutOfMemory> for WireFault {
+    ghost use Rattle.std.specs.Prelude.{◌≡◌};
+    ghost use Rattle.spf_link.specs.declared.wire_fault.WireFault.TheVariants as faults;
+
+    ghost from_gives = { λ _ e. e ≡ faults.OutOfMemory };
+
+    fn from(_e: OutOfMemory) -> WireFault {
+        WireFault::OutOfMemory
+    }
+}

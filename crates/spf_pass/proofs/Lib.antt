@@ -1,3 +1,0 @@
-mod Reading
-pub mod Passing
-pub mod Publishing

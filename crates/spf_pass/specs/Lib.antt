@@ -1,4 +1,0 @@
-pub mod Passing
-pub mod Showing
-pub mod Sources
-pub mod Writers

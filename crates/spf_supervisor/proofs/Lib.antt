@@ -1,4 +1,0 @@
-pub mod Leaving
-pub mod Recording
-pub mod Sending
-pub mod Unyielded

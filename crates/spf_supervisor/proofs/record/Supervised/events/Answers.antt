@@ -1,7 +1,0 @@
-use Rattle.std.proofs.Common.{subst}
-use Rattle.spf_supervisor.specs.Records.{IsRecordBy}
-use Rattle.spf_supervisor.proofs.record.Supervised.events.Goals as goal
-
-pub returns-clause-kept : goal.returns-clause-kept
-returns-clause-kept g c =
-    subst (IsRecordBy g.G.Governs.plain g.G.Governs.kind) c.self.view_is c.self.invariant

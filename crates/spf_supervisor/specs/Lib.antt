@@ -1,5 +1,0 @@
-pub mod Boards
-pub mod Building
-pub mod Connectors
-pub mod Records
-pub mod Shutdowns

@@ -1,4 +1,0 @@
-pub mod AnswerLemmas
-pub mod Covers
-pub mod PassedLemmas
-pub mod Reached

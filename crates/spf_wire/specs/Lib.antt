@@ -1,5 +1,0 @@
-pub mod Answers
-pub mod Endpoints
-pub mod Laid
-pub mod Requests
-pub mod Wire
