@@ -1,10 +1,10 @@
 //! In-memory links and connectors, whose answers are given as words.
 
-use spf_agent::{FIRST, SvidRow, bundle_entries, context};
 use spf_api::{
     BundlesResponse, ClientFault, GrpcStatusCode, GrpcStatusError, LinkFault, Response,
     TransportConnectError,
 };
+use spf_fixtures::{FIRST, SvidRow, bundle_entries, context};
 use spf_io::{List, OutOfMemory, Text};
 use spf_link::{Answer, Connector, Headers, Link, MemConnector, MemLink, Request, Start};
 use std::alloc::Global;

@@ -1,9 +1,8 @@
 //! Links over real sockets, to server threads of the tests.
 
-use spf_agent::first_item;
 use spf_api::{ClientFault, GrpcStatusCode, LinkFault, Response, TransportError, WorkloadApiError};
 use spf_client::WorkloadApiClient;
-use spf_fixtures::octets;
+use spf_fixtures::{first_item, octets};
 use spf_io::{OutOfMemory, Text};
 use spf_link::{
     Connector, Endpoint, EndpointConnector, EnvConnector, Headers, Link, NoInterceptor, Request,

@@ -1,8 +1,7 @@
 //! The wire over memory.
 
-use spf_agent::first_item;
 use spf_api::{LinkFault, Response};
-use spf_fixtures::octets;
+use spf_fixtures::{first_item, octets};
 use spf_io::{MemSink, MemSource, Text};
 use spf_link::{Headers, Link, Request, WireLink};
 use std::alloc::Global;

@@ -1,5 +1,6 @@
 //! Three files on a disk that may crash, and the entries that they hold: the format of an entry,
 //! what a reader finds, and how an entry is replaced so that a crash leaves the old or the new one.
+//! A disk is in memory, or three files in a folder of the operating system.
 #![tactic(auto)]
 
 mod contents;

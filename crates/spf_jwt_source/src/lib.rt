@@ -1,5 +1,6 @@
 //! Live sources of JWT bundles: handles, their reads and fetches, the updates of one reader,
-//! builders, and the supervisor with its record.
+//! builders, and the supervisor with its record; and the sessions of JWT bundles that it feeds, with
+//! their rules.
 #![tactic(auto)]
 
 mod builder;

@@ -1,5 +1,6 @@
-//! What a client of the Workload API asks over: requests with their headers and interceptors, links
-//! and connectors of any kind, and those in memory.
+//! What a client of the Workload API asks over: endpoints (SPIFFE Workload Endpoint section 4);
+//! requests with their headers and interceptors; links and connectors of any kind, and those in
+//! memory; and the wire, requests and answers as frames over a source and a sink, and over sockets.
 #![tactic(auto)]
 
 mod answer;

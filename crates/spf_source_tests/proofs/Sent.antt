@@ -15,18 +15,18 @@ use Rattle.spf_feeder.proofs.x509_session.X509Session.TheSendSync as session
 use Rattle.spiffe.specs.contracts.publishing.BoardPublisher as BoardPublisher
 use Rattle.spiffe.specs.contracts.publishing.BoardPublisherPublisher.TheImpl as publishes
 use Rattle.spiffe.proofs.publishing.BoardPublisher.TheSendSync as board
-use Rattle.spf_agent.specs.contracts.doubles.HeldRecorder as HeldRecorder
-use Rattle.spf_agent.specs.contracts.doubles.HeldRecorderMetricsRecorder.TheImpl as records
+use Rattle.spf_fixtures.specs.contracts.doubles.HeldRecorder as HeldRecorder
+use Rattle.spf_fixtures.specs.contracts.doubles.HeldRecorderMetricsRecorder.TheImpl as records
 use Rattle.spf_feed.specs.contracts.picker.NoPicker as NoPicker
 use Rattle.spf_feed.specs.contracts.picker.NoPickerSvidPicker.TheImpl as picks
-use Rattle.spf_agent.specs.contracts.doubles.AgentConnector as AgentConnector
-use Rattle.spf_agent.specs.contracts.doubles.AgentConnectorConnector.TheImpl as connects
-use Rattle.spf_agent.specs.contracts.doubles.AgentLink as AgentLink
-use Rattle.spf_agent.specs.contracts.doubles.AgentLinkLink.TheImpl as links
+use Rattle.spf_fixtures.specs.contracts.doubles.AgentConnector as AgentConnector
+use Rattle.spf_fixtures.specs.contracts.doubles.AgentConnectorConnector.TheImpl as connects
+use Rattle.spf_fixtures.specs.contracts.doubles.AgentLink as AgentLink
+use Rattle.spf_fixtures.specs.contracts.doubles.AgentLinkLink.TheImpl as links
 use Rattle.spf_feed.proofs.picker.NoPicker.TheSendSync as picker
-use Rattle.spf_agent.proofs.doubles.HeldRecorder.TheSendSync as recorder
-use Rattle.spf_agent.proofs.doubles.AgentConnector.TheSendSync as connector
-use Rattle.spf_agent.proofs.doubles.AgentLink.TheSendSync as link
+use Rattle.spf_fixtures.proofs.doubles.HeldRecorder.TheSendSync as recorder
+use Rattle.spf_fixtures.proofs.doubles.AgentConnector.TheSendSync as connector
+use Rattle.spf_fixtures.proofs.doubles.AgentLink.TheSendSync as link
 
 module _ (T : RattleType) (w : Ghosts T.Denot) (s : IsSend T) where
   board_send : IsSend (BoardPublisher.the_row T w)

@@ -1,8 +1,8 @@
 //! Sources that are built over doubles: what a build gives, by the answers of its links.
 
 use crate::building::{Builder, built};
-use spf_agent::{good_link, refusing_link};
 use spf_api::{ClientFault, GrpcStatusCode};
+use spf_fixtures::{good_link, refusing_link};
 use spf_io::Text;
 use spf_link::{MemConnector, MemLink};
 use spf_system::{InlineSpawner, RefusingSpawner};

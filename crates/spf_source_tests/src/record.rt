@@ -1,8 +1,8 @@
 //! The record of a supervisor that runs where it is joined.
 
 use crate::building::{BuiltJob, FixedClock, SummedPause};
-use spf_agent::{connector, good_link};
 use spf_feed::{NoPicker, Step};
+use spf_fixtures::{connector, good_link};
 use spf_io::OutOfMemory;
 use spf_link::MemConnector;
 use spf_system::{InlineSpawner, Spawner, StepWords};

@@ -4,11 +4,11 @@ ghost use Rattle.std.specs.Prelude.{◌≡◌, ◌≢◌, Some, [], IfOk};
 ghost use Rattle.spf_board.specs.Lists.{steps_of};
 ghost use Rattle.spf_feed.specs.Steps.{MayFollow};
 
-use spf_agent::first_item;
 use spf_api::context_from;
 use spf_feed::{
     Denial, NoPicker, Prepared, ResourceLimits, Step, X509SourceError, select_svid, validate_limits,
 };
+use spf_fixtures::first_item;
 use spf_id::TrustDomain;
 use spf_io::OutOfMemory;
 use spf_system::{Bell, StopFlag, closed_cell};

@@ -1,13 +1,12 @@
 //! Payloads: what they lay out, and what is written of it.
 
 use crate::shown::copy_of;
-use spf_agent::first_item;
 use spf_api::{
     Claim, ClaimValue, ContextView, Response, ResponseKind, ValidationResponse, WorkloadApiError,
     context_from, context_from_view, context_from_view_sharing, read_context_view, read_payload,
     write_payload,
 };
-use spf_fixtures::octets;
+use spf_fixtures::{first_item, octets};
 use spf_io::{List, OutOfMemory};
 use spf_x509::X509Context;
 use std::alloc::Global;

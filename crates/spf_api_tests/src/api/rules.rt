@@ -1,11 +1,10 @@
 //! What responses mean, and the first rule that they break.
 
-use spf_agent::{FIRST, SECOND, SvidRow, bundle_entries, context};
 use spf_api::{
     BundlesResponse, ContextResponse, WorkloadApiError, bundle_set_from, context_from, svid_from,
     svids_from,
 };
-use spf_fixtures::octets;
+use spf_fixtures::{FIRST, SECOND, SvidRow, bundle_entries, context, octets};
 use spf_id::TrustDomain;
 use spf_x509::{Certificate, X509BundleSet, X509Context, X509Svid, X509SvidError};
 use std::alloc::Global;

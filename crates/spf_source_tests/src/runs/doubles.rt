@@ -1,7 +1,7 @@
 //! What live runs are given in memory.
 
-use spf_agent::{connector, good_link, refusing_link};
 use spf_api::GrpcStatusCode;
+use spf_fixtures::{connector, good_link, refusing_link};
 use spf_io::{MemSink, OutOfMemory};
 use spf_link::MemConnector;
 use spf_system::{MemClock, MemPause};

@@ -2,7 +2,7 @@
 
 use crate::runs::doubles::{arguments, sink};
 use crate::runs::live::{Wanted, is_so};
-use spf_agent::{Agent, FixedClock, Marks, Scene, is_set_soon};
+use spf_fixtures::{Agent, FixedClock, Marks, Scene, is_set_soon};
 use spf_io::{Failed, MemSink, OutOfMemory, Sink, Text};
 use spf_live::{HostConnector, watch_connector_on_threads};
 use spf_system::StepWords;

@@ -3,10 +3,10 @@
 ghost use Rattle.std.specs.Prelude.{◌≡◌};
 
 use crate::threads::on_thread::{AgentJob, OnThread, start_on_thread};
-use spf_agent::{
+use spf_feed::{NoPicker, Step};
+use spf_fixtures::{
     Agent, AgentConnector, FixedClock, HeldRecorder, Marks, Scene, ShortPause, TURNS, is_set_soon,
 };
-use spf_feed::{NoPicker, Step};
 use spf_io::{OutOfMemory, Text};
 use spf_system::StepWords;
 use spf_x509_board::{BoardPlaces, Pass};

@@ -3,8 +3,8 @@
 ghost use Rattle.std.specs.Prelude.{◌≡◌, IfOk};
 ghost use Rattle.spiffe.specs.Records.{task_of};
 
-use spf_agent::{AgentConnector, HeldRecorder, ShortPause};
 use spf_feed::NoPicker;
+use spf_fixtures::{AgentConnector, HeldRecorder, ShortPause};
 use spf_io::Failed;
 use spf_system::{Job, Joins, StepWords};
 use spiffe::{Task, X509Done, X509Job};

@@ -3,8 +3,8 @@
 ghost use Rattle.std.specs.Prelude.{◌≡◌};
 
 use crate::threads::live::is_within;
-use spf_agent::{Agent, AgentConnector, FixedClock, Scene, ShortPause};
 use spf_feed::{NoPicker, NoRecorder, X509SourceError};
+use spf_fixtures::{Agent, AgentConnector, FixedClock, Scene, ShortPause};
 use spf_io::{OutOfMemory, Text};
 use spf_link::EnvConnector;
 use spf_system::{EnvValue, InlineSpawner, MemEnvironment, Spawner, StdClock, StepWords};

@@ -29,17 +29,17 @@ use Rattle.spf_x509_board.specs.contracts.kind.X509Shows.TheImpl as shows
 use Rattle.spiffe.specs.contracts.publishing.BoardPublisher as BoardPublisher
 use Rattle.spiffe.specs.contracts.publishing.BoardPublisherFinishesX509X509SessionBoardPublisher.TheImpl as finishes
 use Rattle.spiffe.specs.contracts.publishing.BoardPublisherPublisher.TheImpl as publishes
-use Rattle.spf_agent.specs.contracts.doubles.HeldRecorder as HeldRecorder
-use Rattle.spf_agent.specs.contracts.doubles.HeldRecorderMetricsRecorder.TheImpl as records
+use Rattle.spf_fixtures.specs.contracts.doubles.HeldRecorder as HeldRecorder
+use Rattle.spf_fixtures.specs.contracts.doubles.HeldRecorderMetricsRecorder.TheImpl as records
 use Rattle.spf_feed.specs.contracts.picker.NoPicker as NoPicker
 use Rattle.spf_feed.specs.contracts.picker.NoPickerSvidPicker.TheImpl as picks
-use Rattle.spf_agent.specs.contracts.doubles.AgentConnector as AgentConnector
-use Rattle.spf_agent.specs.contracts.doubles.AgentConnectorConnector.TheImpl as connects
-use Rattle.spf_agent.specs.contracts.doubles.AgentLink as AgentLink
-use Rattle.spf_agent.specs.contracts.doubles.AgentLinkLink.TheImpl as links
-use Rattle.spf_agent.specs.contracts.doubles.ShortPause as ShortPause
-use Rattle.spf_agent.specs.contracts.doubles.ShortPausePause.TheImpl as pauses
-use Rattle.spf_agent.proofs.doubles.ShortPause.TheSendSync as pause
+use Rattle.spf_fixtures.specs.contracts.doubles.AgentConnector as AgentConnector
+use Rattle.spf_fixtures.specs.contracts.doubles.AgentConnectorConnector.TheImpl as connects
+use Rattle.spf_fixtures.specs.contracts.doubles.AgentLink as AgentLink
+use Rattle.spf_fixtures.specs.contracts.doubles.AgentLinkLink.TheImpl as links
+use Rattle.spf_fixtures.specs.contracts.doubles.ShortPause as ShortPause
+use Rattle.spf_fixtures.specs.contracts.doubles.ShortPausePause.TheImpl as pauses
+use Rattle.spf_fixtures.proofs.doubles.ShortPause.TheSendSync as pause
 use Rattle.spf_source_tests.proofs.Sent.{feeder_send}
 use Rattle.spf_feeder.proofs.Sending.{capture_send, job_send, row_of}
 use Rattle.spf_source_tests.proofs.threads.on_thread.start_on_thread.Goals as goal

@@ -3,8 +3,8 @@
 ghost use Rattle.std.specs.Prelude.{◌≡◌, IfOk};
 ghost use Rattle.spf_jwt_source.specs.Records.{task_of};
 
-use spf_agent::{AgentConnector, ShortPause};
 use spf_feed::NoRecorder;
+use spf_fixtures::{AgentConnector, ShortPause};
 use spf_io::Failed;
 use spf_jwt_source::{JwtDone, JwtJob, JwtTask};
 use spf_system::{Job, Joins, StepWords};

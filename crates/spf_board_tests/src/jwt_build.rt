@@ -2,7 +2,7 @@
 
 ghost use Rattle.std.specs.Prelude.{◌≡◌};
 
-use crate::links::{good, refusing};
+use crate::jwt_links::{good, refusing};
 use spf_api::GrpcStatusCode;
 use spf_io::OutOfMemory;
 use spf_jwt_board::{BoardPlaces, JwtPass, JwtPlaces, RefusingPlaces};

@@ -1,10 +1,9 @@
 //! Fetches of JWT-SVIDs by a live source, over a socket.
 
-use crate::threads::live::{connector_to, is_left, is_state};
-use crate::threads::on_thread::JwtAgentJob;
-use spf_agent::{Agent, AgentConnector, FixedClock, Scene, ShortPause};
+use crate::jwt_threads::live::{connector_to, is_left, is_state};
+use crate::jwt_threads::on_thread::JwtAgentJob;
 use spf_api::WorkloadApiError;
-use spf_fixtures::TOKEN1;
+use spf_fixtures::{Agent, AgentConnector, FixedClock, Scene, ShortPause, TOKEN1};
 use spf_io::Text;
 use spf_jwt_board::{BoardPlaces, JwtPass};
 use spf_jwt_client::JwtFetcher;

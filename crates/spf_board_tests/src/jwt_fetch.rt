@@ -1,7 +1,7 @@
 //! Fetches of a source before and after it is closed.
 
-use crate::links::{granting, refusing};
-use crate::source::opened;
+use crate::jwt_links::{granting, refusing};
+use crate::jwt_source::opened;
 use spf_api::{GrpcStatusCode, WorkloadApiError};
 use spf_fixtures::TOKEN1;
 use spf_io::{OutOfMemory, Text};

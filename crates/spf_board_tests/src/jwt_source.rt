@@ -4,7 +4,7 @@ ghost use Rattle.std.specs.Prelude.{◌≡◌, ◌≢◌, Some, [], IfOk};
 ghost use Rattle.spf_board.specs.Lists.{steps_of};
 ghost use Rattle.spf_jwt_feed.specs.Steps.{MayFollow};
 
-use crate::links::key_sets;
+use crate::jwt_links::key_sets;
 use spf_feed::Denial;
 use spf_id::TrustDomain;
 use spf_io::OutOfMemory;

@@ -15,15 +15,15 @@ use Rattle.spf_jwt_source.specs.contracts.session.JwtSession as JwtSession
 use Rattle.spf_jwt_source.specs.contracts.session.JwtSessionSession.TheImpl as sessions
 use Rattle.spf_jwt_source.specs.contracts.publishing.BoardPublisher as BoardPublisher
 use Rattle.spf_jwt_source.specs.contracts.publishing.BoardPublisherJwtPublisher.TheImpl as publishes
-use Rattle.spf_agent.specs.contracts.doubles.AgentConnector as AgentConnector
-use Rattle.spf_agent.specs.contracts.doubles.AgentConnectorConnector.TheImpl as connects
-use Rattle.spf_agent.specs.contracts.doubles.AgentLink as AgentLink
-use Rattle.spf_agent.specs.contracts.doubles.AgentLinkLink.TheImpl as links
+use Rattle.spf_fixtures.specs.contracts.doubles.AgentConnector as AgentConnector
+use Rattle.spf_fixtures.specs.contracts.doubles.AgentConnectorConnector.TheImpl as connects
+use Rattle.spf_fixtures.specs.contracts.doubles.AgentLink as AgentLink
+use Rattle.spf_fixtures.specs.contracts.doubles.AgentLinkLink.TheImpl as links
 use Rattle.spf_feed.proofs.record.NoRecorder.TheSendSync as recorder
 use Rattle.spf_jwt_source.proofs.session.JwtSession.TheSendSync as session
 use Rattle.spf_jwt_source.proofs.publishing.BoardPublisher.TheSendSync as board
-use Rattle.spf_agent.proofs.doubles.AgentConnector.TheSendSync as connector
-use Rattle.spf_agent.proofs.doubles.AgentLink.TheSendSync as link
+use Rattle.spf_fixtures.proofs.doubles.AgentConnector.TheSendSync as connector
+use Rattle.spf_fixtures.proofs.doubles.AgentLink.TheSendSync as link
 
 module _ (T : RattleType) (w : Ghosts T.Denot) (s : IsSend T) where
   board_send : IsSend (BoardPublisher.the_row T w)

@@ -32,16 +32,16 @@ use Rattle.spf_jwt_board.specs.contracts.shown.Shown as Shown
 use Rattle.spf_jwt_source.specs.contracts.publishing.BoardPublisher as BoardPublisher
 use Rattle.spf_jwt_source.specs.contracts.publishing.BoardPublisherFinishesJwtJwtSessionBoardPublisher.TheImpl as finishes
 use Rattle.spf_jwt_source.specs.contracts.publishing.BoardPublisherJwtPublisher.TheImpl as publishes
-use Rattle.spf_agent.specs.contracts.doubles.AgentConnector as AgentConnector
-use Rattle.spf_agent.specs.contracts.doubles.AgentConnectorConnector.TheImpl as connects
-use Rattle.spf_agent.specs.contracts.doubles.AgentLink as AgentLink
-use Rattle.spf_agent.specs.contracts.doubles.AgentLinkLink.TheImpl as links
-use Rattle.spf_agent.specs.contracts.doubles.ShortPause as ShortPause
-use Rattle.spf_agent.specs.contracts.doubles.ShortPausePause.TheImpl as pauses
-use Rattle.spf_agent.proofs.doubles.ShortPause.TheSendSync as pause
-use Rattle.spf_jwt_source_tests.proofs.Sent.{feeder_send}
+use Rattle.spf_fixtures.specs.contracts.doubles.AgentConnector as AgentConnector
+use Rattle.spf_fixtures.specs.contracts.doubles.AgentConnectorConnector.TheImpl as connects
+use Rattle.spf_fixtures.specs.contracts.doubles.AgentLink as AgentLink
+use Rattle.spf_fixtures.specs.contracts.doubles.AgentLinkLink.TheImpl as links
+use Rattle.spf_fixtures.specs.contracts.doubles.ShortPause as ShortPause
+use Rattle.spf_fixtures.specs.contracts.doubles.ShortPausePause.TheImpl as pauses
+use Rattle.spf_fixtures.proofs.doubles.ShortPause.TheSendSync as pause
+use Rattle.spf_board_tests.proofs.Sent.{feeder_send}
 use Rattle.spf_feeder.proofs.Sending.{capture_send, job_send, row_of}
-use Rattle.spf_jwt_source_tests.proofs.threads.on_thread.start_on_thread.Goals as goal
+use Rattle.spf_board_tests.proofs.jwt_threads.on_thread.start_on_thread.Goals as goal
 
 pub spawn_with-requires-send-F : goal.spawn_with-requires-send-F
 spawn_with-requires-send-F g c κs within =

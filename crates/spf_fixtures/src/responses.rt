@@ -1,7 +1,7 @@
 //! Responses that are built of the names of the fixtures.
 
+use crate::names::octets;
 use spf_api::{BundleEntry, ContextResponse, SvidEntry};
-use spf_fixtures::octets;
 use spf_io::{Bytes, List, Text};
 use std::alloc::Global;
 use std::test::Fail;

@@ -1,7 +1,7 @@
 //! An agent of the tests: a thread that answers on a Unix socket, one connection after another.
 
 use crate::marks::{Marks, TURNS};
-use spf_fixtures::octets;
+use crate::names::octets;
 use std::alloc::Global;
 use std::io::{Read, Write};
 use std::os::unix::net::{UnixListener, UnixStream};

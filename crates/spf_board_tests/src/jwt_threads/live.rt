@@ -2,8 +2,8 @@
 
 ghost use Rattle.std.specs.Prelude.{◌≡◌};
 
-use crate::threads::on_thread::{JwtAgentJob, JwtOnThread, start_on_thread};
-use spf_agent::{Agent, AgentConnector, FixedClock, Scene, ShortPause, TURNS};
+use crate::jwt_threads::on_thread::{JwtAgentJob, JwtOnThread, start_on_thread};
+use spf_fixtures::{Agent, AgentConnector, FixedClock, Scene, ShortPause, TURNS};
 use spf_io::{OutOfMemory, Text};
 use spf_jwt_board::{BoardPlaces, JwtPass};
 use spf_jwt_feed::JwtStep;
