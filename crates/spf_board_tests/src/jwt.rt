@@ -8,11 +8,11 @@ use spf_board::Places;
 use spf_feed::Denial;
 use spf_io::OutOfMemory;
 use spf_jwt::{JwtBundleSet, JwtResourceLimits, validate_jwt_limits};
-use spf_jwt_board::{
+use spf_jwt_feed::JwtStep;
+use spf_jwt_source::{
     BoardPlaces, Front, Jwt, JwtDesk, JwtEnded, JwtPass, JwtPlaces, PLACES, PlaceFault,
     RefusingPlaces, SharedStep, Usable, open, publish_on, settle,
 };
-use spf_jwt_feed::JwtStep;
 use std::alloc::Global;
 use std::snapshot::Snapshot;
 use std::sync::{Arc, Wait};

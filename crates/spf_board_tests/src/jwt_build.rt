@@ -5,9 +5,10 @@ ghost use Rattle.std.specs.Prelude.{◌≡◌};
 use crate::jwt_links::{good, refusing};
 use spf_api::GrpcStatusCode;
 use spf_io::OutOfMemory;
-use spf_jwt_board::{BoardPlaces, JwtPass, JwtPlaces, RefusingPlaces};
 use spf_jwt_feed::{JwtSourceError, NoRecorder};
-use spf_jwt_source::{JwtJob, JwtSource, JwtSourceBuilder};
+use spf_jwt_source::{
+    BoardPlaces, JwtJob, JwtPass, JwtPlaces, JwtSource, JwtSourceBuilder, RefusingPlaces,
+};
 use spf_link::MemConnector;
 use spf_system::{Clock, InlineSpawner, Pause, RefusingSpawner, Spawner, StepWords};
 use std::alloc::Global;

@@ -9,9 +9,11 @@ use spf_feed::Denial;
 use spf_id::TrustDomain;
 use spf_io::OutOfMemory;
 use spf_jwt::{JwtBundleSet, JwtResourceLimits, jwt_bundle_set_from, validate_jwt_limits};
-use spf_jwt_board::{BoardPlaces, JwtDesk, JwtPass, RefusingPlaces, SharedStep, open, publish_on};
 use spf_jwt_feed::{JwtSourceError, JwtStep};
-use spf_jwt_source::{JwtSource, JwtSourceUpdates};
+use spf_jwt_source::{
+    BoardPlaces, JwtDesk, JwtPass, JwtSource, JwtSourceUpdates, RefusingPlaces, SharedStep, open,
+    publish_on,
+};
 use spf_system::{Bell, StopFlag, closed_cell};
 use std::alloc::Global;
 use std::process::Abort;

@@ -8,7 +8,7 @@ use spf_board::Places;
 use spf_feed::{Denial, Prepared, ResourceLimits, Step, validate_limits};
 use spf_io::OutOfMemory;
 use spf_x509::{X509BundleSet, X509Context};
-use spf_x509_board::{
+use spiffe::{
     BoardPlaces, Desk, Ended, Front, PLACES, Pass, PlaceFault, RefusingPlaces, UsableAt, X509,
     open, publish_on, settle,
 };
@@ -161,7 +161,7 @@ fn has_place(places: &mut BoardPlaces, pass: &mut Pass) -> bool {
 }
 
 // Whether there is no place.
-fn is_refused<L: spf_x509_board::Places>(places: &mut L, pass: &mut Pass) -> bool {
+fn is_refused<L: spiffe::Places>(places: &mut L, pass: &mut Pass) -> bool {
     match places.take(pass) {
         Ok(other) => {
             drop(other);

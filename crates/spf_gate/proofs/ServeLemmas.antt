@@ -12,8 +12,8 @@ use mathlib.Core.List.{IsPrefix}
 use Rattle.spf_board.proofs.Prefixes.{begins_self, begins_trans}
 use Rattle.spf_io.specs.Rule.{◌>>=◌}
 use Rattle.spf_feed.specs.Steps.{StateView}
-use Rattle.spf_x509_board.specs.Passes.{PassView}
-use Rattle.spf_x509_board.specs.States.{IsStateOf}
+use Rattle.spiffe.specs.Passes.{PassView}
+use Rattle.spiffe.specs.States.{IsStateOf}
 use Rattle.spiffe.specs.Reads.{SeesNoLess}
 use Rattle.spf_gate.specs.declared.rule.Rule.{Rule}
 use Rattle.spf_gate.specs.declared.gate_error.GateError.{GateError}
@@ -23,7 +23,7 @@ use Rattle.spf_gate.specs.Lines.{lines_of, line_rule}
 use Rattle.spf_gate.specs.Policies.{ReadsPolicy, asks_rule, asks_before}
 use Rattle.spf_gate.specs.Reading.{Breaks, HasNoFeed, TakesLine, number_after}
 use Rattle.spf_gate.specs.Serving.{AnswersAsk, AreAnswers, AreAsks, AreRead, Serves}
-use Rattle.spf_x509_board.specs.Passes.{Seen}
+use Rattle.spiffe.specs.Passes.{Seen}
 use Rattle.spf_gate.specs.Serving.{ServesAsks, is_cut}
 
 -- one more ask is answered

@@ -5,8 +5,8 @@ use Rattle.std.specs.Io.KnownBytes.{Appends}
 use mathlib.Core.List.{IsPrefix}
 use Rattle.spf_io.specs.Outside.{Rose}
 use Rattle.spf_feed.specs.Steps.{StateView}
-use Rattle.spf_x509_board.specs.Passes.{Seen}
-use Rattle.spf_x509_board.specs.States.{IsStateOf}
+use Rattle.spiffe.specs.Passes.{Seen}
+use Rattle.spiffe.specs.States.{IsStateOf}
 use Rattle.spf_gate.specs.declared.rule.Rule.{Rule}
 use Rattle.spf_gate.specs.declared.gate_error.GateError.{GateError}
 use Rattle.spf_gate.specs.declared.gate_error.GateError.TheVariants as errors

@@ -14,8 +14,7 @@ use crate::line_reader::LineReader;
 use crate::policy::read_policy;
 use crate::rule::Rule;
 use spf_io::{Sink, Source};
-use spf_x509_board::Pass;
-use spiffe::X509Source;
+use spiffe::{Pass, X509Source};
 use std::alloc::Global;
 
 /// Reads the state, and writes the line that answers an ask.

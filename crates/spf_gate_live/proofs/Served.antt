@@ -17,7 +17,7 @@ use Rattle.spiffe.specs.Records.{Assigned, IsLeftBy, IsOf, IsRecord, Left, Recor
 use Rattle.spf_gate.specs.declared.gate_error.GateError.{GateError}
 use Rattle.spf_gate.specs.declared.gate_error.GateError.TheVariants as gate
 use Rattle.spf_gate.specs.Serving.{Serves, is_cut}
-use Rattle.spf_x509_board.specs.Passes.{Seen}
+use Rattle.spiffe.specs.Passes.{Seen}
 use Rattle.spf_gate_live.specs.Ends.{end_of}
 use Rattle.spf_gate_live.specs.Runs.{AnswersAll, IsRecordOf, Runs, max_lines}
 use Rattle.spf_gate_live.specs.declared.live_error.LiveGateError.{LiveGateError}

@@ -22,7 +22,7 @@ use Rattle.spiffe.specs.Records.{IsRecord, Recorded}
 use Rattle.spf_gate.specs.declared.gate_error.GateError.{GateError}
 use Rattle.spf_gate.specs.declared.gate_error.GateError.TheVariants as gate
 use Rattle.spf_gate.specs.Serving.{Serves, cuts}
-use Rattle.spf_x509_board.specs.Passes.{Seen}
+use Rattle.spiffe.specs.Passes.{Seen}
 use Rattle.spf_gate_live.specs.Ends.{end_status, error_line}
 use Rattle.spf_gate_live.specs.declared.live_error.LiveGateError.{LiveGateError}
 use Rattle.spf_gate_live.specs.declared.live_error.LiveGateError.TheVariants as errors

@@ -1,3 +1,5 @@
 pub mod Failing
 pub mod FeedLemmas
 pub mod RunLemmas
+mod Posting
+mod UsableLemmas

@@ -17,7 +17,7 @@ use Rattle.spf_feeder.specs.Opened.{HasDeadline, StopsOpening}
 use Rattle.spf_jwt.specs.Limits.{default_limits}
 use Rattle.spf_jwt_feed.specs.declared.state.JwtSourceError.{JwtSourceError}
 use Rattle.spf_jwt_feed.specs.declared.state.JwtSourceError.TheVariants as errors
-use Rattle.spf_jwt_board.specs.Passes.{PassView}
+use Rattle.spf_jwt_source.specs.Passes.{PassView}
 use Rattle.spf_jwt_source.specs.declared.rules.JwtRules.{JwtRules}
 use Rattle.spf_jwt_source.specs.Governed.{kind_of}
 use Rattle.spf_jwt_source.specs.Kinds.{jwt}

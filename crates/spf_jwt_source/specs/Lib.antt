@@ -12,3 +12,7 @@ pub mod Laws
 pub mod Orderly
 pub mod Pacing
 pub mod Taking
+pub mod BoardLaws
+pub mod Passes
+pub mod Steps
+pub mod States

@@ -18,9 +18,9 @@ use Rattle.spf_jwt_feed.specs.declared.state.JwtSourceError.{JwtSourceError}
 use Rattle.spf_jwt_feed.specs.declared.state.JwtSourceError.TheVariants as errors
 use Rattle.spf_jwt_feed.specs.States.{StateView}
 use Rattle.spf_jwt_feed.specs.Steps.{BundleSet, PlainStep}
-use Rattle.spf_jwt_board.specs.Passes.{PassView, read_of}
-use Rattle.spf_jwt_board.specs.Steps.{Legal, Replays, is_usable}
-use Rattle.spf_jwt_board.specs.States.{IsStateOf, showing}
+use Rattle.spf_jwt_source.specs.Passes.{PassView, read_of}
+use Rattle.spf_jwt_source.specs.Steps.{Legal, Replays, is_usable}
+use Rattle.spf_jwt_source.specs.States.{IsStateOf, showing}
 use Rattle.spf_jwt.specs.Token.{Svid}
 use Rattle.spf_link.specs.declared.connector.Connector as connectors
 use Rattle.spf_link.specs.declared.link.Link as links

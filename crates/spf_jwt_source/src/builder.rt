@@ -5,12 +5,13 @@ ghost use Rattle.spf_jwt_source.specs.Building.{BuildFails, IsAssigned, IsBuilt,
 ghost use Rattle.spf_jwt_source.specs.Building.{PrepareFails};
 
 use crate::handle::{JwtJob, JwtPendingHandle, JwtSupervisorHandle};
+use crate::kind::JwtPass;
 use crate::opening::{joined, synchronised};
+use crate::places::JwtPlaces;
 use crate::source::JwtSource;
 use rand_core::Rng;
 use spf_io::OutOfMemory;
 use spf_jwt::JwtResourceLimits;
-use spf_jwt_board::{JwtPass, JwtPlaces};
 use spf_jwt_feed::{JwtMetricsRecorder, JwtSourceError, NoRecorder};
 use spf_link::Connector;
 use spf_system::{Clock, Pause, ReconnectConfig, Spawner, open_cells};

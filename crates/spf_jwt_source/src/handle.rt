@@ -1,10 +1,10 @@
 //! The supervisor of a source: its job, its handle and its record.
 
+use crate::kind::Jwt;
 use crate::publishing::BoardPublisher;
 use crate::rules::JwtRules;
 use crate::session::JwtSession;
 use spf_feeder::{Supervised, SupervisorDone, SupervisorJob, Task};
-use spf_jwt_board::Jwt;
 
 /// What the thread of a supervisor does.
 pub type JwtJob<C, M, W, N, R> = SupervisorJob<C, Jwt, JwtSession<BoardPublisher<R>, M>, W, N, R>;

@@ -15,21 +15,25 @@ ghost use Rattle.spf_jwt_source.specs.Building.{IsBuilt, IsSetBy, SyncFails, ref
 ghost use Rattle.spf_jwt_source.specs.Building.{stopped_as};
 ghost use Rattle.spf_jwt_source.specs.Reads.{HasPlaceCause};
 
+use crate::board::open;
 use crate::builder::JwtSettings;
+use crate::desk::JwtDesk;
 use crate::handle::JwtJob;
+use crate::kind::{Jwt, JwtPass};
+use crate::places::JwtPlaces;
 use crate::publishing::BoardPublisher;
 use crate::rules::JwtRules;
 use crate::session::{JwtFeeder, JwtSession};
+use crate::shared_step::SharedStep;
 use crate::source::JwtSource;
 use rand_core::Rng;
 use spf_api::{EndpointError, WorkloadApiError};
-use spf_board::placed;
+use spf_board::{Front, placed};
 use spf_feed::Terminal;
 use spf_feeder::{
     Session, Stop, SupervisorJob, deadline_of, first_moment, make_ready, open_session,
 };
 use spf_io::OutOfMemory;
-use spf_jwt_board::{Front, Jwt, JwtDesk, JwtPass, JwtPlaces, SharedStep, open};
 use spf_jwt_feed::{JwtMetricsRecorder, JwtSourceError, JwtStep, MemJwtPublisher};
 use spf_link::Connector;
 use spf_system::{Bell, Cells, Clock, Closing, Pace, Pause, SourceCells, StopFlag};

@@ -5,10 +5,12 @@ ghost use Rattle.spf_board.specs.Lists.{steps_of};
 ghost use Rattle.spf_feed.specs.Records.{RecordAppends};
 ghost use Rattle.spf_jwt_feed.specs.Steps.{MayFollow, plain};
 
+use crate::desk::{JwtDesk, JwtEnded, publish_on};
+use crate::kind::{Jwt, JwtPass};
 use crate::session::JwtSession;
+use spf_board::{Front, settle};
 use spf_feeder::Finishes;
 use spf_io::OutOfMemory;
-use spf_jwt_board::{Front, Jwt, JwtDesk, JwtEnded, JwtPass, publish_on, settle};
 use spf_jwt_feed::{JwtMetricsRecorder, JwtPublisher, JwtStep};
 use spf_system::Bell;
 use std::marker::Model;

@@ -10,10 +10,11 @@ ghost use Rattle.spf_jwt_source.specs.Building.{IsBuilt, IsDefault};
 
 use crate::builder::JwtSourceBuilder;
 use crate::handle::{JwtJob, JwtSupervisorHandle};
+use crate::kind::JwtPass;
+use crate::places::JwtPlaces;
 use crate::source::JwtSource;
 use rand_core::Rng;
 use spf_io::OutOfMemory;
-use spf_jwt_board::{JwtPass, JwtPlaces};
 use spf_jwt_feed::{JwtMetricsRecorder, JwtSourceError, NoRecorder};
 use spf_link::{Connector, EndpointConnector, EnvConnector};
 use spf_system::{Clock, Environment, Pause, Spawner};

@@ -2,7 +2,7 @@
 use Rattle.std.proofs.Common.{◌≡◌, refl, ℕ, List, [], Option, Result, Ok, Err}
 use mathlib.Core.List.{IsPrefix}
 use Rattle.spf_live.specs.Printing.{FailsAfter, Moments, Prints, newest_list}
-use Rattle.spf_x509_board.specs.Passes.{Seen}
+use Rattle.spiffe.specs.Passes.{Seen}
 use Rattle.spf_live.specs.declared.error.LiveError.{LiveError}
 use Rattle.spf_live.specs.declared.error.LiveError.TheVariants as errors
 use Rattle.spf_live.proofs.Printed.{prefix_self, prefix_trans, printed_none, printed_nothing}

@@ -16,7 +16,7 @@ use Rattle.spf_feeder.proofs.Unyielded.{assigned_as}
 use Rattle.spf_program.specs.Live.{LiveSetting}
 use Rattle.spf_live.specs.Ends.{end_of}
 use Rattle.spf_live.specs.Printing.{Moments, PrintsTo}
-use Rattle.spf_x509_board.specs.Passes.{Seen}
+use Rattle.spiffe.specs.Passes.{Seen}
 use Rattle.spf_live.specs.Runs.{Follows, IsSetTo, Runs}
 use Rattle.spf_live.specs.declared.error.LiveError.{LiveError}
 use Rattle.spf_live.proofs.Followed.{prints_unrecorded, prints_until}

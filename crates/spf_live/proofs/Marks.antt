@@ -6,11 +6,11 @@ use Rattle.std.specs.Prelude.{◌≢◌}
 use Rattle.std.proofs.lemmas.Bool.{cases_lt}
 use mathlib.Core.List.{IsPrefix}
 use Rattle.spf_feed.specs.Steps.{StateView}
-use Rattle.spf_x509_board.specs.Passes.{PassView}
-use Rattle.spf_x509_board.specs.States.{IsStateOf}
+use Rattle.spiffe.specs.Passes.{PassView}
+use Rattle.spiffe.specs.States.{IsStateOf}
 use Rattle.spiffe.specs.Reads.{IsRevision, SeesNoLess}
 use Rattle.spf_live.specs.Printing.{IsNext, Line, Moments, PrintsLine}
-use Rattle.spf_x509_board.specs.Passes.{Seen}
+use Rattle.spiffe.specs.Passes.{Seen}
 use Rattle.spf_live.specs.declared.error.LiveError.{LiveError}
 use Rattle.spf_live.specs.declared.error.LiveError.TheVariants as errors
 use Rattle.spf_live.proofs.Printed.{prefix_self, prefix_trans}

@@ -10,10 +10,10 @@ use Rattle.std.specs.Prelude.{ℤ}
 use Rattle.spf_system.specs.Clock.{IsTime}
 use Rattle.spf_feed.specs.Shown.{view_line}
 use Rattle.spf_feed.specs.Steps.{StateView}
-use Rattle.spf_x509_board.specs.States.{IsStateOf}
+use Rattle.spiffe.specs.States.{IsStateOf}
 use Rattle.spf_live.specs.Printing.{AreLines, FailsAfter, IsAbove, IsNext, Line, Moments, Printed}
 use Rattle.spf_live.specs.Printing.{Prints, PrintsLine, line_text, newest_list, newest_revision}
-use Rattle.spf_x509_board.specs.Passes.{Seen}
+use Rattle.spiffe.specs.Passes.{Seen}
 use Rattle.spf_live.specs.Printing.{text_of}
 use Rattle.spf_live.specs.declared.error.LiveError.{LiveError}
 use Rattle.spf_live.specs.declared.error.LiveError.TheVariants as errors

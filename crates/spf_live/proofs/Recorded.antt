@@ -21,7 +21,7 @@ use Rattle.spiffe.specs.Building.{IsAssigned}
 use Rattle.spiffe.specs.Records.{Assigned, IsOf, IsRecord, Recorded}
 use Rattle.spf_program.specs.Live.{LiveSetting}
 use Rattle.spf_live.specs.Printing.{Moments}
-use Rattle.spf_x509_board.specs.Passes.{Seen}
+use Rattle.spiffe.specs.Passes.{Seen}
 use Rattle.spf_live.specs.Runs.{Follows, IsRecordOf, IsSetTo, Runs}
 use Rattle.spf_live.specs.declared.error.LiveError.{LiveError}
 

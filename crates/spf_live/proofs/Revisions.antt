@@ -14,8 +14,8 @@ use Rattle.spf_view.specs.Standing.{raised}
 use Rattle.spf_view.proofs.RevisionLemmas.{revision_more}
 use Rattle.spf_view.proofs.ViewLemmas.{last_first}
 use Rattle.spf_feed.specs.Steps.{StateView, same_material}
-use Rattle.spf_x509_board.specs.States.{IsStateOf}
-use Rattle.spf_x509_board.specs.Passes.{Seen}
+use Rattle.spiffe.specs.States.{IsStateOf}
+use Rattle.spiffe.specs.Passes.{Seen}
 
 same_or_raised : (b : Bool) (r : ℕ) → r ≤ 2 ^ 64 - 1 → r ≤ cond b r (raised r)
 same_or_raised true r l = omega arith

@@ -6,8 +6,8 @@ use mathlib.Core.List.{IsPrefix}
 use Rattle.spf_system.specs.Clock.{IsTime}
 use Rattle.spf_feed.specs.Shown.{view_line}
 use Rattle.spf_feed.specs.Steps.{StateView}
-use Rattle.spf_x509_board.specs.Passes.{Seen}
-use Rattle.spf_x509_board.specs.States.{IsStateOf}
+use Rattle.spiffe.specs.Passes.{Seen}
+use Rattle.spiffe.specs.States.{IsStateOf}
 use Rattle.spf_live.specs.declared.error.LiveError.{LiveError}
 use Rattle.spf_live.specs.declared.error.LiveError.TheVariants as errors
 

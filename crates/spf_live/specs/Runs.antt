@@ -22,7 +22,7 @@ use Rattle.spf_program.specs.Reports.{IsEndReported}
 use Rattle.spf_program.specs.Streams.{Side}
 use Rattle.spf_live.specs.Ends.{end_status, error_line}
 use Rattle.spf_live.specs.Printing.{Moments, Prints}
-use Rattle.spf_x509_board.specs.Passes.{Seen}
+use Rattle.spiffe.specs.Passes.{Seen}
 use Rattle.spf_live.specs.declared.error.LiveError.{LiveError}
 use Rattle.spf_live.specs.declared.error.LiveError.TheVariants as errors
 

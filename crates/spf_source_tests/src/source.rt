@@ -13,8 +13,9 @@ use spf_id::TrustDomain;
 use spf_io::OutOfMemory;
 use spf_system::{Bell, StopFlag, closed_cell};
 use spf_x509::X509Context;
-use spf_x509_board::{BoardPlaces, Desk, Pass, RefusingPlaces, open, publish_on};
-use spiffe::{X509Source, X509SourceUpdates};
+use spiffe::{
+    BoardPlaces, Desk, Pass, RefusingPlaces, X509Source, X509SourceUpdates, open, publish_on,
+};
 use std::alloc::Global;
 use std::process::Abort;
 use std::sync::{Arc, Wait};

@@ -10,7 +10,7 @@ use Rattle.spf_link.specs.Endpoint.{is_memory}
 use Rattle.spf_link.specs.Connecting.{Member}
 use Rattle.spf_system.specs.Bounds.{IsDefault as HasDefaultBounds}
 use Rattle.spf_x509.specs.Svid.{Svid}
-use Rattle.spf_x509_board.specs.Passes.{PassView}
+use Rattle.spiffe.specs.Passes.{PassView}
 use Rattle.spf_feed.specs.Limits.{default_limits}
 use Rattle.spf_feed.specs.declared.ready.Ready.TheVariants as readiness
 use Rattle.spf_feed.specs.declared.state.X509SourceError.{X509SourceError}

@@ -14,9 +14,9 @@ use Rattle.spf_io.specs.declared.memory.OutOfMemory.{OutOfMemory}
 use Rattle.spf_board.specs.Passes.{Renews}
 use Rattle.spf_system.specs.Marks.{mark_by}
 use Rattle.spf_system.specs.declared.maker.Maker.TheVariants as makers
-use Rattle.spf_x509_board.specs.Passes.{PassView, read_of}
-use Rattle.spf_x509_board.specs.Steps.{Legal, Replays, is_usable}
-use Rattle.spf_x509_board.specs.States.{IsStateOf, showing}
+use Rattle.spiffe.specs.Passes.{PassView, read_of}
+use Rattle.spiffe.specs.Steps.{Legal, Replays, is_usable}
+use Rattle.spiffe.specs.States.{IsStateOf, showing}
 use Rattle.spf_board.specs.Passing.{FollowsBy, IsHealthyBy}
 pub use Rattle.spf_board.specs.Passing.{IsClosedByCaller, LooksAt, SaysClosed, SeesNoLess}
 use Rattle.spf_board.specs.Showing.{HasPlaceCauseBy, IsRevisionBy}

@@ -1,7 +1,7 @@
 -- What updates have read.
 use Rattle.spf_board.specs.Passing.{ReadsFromBy}
-use Rattle.spf_x509_board.specs.Passes.{PassView, Seen}
-use Rattle.spf_x509_board.specs.Steps.{Legal}
+use Rattle.spiffe.specs.Passes.{PassView, Seen}
+use Rattle.spiffe.specs.Steps.{Legal}
 
 -- a pass that has read, once it had seen just this
 abbrev pub ReadsFrom : Seen → PassView → Type 0

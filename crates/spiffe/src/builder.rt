@@ -5,7 +5,9 @@ ghost use Rattle.std.specs.Option.{ForSome};
 ghost use Rattle.spiffe.specs.Building.{BuildFails, IsAssigned, IsBuilt, IsDefault, PrepareFails};
 
 use crate::handle::{PendingHandle, SupervisorHandle, X509Job};
+use crate::kind::Pass;
 use crate::opening::{joined, synchronised};
+use crate::places::Places;
 use crate::source::X509Source;
 use rand_core::Rng;
 use spf_feed::{
@@ -14,7 +16,6 @@ use spf_feed::{
 use spf_io::OutOfMemory;
 use spf_link::Connector;
 use spf_system::{Clock, Pause, ReconnectConfig, Spawner, open_cells};
-use spf_x509_board::{Pass, Places};
 use std::alloc::Global;
 use std::fmt;
 use std::mem::drop;

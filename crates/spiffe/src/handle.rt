@@ -1,8 +1,8 @@
 //! The supervisor of a source: its job, its handle and its record.
 
+use crate::kind::X509;
 use crate::publishing::BoardPublisher;
 use spf_feeder::{SupervisorDone, SupervisorJob, X509Rules, X509Session};
-use spf_x509_board::X509;
 
 /// What the thread of a supervisor does.
 pub type X509Job<C, K, M, W, N, R> = SupervisorJob<

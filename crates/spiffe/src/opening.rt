@@ -14,13 +14,17 @@ ghost use Rattle.spf_system.specs.declared.maker.Maker.TheVariants as makers;
 ghost use Rattle.spiffe.specs.Building.{IsBuilt, IsSetBy, SyncFails, refused_as, stopped_as};
 ghost use Rattle.spiffe.specs.Reads.{HasPlaceCause};
 
+use crate::board::open;
 use crate::builder::Settings;
+use crate::desk::Desk;
 use crate::handle::X509Job;
+use crate::kind::{Pass, X509};
+use crate::places::Places;
 use crate::publishing::BoardPublisher;
 use crate::source::X509Source;
 use rand_core::Rng;
 use spf_api::{EndpointError, WorkloadApiError};
-use spf_board::placed;
+use spf_board::{Front, placed};
 use spf_feed::{
     MemPublisher, MetricsRecorder, Prepared, SessionRules, Step, SvidPicker, Terminal,
     X509SourceError,
@@ -32,7 +36,6 @@ use spf_feeder::{
 use spf_io::OutOfMemory;
 use spf_link::Connector;
 use spf_system::{Bell, Cells, Clock, Closing, Pace, Pause, SourceCells, StopFlag};
-use spf_x509_board::{Desk, Front, Pass, Places, X509, open};
 use std::alloc::Global;
 use std::mem::drop;
 use std::sync::Wait;

@@ -5,11 +5,13 @@ ghost use Rattle.spf_board.specs.Lists.{steps_of};
 ghost use Rattle.spf_feed.specs.Records.{RecordAppends};
 ghost use Rattle.spf_feed.specs.Steps.{MayFollow, plain};
 
+use crate::desk::{Desk, Ended, publish_on};
+use crate::kind::{Pass, X509};
+use spf_board::{Front, settle};
 use spf_feed::{MetricsRecorder, Publisher, Step, SvidPicker};
 use spf_feeder::{Finishes, X509Session};
 use spf_io::OutOfMemory;
 use spf_system::Bell;
-use spf_x509_board::{Desk, Ended, Front, Pass, X509, publish_on, settle};
 use std::alloc::Global;
 use std::marker::Model;
 use std::sync::Wait;

@@ -9,13 +9,14 @@ ghost use Rattle.spiffe.specs.Building.{FailsByDefault, IsAssignedByDefault, IsB
 
 use crate::builder::X509SourceBuilder;
 use crate::handle::{SupervisorHandle, X509Job};
+use crate::kind::Pass;
+use crate::places::Places;
 use crate::source::X509Source;
 use rand_core::Rng;
 use spf_feed::{MetricsRecorder, NoPicker, NoRecorder, SvidPicker, X509SourceError};
 use spf_io::OutOfMemory;
 use spf_link::{Connector, EndpointConnector, EnvConnector};
 use spf_system::{Clock, Environment, Pause, Spawner};
-use spf_x509_board::{Pass, Places};
 use std::alloc::Global;
 use std::mem::drop;
 use std::net::{Net, TcpStream};

@@ -10,8 +10,7 @@ use spf_feed::{NoPicker, Prepared, ResourceLimits, Step, select_svid, validate_l
 use spf_io::OutOfMemory;
 use spf_system::{Bell, Closer, StopFlag, closed_cell};
 use spf_x509::X509Context;
-use spf_x509_board::{Desk, Front, Pass, X509, open};
-use spiffe::X509Source;
+use spiffe::{Desk, Front, Pass, X509, X509Source, open};
 use std::alloc::Global;
 use std::mem::drop;
 use std::sync::{Arc, Wait};

@@ -9,7 +9,7 @@ use spf_feed::{Denial, Step};
 use spf_io::OutOfMemory;
 use spf_system::StopFlag;
 use spf_x509::X509Context;
-use spf_x509_board::{Desk, publish_on};
+use spiffe::{Desk, publish_on};
 use std::alloc::Global;
 use std::mem::drop;
 use std::sync::{Arc, Wait};

@@ -5,9 +5,10 @@ ghost use Rattle.std.specs.Prelude.{◌≡◌};
 use crate::jwt_threads::on_thread::{JwtAgentJob, JwtOnThread, start_on_thread};
 use spf_fixtures::{Agent, AgentConnector, FixedClock, Scene, ShortPause, TURNS};
 use spf_io::{OutOfMemory, Text};
-use spf_jwt_board::{BoardPlaces, JwtPass};
 use spf_jwt_feed::JwtStep;
-use spf_jwt_source::{JwtSource, JwtSupervised, JwtSupervisorHandle, SupervisorEnd};
+use spf_jwt_source::{
+    BoardPlaces, JwtPass, JwtSource, JwtSupervised, JwtSupervisorHandle, SupervisorEnd,
+};
 use spf_system::StepWords;
 use std::process::Abort;
 use std::sync::Wait;

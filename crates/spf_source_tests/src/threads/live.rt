@@ -9,8 +9,7 @@ use spf_fixtures::{
 };
 use spf_io::{OutOfMemory, Text};
 use spf_system::StepWords;
-use spf_x509_board::{BoardPlaces, Pass};
-use spiffe::{Supervised, SupervisorEnd, SupervisorHandle, X509Source};
+use spiffe::{BoardPlaces, Pass, Supervised, SupervisorEnd, SupervisorHandle, X509Source};
 use std::io;
 use std::process::Abort;
 use std::sync::Wait;

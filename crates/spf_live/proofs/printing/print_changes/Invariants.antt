@@ -1,7 +1,7 @@
 use Rattle.std.proofs.Common.{◌≤◌, ℕ, List, Option, Some}
 use Rattle.spiffe.specs.Reads.{IsRevision, SeesNoLess}
 use Rattle.spf_live.specs.Printing.{Moments, Printed}
-use Rattle.spf_x509_board.specs.Passes.{Seen}
+use Rattle.spiffe.specs.Passes.{Seen}
 use Rattle.spf_live.proofs.printing.print_changes.Given as goal
 
 abbrev pub invariant-changes : goal.invariant-changes

@@ -1,2 +1,0 @@
-mod Publishing
-mod UsableLemmas

@@ -1,4 +1,0 @@
-pub mod Laws
-pub mod Passes
-pub mod Steps
-pub mod States

@@ -1,0 +1,33 @@
+//! Opening a board.
+
+ghost use Rattle.std.specs.Prelude.{◌≡◌, ◌∷◌, [], true, None, Some, IfOk};
+ghost use Rattle.spf_board.specs.declared.entry.Entry.TheVariants as entry;
+ghost use Rattle.spf_feed.specs.Steps.{MayFollow};
+ghost use Rattle.spiffe.specs.Steps.{Legal};
+
+use crate::desk::{Desk, DeskWriter};
+use crate::kind::{Pass, X509};
+use spf_board::open_board;
+use spf_feed::Prepared;
+use spf_io::OutOfMemory;
+use std::alloc::Global;
+use std::sync::Wait;
+
+/// Returns a board on which one step is published, and its first pass.
+pub fn open<R: Wait + Drop>(
+    alloc: Global,
+    rt: R,
+    step: Prepared,
+) -> Result<(Desk<R>, Pass), OutOfMemory>
+    requires { MayFollow (Some []) step }
+    ensures step { IfOk result (λ r. r.0.list ≡ entry.Step step ∷ []) }
+    ensures pass { IfOk result (λ r. (r.1.book ≡ r.0.book) × (r.1.seen ≡ r.0.list)
+        × (r.1.entered ≡ r.0.list) × (r.1.missed ≡ 0) × (r.1.closed ≡ None)) }
+{
+    let (writer, scribe, memory, mut readers) = open_board::<X509, R>(alloc, &rt, step)?;
+    let held = DeskWriter::new(writer, scribe, rt);
+    let Some(reader) = readers.pop() else {
+        return Err(OutOfMemory);
+    };
+    Ok((Desk::new(held), Pass::new(alloc, reader, memory, readers)))
+}
