@@ -1,8 +1,8 @@
 //! The board of a live source: one published snapshot with the history that it stands for, which
-//! only grows, the one writer that publishes steps, what its readers remember, and what each of them
-//! holds: its pass over the board, its place there, and the updates that it follows. It is the same
-//! for every kind of step and of source; a kind says what a snapshot is and what a step makes of it,
-//! and what the states and errors of a source are.
+//! only grows, the one writer that publishes steps, what its readers remember, and what each of
+//! them holds: its pass over the board, its place there, and the updates that it follows. It is the
+//! same for every kind of step and of source; a kind says what a snapshot is and what a step makes
+//! of it, and what the states and errors of a source are.
 #![tactic(auto)]
 
 mod closing;

@@ -43,7 +43,7 @@ appended E (Some before) None x h = absurd h
 appended E (Some before) (Some after) x h = h
 
 -- and so there is a step
-pub has_step : (old new : Option (List PlainStep)) (x : PlainStep) → Appended old new x → HasStep new
+pub has_step : {S : Type 0} (old new : Option (List S)) (x : S) → Appended old new x → HasStep new
 has_step None None x h = tt
 has_step None (Some after) x h = absurd h
 has_step (Some before) None x h = tt

@@ -1,5 +1,5 @@
 -- Steps without their sharing, and what they make visible.
-use Rattle.std.specs.Prelude.{◌≢◌, ℕ, Bool, true, false, ◌&&◌, nat_lt, IsTrue, List, [], length}
+use Rattle.std.specs.Prelude.{ℕ, Bool, true, ◌&&◌, nat_lt, List, length}
 use Rattle.std.specs.Prelude.{Option, None, Some, is_ok}
 use Rattle.std.specs.Option.{option_map_or}
 use Rattle.std.specs.Arc.{arc_value}
@@ -8,7 +8,8 @@ use Rattle.spf_feed.specs.declared.step.Denial.{Denial}
 use Rattle.spf_feed.specs.declared.step.Step.{Step}
 use Rattle.spf_feed.specs.declared.step.Step.TheVariants as step
 pub use Rattle.spf_view.specs.Views.{View, Waiting, Withdrawn, Permitted}
-pub use Rattle.spf_view.specs.Steps.{Step as PlainStepOf, Accept, Deny}
+pub use Rattle.spf_view.specs.Steps.{Step as PlainStepOf, Accept, Deny, is_accept, HasStep}
+use Rattle.spf_view.specs.Steps.{MayFollowBy}
 pub use Rattle.spf_view.specs.Standing.{Kept, held_in, reason_of, shown_by, raised}
 use Rattle.spf_feed.specs.Limits.{within}
 pub use Rattle.spf_feed.specs.Material.{Material, chosen_of, same_material}
@@ -21,10 +22,6 @@ abbrev pub plain : Step → PlainStep
 plain (step.Accept context limits choice) =
     Accept (record { context = arc_value context; choice = choice }) limits
 plain (step.Deny reason) = Deny (arc_value reason)
-
-abbrev pub is_accept : PlainStep → Bool
-is_accept (Accept material limits) = true
-is_accept (Deny reason) = false
 
 abbrev pub material_in : PlainStep → Option Material
 material_in (Accept material limits) = Some material
@@ -40,15 +37,9 @@ fits limits material =
     is_ok (within limits material.context)
     && option_map_or (λ index. nat_lt index (length material.context.svids)) material.choice true
 
--- the list is not empty, where it is known
-abbrev pub HasStep : Option (List PlainStep) → Type 0
-HasStep None = Unit {0}
-HasStep (Some steps) = steps ≢ []
-
 -- a step may come next: an Accept that fits, or a Deny after another step
 abbrev pub MayFollow : Option (List PlainStep) → PlainStep → Type 0
-MayFollow known (Accept material limits) = IsTrue (fits limits material)
-MayFollow known (Deny reason) = HasStep known
+MayFollow = MayFollowBy fits
 
 -- a revision and a view, with whether the source is closed
 pub record StateView : Type 0 where

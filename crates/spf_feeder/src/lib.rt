@@ -1,8 +1,8 @@
 //! The feeder of a live source: it asks a connector and its link, one ask a turn, and publishes the
 //! step of each event before it asks again. A feeder is of sessions of any kind; those of X.509
 //! identities stand here. Above it stands what the supervisors of sources share, whatever their
-//! kind: what comes before their initial synchronisation, their job and its task, their handle, what
-//! they leave, their record, and why they end.
+//! kind: what comes before their initial synchronisation, their job and its task, their handle,
+//! what they leave, their record, and why they end.
 #![tactic(auto)]
 
 mod ask;

@@ -1,6 +1,6 @@
-//! What tests share: certificates, keys, frames and tokens by name; responses built of them, and links
-//! that give these; an agent on a Unix socket, and what sources of the tests stand on, as types without
-//! parameters.
+//! What tests share: certificates, keys, frames and tokens by name; responses built of them, and
+//! links that give these; an agent on a Unix socket, and what sources of the tests stand on, as
+//! types without parameters.
 #![tactic(auto)]
 
 mod agent;

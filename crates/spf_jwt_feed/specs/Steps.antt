@@ -1,8 +1,8 @@
 -- Steps without their sharing, and what they make visible.
-use Rattle.std.specs.Prelude.{◌≢◌, ℕ, Bool, true, false, IsTrue, List, [], Option, None, Some}
-use Rattle.std.specs.Prelude.{is_ok}
+use Rattle.std.specs.Prelude.{ℕ, Bool, List, Option, is_ok}
 use Rattle.std.specs.Arc.{arc_value}
-use Rattle.spf_view.specs.Steps.{Step, Accept, Deny}
+use Rattle.spf_view.specs.Steps.{Step, Accept, Deny, MayFollowBy}
+pub use Rattle.spf_view.specs.Steps.{is_accept, HasStep}
 use Rattle.spf_jwt.specs.Bundle.{Bundle}
 use Rattle.spf_jwt.specs.Limits.{within}
 use Rattle.spf_jwt.specs.declared.limits.JwtResourceLimits.{JwtResourceLimits}
@@ -22,20 +22,10 @@ abbrev pub plain : JwtStep → PlainStep
 plain (step.Accept set limits) = Accept (arc_value set) limits
 plain (step.Deny reason) = Deny (arc_value reason)
 
-abbrev pub is_accept : PlainStep → Bool
-is_accept (Accept set limits) = true
-is_accept (Deny reason) = false
-
 -- the bundle set keeps the limits
 abbrev pub fits : JwtResourceLimits → BundleSet → Bool
 fits limits set = is_ok (within limits set)
 
--- the list is not empty, where it is known
-abbrev pub HasStep : Option (List PlainStep) → Type 0
-HasStep None = Unit {0}
-HasStep (Some steps) = steps ≢ []
-
 -- a step may come next: an Accept that fits, or a Deny after another step
 abbrev pub MayFollow : Option (List PlainStep) → PlainStep → Type 0
-MayFollow known (Accept set limits) = IsTrue (fits limits set)
-MayFollow known (Deny reason) = HasStep known
+MayFollow = MayFollowBy fits

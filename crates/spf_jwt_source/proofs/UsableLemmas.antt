@@ -1,17 +1,16 @@
 -- Whether a snapshot is usable, after a first step and after one more.
 use Rattle.std.proofs.Common.{◌≡◌, ℕ, Bool, true, false, not, cond, refl, sym, ap, ◌∙◌}
 use Rattle.spf_view.specs.Views.{View, Waiting, Withdrawn, Permitted}
-use Rattle.spf_view.specs.Standing.{Kept, kept_next, raised, shown_by}
+use Rattle.spf_view.specs.Standing.{Kept, kept_first, kept_next, raised, shown_by}
 use Rattle.spf_view.specs.Steps.{Accept, Deny}
 use Rattle.spf_feed.specs.declared.step.Denial.{Denial}
 use Rattle.spf_jwt.specs.Bundle.{set_eq}
 use Rattle.spf_jwt_feed.specs.Steps.{BundleSet, PlainStep}
 use Rattle.spf_jwt_feed.specs.States.{has_authority}
 use Rattle.spf_jwt_feed.proofs.ShownLemmas.{sets_same}
-use Rattle.spf_jwt_source.specs.BoardLaws.{first}
 use Rattle.spf_jwt_source.specs.Steps.{is_usable, usable_by}
 
-pub usable_first : (step : PlainStep) → usable_by step ≡ is_usable (first step)
+pub usable_first : (step : PlainStep) → usable_by step ≡ is_usable (kept_first step)
 usable_first (Accept m l) = refl
 usable_first (Deny d) = refl
 

@@ -1,46 +1,19 @@
 -- What a first step, and one more step, replay to.
-use Rattle.std.proofs.Common.{◌≡◌, Bool, true, false, cond, List, [], ◌∷◌, ◌++◌, IsTrue, refl}
-use Rattle.spf_view.specs.Standing.{Kept, IsShowing, is_change, shown_by, kept_next, raised}
-use Rattle.spf_view.specs.Steps.{Accept, Deny}
-use Rattle.spf_view.proofs.StandsLemmas.{stands_opening, stands_changed, stands_unchanged}
+use Rattle.std.proofs.Common.{List, [], ◌∷◌, ◌++◌, IsTrue}
+use Rattle.spf_view.proofs.Replaying as replaying
+use Rattle.spf_view.specs.Standing.{Kept, kept_first, kept_next}
 use Rattle.spf_feed.specs.declared.step.Denial.{Denial}
 use Rattle.spf_jwt.specs.Bundle.{set_eq}
 use Rattle.spf_jwt.specs.Laws.{set_equiv}
-use Rattle.spf_jwt_feed.specs.Steps.{PlainStep, BundleSet, is_accept}
+use Rattle.spf_jwt_feed.specs.Steps.{PlainStep, BundleSet, fits, is_accept}
 use Rattle.spf_jwt_source.specs.Steps.{Legal, Replays}
 
-abbrev pub first : PlainStep → Kept BundleSet Denial
-first step = record { revision = 0; view = shown_by step }
-
 pub first_accepts : (step : PlainStep) → Legal (step ∷ []) → IsTrue (is_accept step)
-first_accepts (Accept m l) legal = refl
-first_accepts (Deny d) legal = absurd legal.begins
+first_accepts = replaying.first_accepts fits
 
-pub replays_first : (step : PlainStep) → Legal (step ∷ []) → Replays (step ∷ []) (first step)
-replays_first (Accept m l) legal =
-    record { stands = stands_opening set_eq m l; showing = tt }
-replays_first (Deny d) legal = absurd legal.begins
-
-shows_step : (step : PlainStep) → IsShowing (shown_by step)
-shows_step (Accept m l) = tt
-shows_step (Deny d) = tt
-
-more : (b : Bool) (steps : List PlainStep) (kept : Kept BundleSet Denial) (step : PlainStep)
-    → is_change set_eq kept.view step ≡ b → Replays steps kept
-    → Replays (steps ++ step ∷ [])
-    (cond b (record { revision = raised kept.revision; view = shown_by step }) kept)
-more true steps kept step is replays = record {
-  stands = stands_changed set_eq set_equiv steps kept step replays.showing
-      replays.stands is;
-  showing = shows_step step;
-}
-more false steps kept step is replays = record {
-  stands = stands_unchanged set_eq set_equiv steps kept step replays.showing
-      replays.stands is;
-  showing = replays.showing;
-}
+pub replays_first : (step : PlainStep) → Legal (step ∷ []) → Replays (step ∷ []) (kept_first step)
+replays_first = replaying.replays_first set_eq fits
 
 pub replays_after : (steps : List PlainStep) (kept : Kept BundleSet Denial) (step : PlainStep)
     → Replays steps kept → Replays (steps ++ step ∷ []) (kept_next set_eq kept step)
-replays_after steps kept step replays =
-    more (is_change set_eq kept.view step) steps kept step refl replays
+replays_after = replaying.replays_after set_eq set_equiv

@@ -1,7 +1,7 @@
 -- Board lists of JWT steps, and what they replay to.
 use Rattle.std.specs.Prelude.{Bool, false, List}
 use Rattle.std.specs.Option.{option_map_or}
-use Rattle.spf_view.specs.Standing.{Kept, Stands, IsShowing, held_in}
+use Rattle.spf_view.specs.Standing.{Kept, ReplaysTo, held_in}
 use Rattle.spf_view.specs.Steps.{IsLegal, Accept, Deny}
 use Rattle.spf_feed.specs.declared.step.Denial.{Denial}
 use Rattle.spf_jwt.specs.Bundle.{set_eq}
@@ -13,9 +13,8 @@ abbrev pub Legal : List PlainStep → Type 0
 Legal = IsLegal fits
 
 -- the steps replay to what is kept, which shows something
-pub record Replays (steps : List PlainStep) (kept : Kept BundleSet Denial) : Type 0 where
-  pub stands : Stands set_eq steps kept
-  pub showing : IsShowing kept.view
+abbrev pub Replays : List PlainStep → Kept BundleSet Denial → Type 0
+Replays = ReplaysTo set_eq
 
 -- a bundle set is held, and the bundle of some trust domain has a key
 abbrev pub is_usable : Kept BundleSet Denial → Bool

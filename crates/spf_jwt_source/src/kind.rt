@@ -22,12 +22,12 @@ impl Kind for Jwt {
 impl Replay for Jwt {
     type Snapshot = Shown;
 
-    ghost use Rattle.spf_view.specs.Standing.{kept_next};
+    ghost use Rattle.spf_view.specs.Standing.{kept_first, kept_next};
     ghost use Rattle.spf_jwt.specs.Bundle.{set_eq};
     ghost use Rattle.spf_jwt_source.specs.Steps.{Replays};
     ghost use Rattle.spf_jwt_source.specs.BoardLaws as laws;
 
-    ghost first = { laws.first };
+    ghost first = { kept_first };
 
     ghost after = { kept_next set_eq };
 

@@ -1,6 +1,6 @@
-//! Live sources of JWT bundles: handles, their reads and fetches, the updates of one reader, builders,
-//! and the supervisor with its record; the sessions of JWT bundles that it feeds, with their rules;
-//! and the board on which it publishes, which up to 64 passes read without a lock.
+//! Live sources of JWT bundles: handles, their reads and fetches, the updates of one reader,
+//! builders, and the supervisor with its record; the sessions of JWT bundles that it feeds, with
+//! their rules; and the board on which it publishes, which up to 64 passes read without a lock.
 #![tactic(auto)]
 
 mod board;

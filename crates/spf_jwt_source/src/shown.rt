@@ -1,11 +1,10 @@
 //! The snapshot of a board.
 
 ghost use Rattle.std.specs.Prelude.{◌≡◌, IsTrue, IfOk};
-ghost use Rattle.spf_view.specs.Standing.{kept_next};
+ghost use Rattle.spf_view.specs.Standing.{kept_first, kept_next};
 ghost use Rattle.spf_jwt.specs.Bundle.{set_eq};
 ghost use Rattle.spf_jwt_feed.specs.Steps.{is_accept};
 ghost use Rattle.spf_jwt_feed.specs.States as states;
-ghost use Rattle.spf_jwt_source.specs.BoardLaws.{first};
 ghost use Rattle.spf_jwt_source.specs.Steps.{is_usable, usable_by};
 
 use crate::shared_step::SharedStep;
@@ -62,7 +61,7 @@ impl Shown {
     /// The snapshot of a first accepted bundle set.
     pub(crate) fn opening(step: SharedStep) -> Shown
         requires { IsTrue (is_accept step) }
-        ensures { result ≡ first step }
+        ensures { result ≡ kept_first step }
     {
         let usable = makes_usable(&step);
         Shown {

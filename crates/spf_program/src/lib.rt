@@ -1,5 +1,6 @@
-//! What the programs of this workspace share: their arguments, numbers among them; options, pairs of
-//! a name and a value, each name at most once; and the exit statuses and lines of their failures.
+//! What the programs of this workspace share: their arguments, numbers among them; options, pairs
+//! of a name and a value, each name at most once; and the exit statuses and lines of their
+//! failures.
 #![tactic(auto)]
 
 mod arguments;

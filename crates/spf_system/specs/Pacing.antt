@@ -6,8 +6,8 @@ use Rattle.std.specs.Prelude.{Some}
 use Rattle.std.specs.Duration.{as_nanos}
 use Rattle.spf_system.specs.declared.pace.Pace.{Pace}
 use Rattle.spf_system.specs.declared.pacer.AttemptEnd.{AttemptEnd}
-use Rattle.spf_system.specs.Delays.{PaceStep, Synchronised, Ended, StandsAfter, delays_of, does_grow}
-use Rattle.spf_system.specs.Delays.{is_synchronised}
+use Rattle.spf_system.specs.Delays.{PaceStep, Synchronised, Ended, StandsAfter, delays_of}
+use Rattle.spf_system.specs.Delays.{does_grow, is_synchronised}
 
 -- where no word is left it counts as 0
 abbrev pub newest_word : List ℕ → ℕ

@@ -1,9 +1,9 @@
 //! What a live source asks of its system besides input and output: the clock, pauses, the
-//! environment, and a flag that ends waits, each with a double in memory, which contracts see whole,
-//! and an adapter over std. Beside them: how long it pauses between attempts, and how often it has
-//! met the same error; a cell that is closed once, by a caller or by the supervisor, and the bell
-//! that is rung at each change of a source; jobs, what starts and joins them, and plain random words
-//! for their pauses.
+//! environment, and a flag that ends waits, each with a double in memory, which contracts see
+//! whole, and an adapter over std. Beside them: how long it pauses between attempts, and how often
+//! it has met the same error; a cell that is closed once, by a caller or by the supervisor, and the
+//! bell that is rung at each change of a source; jobs, what starts and joins them, and plain random
+//! words for their pauses.
 #![tactic(auto)]
 
 mod backoff;

@@ -13,3 +13,4 @@ pub mod FollowLemmas
 mod ExistsLemmas
 mod Rows
 pub mod KeepingLemmas
+pub mod Replaying

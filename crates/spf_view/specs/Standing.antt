@@ -16,6 +16,12 @@ held_in Waiting = None
 held_in (Withdrawn d) = None
 held_in (Permitted m) = Some m
 
+-- the view is not waiting
+abbrev pub IsShowing : {M D : Type 0} → View M D → Type 0
+IsShowing Waiting = ⊥
+IsShowing (Withdrawn d) = Unit {0}
+IsShowing (Permitted m) = Unit {0}
+
 -- The revision, the held material and the reason of a withdrawal
 -- are those that a list of steps makes. (The view of the last step
 -- may have other material than the held one; the two are the same.)
@@ -40,6 +46,12 @@ abbrev pub StandsIf : {M L D : Type 0} → (M → M → Bool) → List (Step M L
 StandsIf E steps None = steps ≡ []
 StandsIf E steps (Some kept) = Stands E steps kept
 
+-- the steps replay to what is kept, which shows something
+pub record ReplaysTo {M L D : Type 0} (E : M → M → Bool) (steps : List (Step M L D))
+    (kept : Kept M D) : Type 0 where
+  pub stands : Stands E steps kept
+  pub showing : IsShowing kept.view
+
 -- whether one more step makes a change
 abbrev pub is_change : {M L D : Type 0} → (M → M → Bool) → View M D → Step M L D → Bool
 is_change E (Permitted h) (Accept m l) = not (E h m)
@@ -52,15 +64,13 @@ abbrev pub shown_by : {M L D : Type 0} → Step M L D → View M D
 shown_by (Accept m l) = Permitted m
 shown_by (Deny d) = Withdrawn d
 
--- the view is not waiting
-abbrev pub IsShowing : {M D : Type 0} → View M D → Type 0
-IsShowing Waiting = ⊥
-IsShowing (Withdrawn d) = Unit {0}
-IsShowing (Permitted m) = Unit {0}
-
 -- a revision, raised as far as its type goes
 abbrev pub raised : ℕ → ℕ
 raised r = min (r + 1) (2 ^ 64 - 1)
+
+-- what is kept after the first step
+abbrev pub kept_first : {M L D : Type 0} → Step M L D → Kept M D
+kept_first s = record { revision = 0; view = shown_by s }
 
 -- What is kept after one more step: where nothing changes
 -- it stays, and so unchanged material keeps the older one.

@@ -1,7 +1,7 @@
 -- The steps that a session publishes, and what a list
 -- of steps makes visible. The oldest step is the first.
-use Rattle.std.specs.Prelude.{ℕ, ℤ, Bool, true, false, ◌&&◌, IsTrue, if◌then◌else◌, List, [], ◌∷◌}
-use Rattle.std.specs.Prelude.{map, reverse, Option, None, Some}
+use Rattle.std.specs.Prelude.{◌≢◌, ℕ, ℤ, Bool, true, false, ◌&&◌, IsTrue, if◌then◌else◌, List, []}
+use Rattle.std.specs.Prelude.{◌∷◌, map, reverse, Option, None, Some}
 use Rattle.std.specs.List.{AllByRecursion}
 use Rattle.spf_view.specs.Views.{Subject, Outcome, Accepted, Denied, Passed, View, outcomes}
 use Rattle.spf_view.specs.Views.{outcome_with, view_of, revision_of}
@@ -10,6 +10,21 @@ use Rattle.spf_view.specs.Views.{outcome_with, view_of, revision_of}
 pub data Step (M L D : Type 0) : Type 0 where
   Accept : M → L → Step M L D
   Deny : D → Step M L D
+
+abbrev pub is_accept : {M L D : Type 0} → Step M L D → Bool
+is_accept (Accept m l) = true
+is_accept (Deny d) = false
+
+-- the list is not empty, where it is known
+abbrev pub HasStep : {S : Type 0} → Option (List S) → Type 0
+HasStep None = Unit {0}
+HasStep (Some steps) = steps ≢ []
+
+-- a step may come next: an Accept that fits, or a Deny after another step
+abbrev pub MayFollowBy : {M L D : Type 0} → (L → M → Bool) → Option (List (Step M L D))
+    → Step M L D → Type 0
+MayFollowBy fits known (Accept m l) = IsTrue (fits l m)
+MayFollowBy fits known (Deny d) = HasStep known
 
 -- the step of an outcome
 abbrev pub step_in : {M L D : Type 0} → L → Outcome M D → Option (Step M L D)

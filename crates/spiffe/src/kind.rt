@@ -20,12 +20,12 @@ impl Kind for X509 {
 impl Replay for X509 {
     type Snapshot = Snapshot;
 
-    ghost use Rattle.spf_view.specs.Standing.{kept_next};
+    ghost use Rattle.spf_view.specs.Standing.{kept_first, kept_next};
     ghost use Rattle.spf_feed.specs.Steps.{same_material};
     ghost use Rattle.spiffe.specs.Steps.{Replays};
     ghost use Rattle.spiffe.specs.Laws as laws;
 
-    ghost first = { laws.first };
+    ghost first = { kept_first };
 
     ghost after = { kept_next same_material };
 

@@ -1,5 +1,5 @@
-//! Live sources of SPIFFE identities: one supervisor publishes on the board of a source, and up to 64
-//! passes read what its steps replay to, without a lock.
+//! Live sources of SPIFFE identities: one supervisor publishes on the board of a source, and up to
+//! 64 passes read what its steps replay to, without a lock.
 #![tactic(auto)]
 
 mod board;

@@ -1,19 +1,11 @@
-use Rattle.std.proofs.Common.{◌∷◌, List, [], Option, None, Some, Ok, Err, true, subst, sym}
+use Rattle.std.proofs.Common.{◌∷◌, [], Ok, Err, true, subst, sym}
 use Rattle.std.proofs.lemmas.Result.{IfOk-from_err}
 use Rattle.spf_view.specs.Sessions.{Grows, GrowsUpTo}
 use Rattle.spf_feed.specs.Records.{Appended}
 use Rattle.spf_feed.proofs.HandLemmas.{one_more, stopped_there, appended, appends_none}
-use Rattle.spf_feed.proofs.HandLemmas.{refused_same}
-use Rattle.spf_jwt_feed.specs.Steps.{PlainStep, HasStep, MayFollow}
+use Rattle.spf_feed.proofs.HandLemmas.{refused_same, has_step}
+use Rattle.spf_jwt_feed.specs.Steps.{PlainStep, MayFollow}
 use Rattle.spf_jwt_feed.proofs.following.publish.Goals as goal
-
--- after one more there is a step
-has_step : (old new : Option (List PlainStep)) (x : PlainStep) → Appended old new x → HasStep new
-has_step None None x h = tt
-has_step None (Some after) x h = absurd h
-has_step (Some before) None x h = tt
-has_step (Some []) (Some after) x h = λ e. absurd cc
-has_step (Some (first ∷ before)) (Some after) x h = λ e. absurd cc
 
 pub returns-in_err-publish-clause-steps : goal.returns-in_err-publish-clause-steps
 returns-in_err-publish-clause-steps g c =
