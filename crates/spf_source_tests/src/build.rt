@@ -1,12 +1,12 @@
 //! Sources that are built over doubles: what a build gives, by the answers of its links.
 
 use crate::building::{Builder, built};
+use crate::either::{EitherPlaces, EitherSpawner};
 use spf_api::{ClientFault, GrpcStatusCode};
 use spf_fixtures::{good_link, refusing_link};
 use spf_io::Text;
 use spf_link::{MemConnector, MemLink};
-use spf_system::{InlineSpawner, RefusingSpawner};
-use spiffe::{BoardPlaces, RefusingPlaces, X509Source};
+use spiffe::X509Source;
 use std::alloc::Global;
 use std::test::Fail;
 use std::time::Duration;
@@ -54,8 +54,8 @@ fn build_causes(rt: HostRuntime) -> Result<(), Fail> {
             rt,
             alloc,
             builder,
-            &mut InlineSpawner,
-            &mut BoardPlaces::new(),
+            &mut EitherSpawner::inline(),
+            &mut EitherPlaces::giving(),
         );
         assert!(rt; found == (wanted, nanos), "{word}");
     }
@@ -71,8 +71,8 @@ fn refused_builds(rt: HostRuntime) -> Result<(), Fail> {
         rt,
         alloc,
         unplaced,
-        &mut InlineSpawner,
-        &mut RefusingPlaces::new(),
+        &mut EitherSpawner::inline(),
+        &mut EitherPlaces::refusing(),
     );
     assert!(rt; found.0 == "no place");
     let unsupervised = builder(alloc, "good")?;
@@ -80,8 +80,8 @@ fn refused_builds(rt: HostRuntime) -> Result<(), Fail> {
         rt,
         alloc,
         unsupervised,
-        &mut RefusingSpawner::new(),
-        &mut BoardPlaces::new(),
+        &mut EitherSpawner::refusing(),
+        &mut EitherPlaces::giving(),
     );
     assert!(rt; found.0 == "no supervisor");
     let nowhere = builder(alloc, "good")?.endpoint(&rt, alloc, "foo")?;
@@ -89,8 +89,8 @@ fn refused_builds(rt: HostRuntime) -> Result<(), Fail> {
         rt,
         alloc,
         nowhere,
-        &mut InlineSpawner,
-        &mut BoardPlaces::new(),
+        &mut EitherSpawner::inline(),
+        &mut EitherPlaces::giving(),
     );
     assert!(rt; found.0 == "no endpoint");
     Ok(())

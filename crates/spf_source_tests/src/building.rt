@@ -2,12 +2,13 @@
 
 ghost use Rattle.std.specs.Prelude.{◌≡◌};
 
+use crate::either::{EitherPlaces, EitherSpawner};
 use spf_api::{EndpointError, WorkloadApiError};
 use spf_feed::{NoPicker, NoRecorder, X509SourceError};
 use spf_io::OutOfMemory;
 use spf_link::Connector;
-use spf_system::{Clock, Pause, Spawner, StepWords};
-use spiffe::{Pass, Places, X509Job, X509Source, X509SourceBuilder};
+use spf_system::{Clock, Pause, StepWords};
+use spiffe::{Pass, X509Source, X509SourceBuilder};
 use std::alloc::Global;
 use std::process::Abort;
 use std::sync::atomic::{AtomicU64, Ordering};
@@ -16,9 +17,6 @@ use std::time::Duration;
 
 /// A builder over a connector of that kind, on which nothing is set but plain values.
 pub type Builder<C> = X509SourceBuilder<NoPicker, C, NoRecorder>;
-
-/// The job of such a source.
-pub type BuiltJob<C, R> = X509Job<C, NoPicker, NoRecorder, SummedPause, StepWords, R>;
 
 /// A clock that always gives 999.
 #[derive(Drop)]
@@ -82,20 +80,17 @@ fn is_first(source: &X509Source, pass: &mut Pass) -> bool
 }
 
 /// Returns what a build gives, at the fixed moment, and the nanoseconds of the pauses before it.
-pub fn built<R, C, S, L>(
+pub fn built<R, C>(
     rt: R,
     alloc: Global,
     builder: Builder<C>,
-    spawner: &mut S,
-    places: &mut L,
+    spawner: &mut EitherSpawner,
+    places: &mut EitherPlaces,
 ) -> (&'static str, u64)
 where
     R: Wait + Abort + Copy + Drop,
     C: Connector + Drop,
     C::Link: Drop,
-    S: Spawner<BuiltJob<C, R>>,
-    S::Handle: Drop,
-    L: Places,
 {
     let nanos = Arc::new(alloc, AtomicU64::new(0)).expect(&rt, "memory");
     let pause = SummedPause {

@@ -6,6 +6,8 @@ mod build;
 #[cfg(test)]
 mod building;
 #[cfg(test)]
+mod either;
+#[cfg(test)]
 mod gate;
 #[cfg(test)]
 mod gate_late;

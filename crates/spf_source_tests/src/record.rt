@@ -1,11 +1,11 @@
 //! The record of a supervisor that runs where it is joined.
 
-use crate::building::{BuiltJob, FixedClock, SummedPause};
+use crate::building::{FixedClock, SummedPause};
 use spf_feed::{NoPicker, Step};
 use spf_fixtures::{connector, good_link};
 use spf_io::OutOfMemory;
 use spf_link::MemConnector;
-use spf_system::{InlineSpawner, Spawner, StepWords};
+use spf_system::{InlineSpawner, StepWords};
 use spiffe::{BoardPlaces, Supervised, SupervisorEnd, X509Source};
 use std::alloc::Global;
 use std::process::Abort;
@@ -24,12 +24,11 @@ fn is_opening(record: &Supervised<NoPicker>) -> bool {
 }
 
 /// Whether a source of this connector leaves such a record, whose supervisor this closes and joins.
-fn is_recorded<R, S>(rt: R, alloc: Global, connector: MemConnector, spawner: &mut S) -> bool
-where
-    R: Wait + Abort + Copy + Drop,
-    S: Spawner<BuiltJob<MemConnector, R>>,
-    S::Handle: Drop,
-{
+fn is_recorded<R: Wait + Abort + Copy + Drop>(
+    rt: R,
+    alloc: Global,
+    connector: MemConnector,
+) -> bool {
     let nanos = Arc::new(alloc, AtomicU64::new(0)).expect(&rt, "memory");
     let built = X509Source::builder(connector).build(
         rt,
@@ -37,7 +36,7 @@ where
         &mut FixedClock,
         SummedPause { nanos },
         StepWords::new(0),
-        spawner,
+        &mut InlineSpawner,
         &mut BoardPlaces::new(),
     );
     let (source, mut pass, handle) = built.expect(&rt, "a source");
@@ -58,6 +57,6 @@ where
 #[test]
 fn inline_record(rt: HostRuntime) -> Result<(), Fail> {
     let connector = connector(rt.alloc(), good_link(rt.alloc())?)?;
-    assert!(rt; is_recorded(rt, rt.alloc(), connector, &mut InlineSpawner));
+    assert!(rt; is_recorded(rt, rt.alloc(), connector));
     Ok(())
 }

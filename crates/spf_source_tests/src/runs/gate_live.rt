@@ -1,13 +1,11 @@
 //! Asks that are answered from a source of their own.
 
+use crate::either::{EitherPlaces, EitherSpawner};
 use crate::runs::doubles::{arguments, clock, connector_of, pause, sink};
 use spf_api::GrpcStatusCode;
-use spf_feed::{NoPicker, NoRecorder};
 use spf_gate_live::gate_live;
 use spf_io::{MemSink, MemSource};
-use spf_link::MemConnector;
-use spf_system::{InlineSpawner, MemPause, RefusingSpawner, Spawner, StepWords};
-use spiffe::{BoardPlaces, Places, RefusingPlaces, X509Job};
+use spf_system::StepWords;
 use std::mem::drop;
 use std::process::Abort;
 use std::sync::Wait;
@@ -38,13 +36,12 @@ fn is_end(case: Case, status: u8, out: &MemSink, errors: &MemSink) -> bool {
 }
 
 /// Whether the run ends like this.
-fn ends<R, S, L>(rt: R, case: Case, spawner: &mut S, places: &mut L) -> Result<bool, Fail>
-where
-    R: Abort + AllocGlobal + Wait + Copy + Drop,
-    S: Spawner<X509Job<MemConnector, NoPicker, NoRecorder, MemPause, StepWords, R>>,
-    S::Handle: Drop,
-    L: Places,
-{
+fn ends<R: Abort + AllocGlobal + Wait + Copy + Drop>(
+    rt: R,
+    case: Case,
+    spawner: &mut EitherSpawner,
+    places: &mut EitherPlaces,
+) -> Result<bool, Fail> {
     let connector = connector_of(rt.alloc(), case.refusal)?;
     let arguments = arguments(rt.alloc(), case.arguments).expect(&rt, "memory");
     let mut clock = clock(&rt);
@@ -135,7 +132,12 @@ fn ends_inline<R: Abort + AllocGlobal + Wait + Copy + Drop>(
     rt: R,
     case: Case,
 ) -> Result<bool, Fail> {
-    ends(rt, case, &mut InlineSpawner, &mut BoardPlaces::new())
+    ends(
+        rt,
+        case,
+        &mut EitherSpawner::inline(),
+        &mut EitherPlaces::giving(),
+    )
 }
 
 #[test]
@@ -150,9 +152,9 @@ fn live_runs(rt: HostRuntime) -> Result<(), Fail> {
 fn live_runs_without_a_source(rt: HostRuntime) -> Result<(), Fail> {
     assert!(rt; ends_inline(rt, REJECTED)?);
     assert!(rt; ends_inline(rt, UNSUPPORTED)?);
-    let places = &mut BoardPlaces::new();
-    assert!(rt; ends(rt, NO_SUPERVISOR, &mut RefusingSpawner::new(), places)?);
-    let places = &mut RefusingPlaces::new();
-    assert!(rt; ends(rt, NO_PLACE, &mut InlineSpawner, places)?);
+    let spawner = &mut EitherSpawner::refusing();
+    assert!(rt; ends(rt, NO_SUPERVISOR, spawner, &mut EitherPlaces::giving())?);
+    let spawner = &mut EitherSpawner::inline();
+    assert!(rt; ends(rt, NO_PLACE, spawner, &mut EitherPlaces::refusing())?);
     Ok(())
 }

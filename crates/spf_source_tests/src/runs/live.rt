@@ -1,14 +1,12 @@
 //! Live runs over in-memory links: their lines and their statuses.
 
+use crate::either::{EitherPlaces, EitherSpawner};
 use crate::runs::doubles::{arguments, clock, connector_of, pause, sink};
 use spf_api::GrpcStatusCode;
-use spf_feed::{HintPicker, NoRecorder};
 use spf_fixtures::is_written;
 use spf_io::MemSink;
-use spf_link::MemConnector;
 use spf_live::watch_live;
-use spf_system::{InlineSpawner, MemPause, RefusingSpawner, Spawner, StepWords};
-use spiffe::{BoardPlaces, Places, RefusingPlaces, X509Job};
+use spf_system::StepWords;
 use std::alloc::Global;
 use std::mem::drop;
 use std::process::Abort;
@@ -56,13 +54,12 @@ struct Case {
 }
 
 /// Whether the run ends like this.
-fn ends<R, S, L>(rt: R, case: Case, spawner: &mut S, places: &mut L) -> Result<bool, Fail>
-where
-    R: Abort + AllocGlobal + Wait + Clock + Copy + Drop,
-    S: Spawner<X509Job<MemConnector, HintPicker, NoRecorder, MemPause, StepWords, R>>,
-    S::Handle: Drop,
-    L: Places,
-{
+fn ends<R: Abort + AllocGlobal + Wait + Clock + Copy + Drop>(
+    rt: R,
+    case: Case,
+    spawner: &mut EitherSpawner,
+    places: &mut EitherPlaces,
+) -> Result<bool, Fail> {
     let connector = connector_of(rt.alloc(), case.refusal)?;
     let arguments = arguments(rt.alloc(), case.arguments).expect(&rt, "memory");
     let mut clock = clock(&rt);
@@ -94,7 +91,12 @@ fn ends_inline<R: Abort + AllocGlobal + Wait + Clock + Copy + Drop>(
     rt: R,
     case: Case,
 ) -> Result<bool, Fail> {
-    ends(rt, case, &mut InlineSpawner, &mut BoardPlaces::new())
+    ends(
+        rt,
+        case,
+        &mut EitherSpawner::inline(),
+        &mut EitherPlaces::giving(),
+    )
 }
 
 /// A run without arguments over a link that gives an item.
@@ -213,16 +215,16 @@ fn failed_output(rt: HostRuntime) -> Result<(), Fail> {
 
 #[test]
 fn no_supervisor_and_no_place(rt: HostRuntime) -> Result<(), Fail> {
-    let places = &mut BoardPlaces::new();
+    let spawner = &mut EitherSpawner::refusing();
     assert!(rt;
         ends(
             rt,
             plain(NO_SUPERVISOR),
-            &mut RefusingSpawner::new(),
-            places
+            spawner,
+            &mut EitherPlaces::giving()
         )?
     );
-    let places = &mut RefusingPlaces::new();
-    assert!(rt; ends(rt, plain(NO_PLACE), &mut InlineSpawner, places)?);
+    let spawner = &mut EitherSpawner::inline();
+    assert!(rt; ends(rt, plain(NO_PLACE), spawner, &mut EitherPlaces::refusing())?);
     Ok(())
 }
