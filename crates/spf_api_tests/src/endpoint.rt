@@ -194,9 +194,9 @@ fn is_error(alloc: Global, found: EndpointError, wanted: Named) -> bool {
     }
 }
 
-/// Whether that is what the text names.
-fn names(alloc: Global, text: &str, wanted: Named) -> bool {
-    match Endpoint::parse(alloc, text) {
+/// Whether that is what is named.
+fn is_named(alloc: Global, found: Result<Endpoint, EndpointError>, wanted: Named) -> bool {
+    match found {
         Ok(found) => {
             let is_named = is_endpoint(&found, wanted);
             drop(found);
@@ -209,8 +209,11 @@ fn names(alloc: Global, text: &str, wanted: Named) -> bool {
 #[test]
 fn endpoints(rt: HostRuntime) {
     for &(text, wanted) in ENDPOINTS {
-        assert!(rt; names(rt.alloc(), text, wanted), "{text}");
+        let found = Endpoint::parse(rt.alloc(), text);
+        assert!(rt; is_named(rt.alloc(), found, wanted), "{text}");
     }
+    let found = Endpoint::from_str(rt.alloc(), "unix:///foo");
+    assert!(rt; is_named(rt.alloc(), found, Named::Socket("/foo")));
 }
 
 /// Hosts and ports, and their URIs.

@@ -1,68 +1,100 @@
-//! Sources that are built over doubles: what a build gives, by the answers of its link.
+//! Sources that are built over doubles: what a build gives, by the answers of its links, and how
+//! the shutdown of what it gives ends.
 
 ghost use Rattle.std.specs.Prelude.{◌≡◌};
 
 use crate::jwt_links::{good, refusing};
-use spf_api::GrpcStatusCode;
-use spf_io::OutOfMemory;
+use spf_api::{ClientFault, EndpointError, GrpcStatusCode, WorkloadApiError};
+use spf_fixtures::{EitherSpawner, FixedClock};
+use spf_io::{OutOfMemory, Text};
 use spf_jwt_feed::{JwtSourceError, NoRecorder};
 use spf_jwt_source::{
-    BoardPlaces, JwtJob, JwtPass, JwtPlaces, JwtSource, JwtSourceBuilder, RefusingPlaces,
+    BoardPlaces, JwtPass, JwtPlaces, JwtSource, JwtSourceBuilder, JwtSupervisorHandle,
+    RefusingPlaces,
 };
-use spf_link::MemConnector;
-use spf_system::{Clock, InlineSpawner, Pause, RefusingSpawner, Spawner, StepWords};
+use spf_link::{Connector, MemConnector, MemLink};
+use spf_system::{Job, Joins, MemClock, Pause, StepWords};
 use std::alloc::Global;
-use std::sync::Wait;
+use std::process::Abort;
+use std::sync::atomic::{AtomicU64, Ordering};
+use std::sync::{Arc, Wait};
 use std::time::Duration;
 
-type Builder = JwtSourceBuilder<MemConnector, NoRecorder>;
+type Builder<C> = JwtSourceBuilder<C, NoRecorder>;
 
-/// A clock that always gives 999.
+/// How many delays there were, and their nanoseconds.
 #[derive(Drop)]
-struct FixedClock;
+struct Delays {
+    count: AtomicU64,
+    nanos: AtomicU64,
+}
 
-impl Clock for FixedClock {
-    ghost use Rattle.std.specs.Prelude.{None};
+impl Delays {
+    fn none() -> Delays {
+        Delays {
+            count: AtomicU64::new(0),
+            nanos: AtomicU64::new(0),
+        }
+    }
 
-    ghost moments = { λ _. None };
+    fn add(&self, delay: Duration) {
+        let nanos = u64::try_from(delay.as_nanos()).unwrap_or(u64::MAX);
+        self.count.fetch_add(1, Ordering::SeqCst);
+        self.nanos.fetch_add(nanos, Ordering::SeqCst);
+    }
 
-    fn now(&mut self) -> Option<i64> {
-        Some(999)
+    fn sum(&self) -> (u64, u64) {
+        (
+            self.count.load(Ordering::SeqCst),
+            self.nanos.load(Ordering::SeqCst),
+        )
     }
 }
 
-/// A pause that returns at once.
+/// A pause that returns at once, and adds its delays to these.
 #[derive(Drop)]
-struct NoPause;
+struct SummedPause {
+    delays: Arc<Delays>,
+}
 
-impl Pause for NoPause {
+impl Pause for SummedPause {
     ghost use Rattle.std.specs.Prelude.{None};
 
     ghost delays = { λ _. None };
 
     ghost room = { λ _. 0 };
 
-    fn pause(&mut self, _delay: Duration) {}
+    fn pause(&mut self, delay: Duration) {
+        self.delays.add(delay);
+    }
 }
 
 fn name_of(error: &JwtSourceError) -> &'static str {
     match error {
+        JwtSourceError::Source(WorkloadApiError::Endpoint(EndpointError::Parse(_))) => {
+            "no endpoint"
+        }
         JwtSourceError::Source(_) => "an error of the source",
         JwtSourceError::UnsupportedRpc(_) => "an unsupported call",
         JwtSourceError::InitialSyncTimeout => "a timeout",
         JwtSourceError::NoPlace => "no place",
         JwtSourceError::NoSupervisor => "no supervisor",
+        JwtSourceError::ShutdownTimeout {
+            started: 5,
+            ended: 9,
+        } => "a late shutdown",
         _ => "another error",
     }
 }
 
-/// Whether the state of a source has revision 0.
-fn is_first(source: &JwtSource, pass: &mut JwtPass) -> bool
+/// Whether the state of a source has revision 0, and says accordingly whether the source is closed.
+fn is_first(source: &JwtSource, pass: &mut JwtPass, is_closed: bool) -> bool
     requires { pass.old.book ≡ source.now.board }
+    ensures { pass.new.book ≡ pass.old.book }
 {
     match source.state(pass) {
         Ok(state) => {
-            let found = state.revision() == 0;
+            let found = state.revision() == 0 && state.is_closed() == is_closed;
             drop(state);
             found
         }
@@ -70,40 +102,14 @@ fn is_first(source: &JwtSource, pass: &mut JwtPass) -> bool
     }
 }
 
-/// What a build gives, at the fixed moment.
-fn built<R, S, L>(
-    rt: R,
-    alloc: Global,
-    builder: Builder,
-    spawner: &mut S,
-    places: &mut L,
-) -> &'static str
-where
-    R: Wait + Copy + Drop,
-    S: Spawner<JwtJob<MemConnector, NoRecorder, NoPause, StepWords, R>>,
-    S::Handle: Drop,
-    L: JwtPlaces,
-{
-    match builder.build(
-        rt,
-        alloc,
-        &mut FixedClock,
-        NoPause,
-        StepWords::new(0),
-        spawner,
-        places,
-    ) {
-        Ok((source, mut pass, handle)) => {
-            let is_first = is_first(&source, &mut pass);
-            drop(handle);
-            drop(pass);
-            drop(source);
-            if is_first {
-                "revision 0"
-            } else {
-                "another revision"
-            }
-        }
+/// How a shutdown with a grace of so many seconds ends: with revision 0, or an error.
+fn shut_down<J: Job, H: Joins<J> + Drop>(
+    clock: &mut MemClock,
+    handle: JwtSupervisorHandle<J, H>,
+    grace: u64,
+) -> &'static str {
+    match handle.shutdown_with_timeout(clock, Duration::from_secs(grace)) {
+        Ok(()) => "revision 0",
         Err(error) => {
             let name = name_of(&error);
             drop(error);
@@ -112,46 +118,115 @@ where
     }
 }
 
-/// A builder over the link that the word stands for. Most give the item JI.
-fn builder(alloc: Global, word: &str) -> Result<Builder, OutOfMemory> {
-    let connector = match word {
-        "rejected" => refusing(alloc, GrpcStatusCode::InvalidArgument)?,
-        "unsupported" => refusing(alloc, GrpcStatusCode::Unimplemented)?,
-        _ => good(alloc)?,
+/// What a build at the fixed moment gives, and how many delays there were, and their nanoseconds.
+/// A source is shut down from the moment 5 to the moment 9, with a grace of so many seconds.
+fn built<R, C, L>(
+    rt: R,
+    alloc: Global,
+    builder: Builder<C>,
+    spawner: &mut EitherSpawner,
+    places: &mut L,
+    grace: u64,
+) -> (&'static str, (u64, u64))
+where
+    R: Wait + Abort + Copy + Drop,
+    C: Connector + Drop,
+    C::Link: Drop,
+    L: JwtPlaces,
+{
+    let delays = Arc::new(alloc, Delays::none()).expect(&rt, "memory");
+    let pause = SummedPause {
+        delays: Arc::try_clone(&delays).expect(&rt, "memory"),
     };
-    let builder = JwtSourceBuilder::new(connector);
+    let moments = vec![in alloc; Some(5), Some(9)].expect(&rt, "memory");
+    let mut clock = MemClock::new(moments);
+    let name = match builder.build(
+        rt,
+        alloc,
+        &mut FixedClock,
+        pause,
+        StepWords::new(0),
+        spawner,
+        places,
+    ) {
+        Ok((source, mut pass, handle)) => {
+            let is_open = is_first(&source, &mut pass, false);
+            let name = shut_down(&mut clock, handle, grace);
+            let is_closed = is_first(&source, &mut pass, true);
+            drop(pass);
+            drop(source);
+            if is_open && is_closed {
+                name
+            } else {
+                "another state"
+            }
+        }
+        Err(error) => {
+            let name = name_of(&error);
+            drop(error);
+            name
+        }
+    };
+    let sum = delays.sum();
+    drop(clock);
+    drop(delays);
+    (name, sum)
+}
+
+/// The link that the word stands for, or why there is no client. Most give the item JI.
+fn link(alloc: Global, word: &str) -> Result<Result<MemLink, ClientFault>, OutOfMemory> {
+    match word {
+        "rejected" => Ok(Ok(refusing(alloc, GrpcStatusCode::InvalidArgument)?)),
+        "unsupported" => Ok(Ok(refusing(alloc, GrpcStatusCode::Unimplemented)?)),
+        "away" => Ok(Ok(refusing(alloc, GrpcStatusCode::Unavailable)?)),
+        "nobody" => Ok(Err(ClientFault::Unreachable(Text::copy_of(alloc, "no socket")?))),
+        _ => Ok(Ok(good(alloc)?)),
+    }
+}
+
+/// A builder over that link, and over a second one that gives the item JI.
+fn builder(alloc: Global, word: &str) -> Result<Builder<MemConnector>, OutOfMemory> {
+    let mut links = vec![in alloc; link(alloc, word)?]?;
+    links.push(Ok(good(alloc)?))?;
+    let builder = JwtSourceBuilder::new(MemConnector::new(alloc, links));
     match word {
         "late" => Ok(builder.initial_sync_timeout(Duration::from_secs(0))),
         _ => Ok(builder),
     }
 }
 
-/// The link, and what a build gives.
-static CAUSES: [(&str, &str); 4] = [
-    ("rejected", "an error of the source"),
-    ("unsupported", "an unsupported call"),
-    ("late", "a timeout"),
-    ("good", "revision 0"),
+/// The first link, the grace of the shutdown, what both give, and how many delays there were, and
+/// their nanoseconds: one of 200 ms where the first link refuses for now, and where the first
+/// client cannot be made. A shutdown of 4 seconds is late with a grace of 3.
+static CAUSES: [(&str, u64, &str, (u64, u64)); 7] = [
+    ("rejected", 4, "an error of the source", (0, 0)),
+    ("unsupported", 4, "an unsupported call", (0, 0)),
+    ("late", 4, "a timeout", (0, 0)),
+    ("good", 4, "revision 0", (0, 0)),
+    ("good", 3, "a late shutdown", (0, 0)),
+    ("away", 4, "revision 0", (1, 200_000_000)),
+    ("nobody", 4, "revision 0", (1, 200_000_000)),
 ];
 
-/// The answers of one link, and the timeout.
+/// The answers of the links, and the timeouts.
 #[test]
 fn build_causes(rt: HostRuntime) {
     let alloc = rt.alloc();
-    for &(word, wanted) in CAUSES.iter() {
+    for &(word, grace, wanted, delays) in CAUSES.iter() {
         let builder = builder(alloc, word).expect(&rt, "a builder");
         let found = built(
             rt,
             alloc,
             builder,
-            &mut InlineSpawner,
+            &mut EitherSpawner::inline(),
             &mut BoardPlaces::new(),
+            grace,
         );
-        assert!(rt; found == wanted, "{word}: {found}");
+        assert!(rt; found == (wanted, delays), "{word} {grace}: {}", found.0);
     }
 }
 
-/// What a build gives without a place, and without a supervisor.
+/// What a build gives without a place, without a supervisor, and with an invalid endpoint.
 #[test]
 fn refused_builds(rt: HostRuntime) {
     let alloc = rt.alloc();
@@ -160,17 +235,30 @@ fn refused_builds(rt: HostRuntime) {
         rt,
         alloc,
         unplaced,
-        &mut InlineSpawner,
+        &mut EitherSpawner::inline(),
         &mut RefusingPlaces::new(),
+        4,
     );
-    assert!(rt; found == "no place");
+    assert!(rt; found.0 == "no place");
     let unsupervised = builder(alloc, "good").expect(&rt, "a builder");
     let found = built(
         rt,
         alloc,
         unsupervised,
-        &mut RefusingSpawner::new(),
+        &mut EitherSpawner::refusing(),
         &mut BoardPlaces::new(),
+        4,
     );
-    assert!(rt; found == "no supervisor");
+    assert!(rt; found.0 == "no supervisor");
+    let builder = builder(alloc, "good").expect(&rt, "a builder");
+    let nowhere = builder.endpoint(rt, alloc, "foo").expect(&rt, "a builder");
+    let found = built(
+        rt,
+        alloc,
+        nowhere,
+        &mut EitherSpawner::inline(),
+        &mut BoardPlaces::new(),
+        4,
+    );
+    assert!(rt; found.0 == "no endpoint");
 }

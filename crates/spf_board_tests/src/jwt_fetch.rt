@@ -1,9 +1,10 @@
 //! Fetches of a source before and after it is closed.
 
-use crate::jwt_links::{granting, refusing};
+use crate::jwt_links::{granting, over, refusing};
 use crate::jwt_source::opened;
 use spf_api::{GrpcStatusCode, WorkloadApiError};
 use spf_fixtures::TOKEN1;
+use spf_id::SpiffeId;
 use spf_io::{OutOfMemory, Text};
 use spf_jwt_client::JwtFetcher;
 use spf_jwt_feed::JwtSourceError;
@@ -19,15 +20,20 @@ fn name_of(error: &JwtSourceError) -> &'static str {
     }
 }
 
-/// What the source fetches over a connector, for the audience.
+/// What the source fetches over a connector, for the audience, and for the identity where one is
+/// given.
 fn fetched(
     alloc: Global,
     source: &JwtSource,
     connector: MemConnector,
     audience: &[Text],
+    id: Option<&SpiffeId>,
 ) -> &'static str {
     let mut fetcher = JwtFetcher::new(connector);
-    let answer = source.fetch_jwt_svid(alloc, &mut fetcher, audience);
+    let answer = match id {
+        Some(_) => source.fetch_jwt_svid_with_id(alloc, &mut fetcher, audience, id),
+        None => source.fetch_jwt_svid(alloc, &mut fetcher, audience),
+    };
     drop(fetcher);
     match answer {
         Ok(svid) => {
@@ -52,19 +58,46 @@ fn audience_of(alloc: Global, name: &str) -> Result<Vec<Text>, OutOfMemory> {
     Ok(vec![in alloc; name]?)
 }
 
+/// A connector that grants the token, or denies it.
+fn connector(alloc: Global, is_granted: bool) -> Result<MemConnector, OutOfMemory> {
+    if is_granted {
+        over(alloc, granting(alloc)?)
+    } else {
+        over(alloc, refusing(alloc, GrpcStatusCode::PermissionDenied)?)
+    }
+}
+
+/// Whether the source is closed, whether the token is granted, whether it is asked for the identity
+/// of the token, and what is fetched.
+static FETCHES: [(bool, bool, bool, &str); 6] = [
+    (false, true, false, "the token"),
+    (false, true, true, "the token"),
+    (false, false, false, "denied"),
+    (false, false, true, "denied"),
+    (true, true, false, "closed"),
+    (true, true, true, "closed"),
+];
+
 /// What fetches return before and after a shutdown.
 #[test]
 fn fetches_of_a_source(rt: HostRuntime) {
     let alloc = rt.alloc();
     let audience = audience_of(alloc, "a").expect(&rt, "an audience");
+    let id = SpiffeId::new(alloc, "spiffe://example.org/w").expect(&rt, "an identity");
     let mut held = opened(rt, alloc);
-    let grants = granting(alloc).expect(&rt, "a connector");
-    assert!(rt; fetched(alloc, &held.source, grants, audience.as_slice()) == "the token");
-    let denies = refusing(alloc, GrpcStatusCode::PermissionDenied).expect(&rt, "a connector");
-    assert!(rt; fetched(alloc, &held.source, denies, audience.as_slice()) == "denied");
-    held.source.shutdown();
-    let unasked = granting(alloc).expect(&rt, "a connector");
-    assert!(rt; fetched(alloc, &held.source, unasked, audience.as_slice()) == "closed");
+    for &(is_closed, is_granted, has_id, wanted) in FETCHES.iter() {
+        if is_closed {
+            held.source.shutdown();
+        }
+        let connector = connector(alloc, is_granted).expect(&rt, "a connector");
+        let id = if has_id { Some(&id) } else { None };
+        let found = fetched(alloc, &held.source, connector, audience.as_slice(), id);
+        assert!(rt;
+            found == wanted,
+            "{is_closed} {is_granted} {has_id}: {found}"
+        );
+    }
     drop(held);
+    drop(id);
     drop(audience);
 }

@@ -39,26 +39,25 @@ fn refusal(alloc: Global, code: GrpcStatusCode) -> Result<Answer, OutOfMemory> {
     Ok(Answer::Refused(LinkFault::Status(status)))
 }
 
-/// A connector with one link that gives these answers.
-fn over(alloc: Global, answers: Vec<Answer>) -> Result<MemConnector, OutOfMemory> {
-    let link = MemLink::new(alloc, answers);
+/// A connector with one link.
+pub(crate) fn over(alloc: Global, link: MemLink) -> Result<MemConnector, OutOfMemory> {
     Ok(MemConnector::new(alloc, vec![in alloc; Ok(link)]?))
 }
 
 /// A link that gives the item JI.
-pub(crate) fn good(alloc: Global) -> Result<MemConnector, OutOfMemory> {
+pub(crate) fn good(alloc: Global) -> Result<MemLink, OutOfMemory> {
     let item = Answer::Item(Response::JwtBundles(key_sets(alloc)?));
-    over(alloc, vec![in alloc; Answer::Started, item]?)
+    Ok(MemLink::new(alloc, vec![in alloc; Answer::Started, item]?))
 }
 
 /// A link that gives the one token.
-pub(crate) fn granting(alloc: Global) -> Result<MemConnector, OutOfMemory> {
+pub(crate) fn granting(alloc: Global) -> Result<MemLink, OutOfMemory> {
     let item = Answer::Item(token(alloc)?);
-    over(alloc, vec![in alloc; Answer::Started, item]?)
+    Ok(MemLink::new(alloc, vec![in alloc; Answer::Started, item]?))
 }
 
 /// A link that refuses its start with this status.
-pub(crate) fn refusing(alloc: Global, code: GrpcStatusCode) -> Result<MemConnector, OutOfMemory> {
+pub(crate) fn refusing(alloc: Global, code: GrpcStatusCode) -> Result<MemLink, OutOfMemory> {
     let refusal = refusal(alloc, code)?;
-    over(alloc, vec![in alloc; refusal]?)
+    Ok(MemLink::new(alloc, vec![in alloc; refusal]?))
 }

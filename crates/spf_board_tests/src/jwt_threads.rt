@@ -3,3 +3,4 @@
 mod fetch;
 mod live;
 mod on_thread;
+mod opening;

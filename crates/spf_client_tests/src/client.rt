@@ -40,7 +40,10 @@ impl Shown for X509Svid {
 
 impl Shown for Vec<X509Svid> {
     fn shown(&self) -> &str {
-        if self.len() == 1 { "1 SVIDs" } else { "SVIDs" }
+        match self.as_slice() {
+            [svid] => svid.spiffe_id().as_str(),
+            _ => "SVIDs",
+        }
     }
 }
 
@@ -203,7 +206,10 @@ const CALLS: &[(&[&str], &[Call])] = &[
         &["started", "first"],
         &[("svid", 0, "spiffe://example.org/w")],
     ),
-    (&["started", "first"], &[("svids", 0, "1 SVIDs")]),
+    (
+        &["started", "first"],
+        &[("svids", 0, "spiffe://example.org/w")],
+    ),
     (&["started", "bundles"], &[("bundles", 0, "1 bundles")]),
     (&["started", "end"], &[("context", 0, EMPTY)]),
     (&["started", "end"], &[("svid", 0, EMPTY)]),
@@ -371,7 +377,7 @@ fn is_error(rt: &(impl Abort + AllocGlobal), e: WorkloadApiError, wanted: &str) 
 
 /// What the clients of a connector fetch, one after another, or why there is none.
 const CONNECTED: &[&str] = &[
-    "1 SVIDs",
+    "spiffe://example.org/w",
     "permission denied: no",
     "gRPC transport connection failed: nobody listens",
     UNAVAILABLE,

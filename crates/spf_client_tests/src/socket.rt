@@ -1,6 +1,9 @@
 //! Links over real sockets, to server threads of the tests.
 
-use spf_api::{ClientFault, GrpcStatusCode, LinkFault, Response, TransportError, WorkloadApiError};
+use spf_api::{
+    ClientFault, EndpointError, EndpointParseError, GrpcStatusCode, LinkFault, Response,
+    TransportError, WorkloadApiError,
+};
 use spf_client::WorkloadApiClient;
 use spf_fixtures::{first_item, octets};
 use spf_io::{OutOfMemory, Text};
@@ -355,7 +358,7 @@ fn no_address_is_reached(rt: HostRuntime) {
 /// Whether the text names no endpoint, before a connection and at one.
 fn is_broken(rt: HostRuntime, text: &str) -> Result<bool, OutOfMemory> {
     let mut connector = EndpointConnector::new(rt, rt.alloc(), text)?;
-    let is_invalid = connector.validate().is_err();
+    let is_invalid = connector.validate() == Err(EndpointError::Parse(EndpointParseError));
     let is_unreachable = is_unreachable(link_of(connector), "endpoint socket is not a valid URI");
     Ok(is_invalid && is_unreachable)
 }

@@ -9,7 +9,7 @@ mod pem;
 
 use export::{Exported, export};
 use export_error::ExportError;
-use help::HELP;
+use help::{HELP, VERSION};
 use spf_io::{Sink, StdSink};
 use spf_program::program_arguments;
 use std::alloc::{AllocError, Global};
@@ -31,6 +31,7 @@ fn run(rt: &HostRuntime) -> Result<(), ExportError> {
     let arguments = program_arguments(rt)?;
     match arguments.as_slice() {
         [argument] if argument.as_str() == "--help" => put_text(rt, HELP),
+        [argument] if argument.as_str() == "--version" => put_text(rt, VERSION),
         [folder, out] => report(rt, export(rt, folder.as_str(), out.as_str())?),
         _ => Err(ExportError::BadArguments),
     }

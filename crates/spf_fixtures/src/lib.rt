@@ -5,6 +5,7 @@
 
 mod agent;
 mod doubles;
+mod either;
 mod links;
 mod marks;
 mod names;
@@ -13,6 +14,7 @@ mod tokens;
 
 pub use agent::{Agent, Scene};
 pub use doubles::{AgentConnector, AgentLink, FixedClock, HeldRecorder, ShortPause};
+pub use either::EitherSpawner;
 pub use links::{connector, good_link, refusing_link};
 pub use marks::{Marks, TURNS, is_set_soon};
 pub use names::{is_written, octets, written_out};

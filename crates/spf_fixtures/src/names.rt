@@ -9,7 +9,7 @@ use std::alloc::Global;
 use std::test::Fail;
 
 /// What each name stands for. A name stands before the names that its meaning holds.
-static NAMES: [(&str, &str); 47] = [
+static NAMES: [(&str, &str); 48] = [
     // What a line shows of I1.
     ("P1", "spiffe://example.org/w 1000 LEAF1 example.org=ROOT1"),
     // Events: a kind, a length, and the rest.
@@ -114,10 +114,14 @@ static NAMES: [(&str, &str); 47] = [
     ),
     // Parts of items: an ID, a chain and a key; bundles of two with no hint.
     ("FIRST", "ID 0000008d LEAF1 0000000f KEY1"),
-    ("SECOND", "ID 0000008d LEAF2 0000000f KEY1"),
-    ("THIRD", "ID 0000008d LEAF2 0000000f KEY2"),
+    ("SECOND", "ID2 0000008d LEAF2 0000000f KEY1"),
+    ("THIRD", "ID2 0000008d LEAF2 0000000f KEY2"),
     ("ROOTS12", "00000090 ROOT1 ROOT2 00000000"),
     ("ROOTS21", "00000090 ROOT2 ROOT1 00000000"),
+    (
+        "ID2",
+        "00000016 7370696666653a2f2f6578616d706c652e6f72672f76",
+    ),
     (
         "ID",
         "00000016 7370696666653a2f2f6578616d706c652e6f72672f77",

@@ -4,12 +4,12 @@
 
 mod help;
 
-use help::HELP;
+use help::{HELP, VERSION};
 use spf_gate::GateError;
 use spf_gate_live::{LiveGateError, gate_on_threads, report};
 use spf_io::{OutOfMemory, Sink, StdSink, StdSource};
 use spf_live::{NO_ENDPOINT, has_endpoint};
-use spf_program::{program_arguments, put_help};
+use spf_program::{program_arguments, put_about};
 use std::mem::drop;
 use std::process::ExitCode;
 use std::sync::Wait;
@@ -17,6 +17,9 @@ use std::thread::Threads;
 
 /// The status where standard output fails.
 const WRITE_FAILED: u8 = 2;
+
+/// The line that says so.
+const NOT_WRITTEN: &str = "spf_gate: error 2\n";
 
 fn main(rt: HostRuntime) -> ExitCode {
     let mut errors = StdSink::new(rt.stderr());
@@ -30,8 +33,8 @@ fn main(rt: HostRuntime) -> ExitCode {
     }
 }
 
-/// Answers the asks of the standard input, and returns the exit status. `--help`, alone, is
-/// answered here.
+/// Answers the asks of the standard input, and returns the exit status. `--help` and `--version`,
+/// alone, are answered here.
 fn run<R, E>(host: HostRuntime, rt: R, arguments: &[String], errors: &mut E) -> u8
 where
     R: Threads + Wait + Copy + Drop + Send + 'static,
@@ -39,8 +42,10 @@ where
 {
     let mut out = StdSink::new(host.stdout());
     if let [argument] = arguments {
-        if argument.as_str() == "--help" {
-            return put_help(&mut out, HELP, WRITE_FAILED);
+        match argument.as_str() {
+            "--help" => return put_about(&mut out, errors, HELP, WRITE_FAILED, NOT_WRITTEN),
+            "--version" => return put_about(&mut out, errors, VERSION, WRITE_FAILED, NOT_WRITTEN),
+            _ => {}
         }
     }
     match has_endpoint(host, errors, "spf_gate") {

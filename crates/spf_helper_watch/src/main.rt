@@ -4,11 +4,11 @@
 
 mod help;
 
-use help::HELP;
+use help::{HELP, VERSION};
 use spf_disk::{FolderDisk, FolderFault};
 use spf_helper::helper_watch;
 use spf_io::{Sink, StdSink, StdSource};
-use spf_program::{ArgumentsError, program_arguments, put_help, report};
+use spf_program::{ArgumentsError, program_arguments, put_about, report};
 use std::alloc::Global;
 use std::io::BufReader;
 use std::process::ExitCode;
@@ -18,6 +18,9 @@ const INPUT_BUFFER: usize = 1 << 16;
 
 /// The status where standard output fails.
 const WRITE_FAILED: u8 = 4;
+
+/// The line that says so.
+const NOT_WRITTEN: &str = "spf_helper: write failed\n";
 
 /// The status where the disk failed.
 const DISK_FAILED: u8 = 21;
@@ -33,18 +36,27 @@ fn main(rt: HostRuntime) -> ExitCode {
     }
 }
 
-/// Answers `--help`, alone, and otherwise calls `helper_watch` over
-/// the folder that is named. It returns the exit status.
+/// Answers `--help` and `--version`, alone, and otherwise calls `helper_watch` over the folder that
+/// is named. It returns the exit status.
 fn run<E: Sink>(rt: &HostRuntime, errors: &mut E) -> Result<u8, ArgumentsError> {
     let arguments = program_arguments(rt)?;
     match arguments.as_slice() {
-        [argument] if argument.as_str() == "--help" => {
-            Ok(put_help(&mut StdSink::new(rt.stdout()), HELP, WRITE_FAILED))
-        }
+        [argument] if argument.as_str() == "--help" => Ok(put_text(rt, errors, HELP)),
+        [argument] if argument.as_str() == "--version" => Ok(put_text(rt, errors, VERSION)),
         [folder] => follow(rt, folder.as_str(), arguments.as_slice(), errors),
         // Without a folder no file is opened, and the arguments are refused.
         _ => follow(rt, "", arguments.as_slice(), errors),
     }
+}
+
+fn put_text<E: Sink>(rt: &HostRuntime, errors: &mut E, text: &str) -> u8 {
+    put_about(
+        &mut StdSink::new(rt.stdout()),
+        errors,
+        text,
+        WRITE_FAILED,
+        NOT_WRITTEN,
+    )
 }
 
 /// Follows the session on standard input. Where the disk fails, a second line says why.

@@ -1,6 +1,8 @@
 //! Live sources of JWT bundles: handles, their reads and fetches, the updates of one reader,
 //! builders, and the supervisor with its record; the sessions of JWT bundles that it feeds, with
-//! their rules; and the board on which it publishes, which up to 64 passes read without a lock.
+//! their rules; and the board on which it publishes, which up to 64 passes read without a lock. What
+//! a caller needs of the crates of JWT below has its names here as well; the rest, such as clocks,
+//! pauses and connectors, `spiffe` names.
 #![tactic(auto)]
 
 mod board;
@@ -33,3 +35,8 @@ pub use shown::Shown;
 pub use source::{JwtSource, JwtSourceUpdates};
 pub use spf_board::{BoardPlaces, Front, PLACES, PlaceFault, RefusingPlaces, settle};
 pub use spf_feeder::SupervisorEnd;
+pub use spf_jwt::{
+    JwtAuthority, JwtBundle, JwtBundleSet, JwtResourceLimits, JwtSvid, validate_jwt_limits,
+};
+pub use spf_jwt_client::{JwtClient, JwtFetcher};
+pub use spf_jwt_feed::{JwtMetricsRecorder, JwtSourceError, JwtSourceState, JwtStep};

@@ -4,10 +4,10 @@
 
 mod help;
 
-use help::HELP;
+use help::{HELP, VERSION};
 use spf_io::{OutOfMemory, Sink, StdSink};
 use spf_live::{LiveError, NO_ENDPOINT, has_endpoint, report, watch_on_threads};
-use spf_program::{program_arguments, put_help};
+use spf_program::{program_arguments, put_about};
 use std::mem::drop;
 use std::process::ExitCode;
 use std::sync::Wait;
@@ -16,6 +16,9 @@ use std::time::Clock;
 
 /// The status where standard output fails.
 const WRITE_FAILED: u8 = 4;
+
+/// The line that says so.
+const NOT_WRITTEN: &str = "spiffe_watch: write failed\n";
 
 fn main(rt: HostRuntime) -> ExitCode {
     let mut errors = StdSink::new(rt.stderr());
@@ -29,7 +32,8 @@ fn main(rt: HostRuntime) -> ExitCode {
     }
 }
 
-/// Prints what a live source holds, and returns the exit status. `--help`, alone, is answered here.
+/// Prints what a live source holds, and returns the exit status. `--help` and `--version`, alone,
+/// are answered here.
 fn run<R, E>(host: HostRuntime, rt: R, arguments: &[String], errors: &mut E) -> u8
 where
     R: Threads + Wait + Clock + Copy + Drop + Send + 'static,
@@ -37,8 +41,10 @@ where
 {
     let mut out = StdSink::new(host.stdout());
     if let [argument] = arguments {
-        if argument.as_str() == "--help" {
-            return put_help(&mut out, HELP, WRITE_FAILED);
+        match argument.as_str() {
+            "--help" => return put_about(&mut out, errors, HELP, WRITE_FAILED, NOT_WRITTEN),
+            "--version" => return put_about(&mut out, errors, VERSION, WRITE_FAILED, NOT_WRITTEN),
+            _ => {}
         }
     }
     match has_endpoint(host, errors, "spiffe_watch") {

@@ -66,13 +66,15 @@ abbrev pub IsEndReported : {E : Type 0} → (E → List ℕ) → Side → Side �
 IsEndReported line before after (Ok done) = after ≡ before
 IsEndReported line before after (Err error) = IsReported before after (line error)
 
-abbrev pub help_status : ℕ → Result (Unit {0}) Failed → ℕ
-help_status failed (Ok done) = 0
-help_status failed (Err fault) = failed
+abbrev pub about_status : ℕ → Result (Unit {0}) Failed → ℕ
+about_status failed (Ok done) = 0
+about_status failed (Err fault) = failed
 
--- A help text is put; the status is 0, or another where the output failed.
-pub record IsHelpPut (before after : Side) (help : List ℕ) (failed status : ℕ) : Type 0 where
+-- A text is put, and the status is 0; or the output failed, and a line says so.
+pub record IsAboutPut (before after errors errors' : Side) (text line : List ℕ) (failed status : ℕ)
+    : Type 0 where
   pub put : Result (Unit {0}) Failed
-  pub appends : PutAppends before.bytes after.bytes put help
+  pub appends : PutAppends before.bytes after.bytes put text
   pub cause : HasCause before.failures after.failures put
-  pub status_is : status ≡ help_status failed put
+  pub status_is : status ≡ about_status failed put
+  pub reported : IsEndReported (λ fault. line) errors errors' put

@@ -3,19 +3,19 @@
 //! failures.
 #![tactic(auto)]
 
+mod about;
 mod arguments;
 mod failure;
 mod follow_failure;
-mod help;
 mod live;
 mod number;
 mod pairs;
 mod value;
 
+pub use about::put_about;
 pub use arguments::{ArgumentsError, program_arguments};
 pub use failure::report;
 pub use follow_failure::{follow_message, follow_number, follow_status};
-pub use help::put_help;
 pub use live::{LiveOptions, live_options};
 pub use number::{MAX_NUMBER, moment, number_up_to};
 pub use pairs::{are_pairs, value_of};

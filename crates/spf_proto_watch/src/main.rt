@@ -4,9 +4,9 @@
 
 mod help;
 
-use help::HELP;
+use help::{HELP, VERSION};
 use spf_io::{Sink, StdSink, StdSource};
-use spf_program::{ArgumentsError, program_arguments, put_help, report};
+use spf_program::{ArgumentsError, program_arguments, put_about, report};
 use spf_proto::proto_watch;
 use std::alloc::Global;
 use std::io::BufReader;
@@ -17,6 +17,9 @@ const INPUT_BUFFER: usize = 1 << 16;
 
 /// The status where standard output fails.
 const WRITE_FAILED: u8 = 4;
+
+/// The line that says so.
+const NOT_WRITTEN: &str = "spf_proto: write failed\n";
 
 fn main(rt: HostRuntime) -> ExitCode {
     let mut errors = StdSink::new(rt.stderr());
@@ -29,14 +32,16 @@ fn main(rt: HostRuntime) -> ExitCode {
     }
 }
 
-/// Answers `--help`, alone, and otherwise calls `proto_watch` with the standard streams. It returns
-/// the exit status.
+/// Answers `--help` and `--version`, alone, and otherwise calls `proto_watch` with the standard
+/// streams. It returns the exit status.
 fn run<E: Sink>(rt: &HostRuntime, errors: &mut E) -> Result<u8, ArgumentsError> {
     let arguments = program_arguments(rt)?;
     let mut out = StdSink::new(rt.stdout());
     if let [argument] = arguments.as_slice() {
-        if argument.as_str() == "--help" {
-            return Ok(put_help(&mut out, HELP, WRITE_FAILED));
+        match argument.as_str() {
+            "--help" => return Ok(put_text(&mut out, errors, HELP)),
+            "--version" => return Ok(put_text(&mut out, errors, VERSION)),
+            _ => {}
         }
     }
     let Ok(input) = BufReader::with_capacity(rt.alloc(), INPUT_BUFFER, rt.stdin()) else {
@@ -50,4 +55,8 @@ fn run<E: Sink>(rt: &HostRuntime, errors: &mut E) -> Result<u8, ArgumentsError> 
         &mut out,
         errors,
     ))
+}
+
+fn put_text<K: Sink, E: Sink>(out: &mut K, errors: &mut E, text: &str) -> u8 {
+    put_about(out, errors, text, WRITE_FAILED, NOT_WRITTEN)
 }

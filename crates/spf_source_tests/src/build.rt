@@ -1,9 +1,9 @@
 //! Sources that are built over doubles: what a build gives, by the answers of its links.
 
 use crate::building::{Builder, built};
-use crate::either::{EitherPlaces, EitherSpawner};
+use crate::places::EitherPlaces;
 use spf_api::{ClientFault, GrpcStatusCode};
-use spf_fixtures::{good_link, refusing_link};
+use spf_fixtures::{EitherSpawner, good_link, refusing_link};
 use spf_io::Text;
 use spf_link::{MemConnector, MemLink};
 use spiffe::X509Source;
@@ -33,22 +33,22 @@ fn builder(alloc: Global, word: &str) -> Result<Builder<MemConnector>, Fail> {
     }
 }
 
-/// The first link, what a build gives, and the nanoseconds of the pauses before it: 200 ms where
-/// the first link refuses for now, and where the first client cannot be made.
-static CAUSES: [(&str, &str, u64); 6] = [
-    ("rejected", "an error of the source", 0),
-    ("unsupported", "an unsupported call", 0),
-    ("late", "a timeout", 0),
-    ("good", "revision 0", 0),
-    ("away", "revision 0", 200_000_000),
-    ("nobody", "revision 0", 200_000_000),
+/// The first link, what a build gives, and the pauses before it with their nanoseconds: one of
+/// 200 ms where the first link refuses for now, and where the first client cannot be made.
+static CAUSES: [(&str, &str, u64, u64); 6] = [
+    ("rejected", "an error of the source", 0, 0),
+    ("unsupported", "an unsupported call", 0, 0),
+    ("late", "a timeout", 0, 0),
+    ("good", "revision 0", 0, 0),
+    ("away", "revision 0", 1, 200_000_000),
+    ("nobody", "revision 0", 1, 200_000_000),
 ];
 
 /// The answers of the links, and the timeout.
 #[test]
 fn build_causes(rt: HostRuntime) -> Result<(), Fail> {
     let alloc = rt.alloc();
-    for &(word, wanted, nanos) in CAUSES.iter() {
+    for &(word, wanted, pauses, nanos) in CAUSES.iter() {
         let builder = builder(alloc, word)?;
         let found = built(
             rt,
@@ -57,7 +57,7 @@ fn build_causes(rt: HostRuntime) -> Result<(), Fail> {
             &mut EitherSpawner::inline(),
             &mut EitherPlaces::giving(),
         );
-        assert!(rt; found == (wanted, nanos), "{word}");
+        assert!(rt; found == (wanted, pauses, nanos), "{word}");
     }
     Ok(())
 }

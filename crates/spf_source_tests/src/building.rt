@@ -2,12 +2,13 @@
 
 ghost use Rattle.std.specs.Prelude.{◌≡◌};
 
-use crate::either::{EitherPlaces, EitherSpawner};
+use crate::places::EitherPlaces;
 use spf_api::{EndpointError, WorkloadApiError};
 use spf_feed::{NoPicker, NoRecorder, X509SourceError};
+use spf_fixtures::{EitherSpawner, FixedClock};
 use spf_io::OutOfMemory;
 use spf_link::Connector;
-use spf_system::{Clock, Pause, StepWords};
+use spf_system::{Pause, StepWords};
 use spiffe::{Pass, X509Source, X509SourceBuilder};
 use std::alloc::Global;
 use std::process::Abort;
@@ -18,24 +19,27 @@ use std::time::Duration;
 /// A builder over a connector of that kind, on which nothing is set but plain values.
 pub type Builder<C> = X509SourceBuilder<NoPicker, C, NoRecorder>;
 
-/// A clock that always gives 999.
+/// How many pauses there were, and the nanoseconds of all of them.
 #[derive(Drop)]
-pub struct FixedClock;
+pub struct Pauses {
+    count: AtomicU64,
+    nanos: AtomicU64,
+}
 
-impl Clock for FixedClock {
-    ghost use Rattle.std.specs.Prelude.{None};
-
-    ghost moments = { λ _. None };
-
-    fn now(&mut self) -> Option<i64> {
-        Some(999)
+impl Pauses {
+    pub fn none(alloc: Global) -> Result<Arc<Pauses>, OutOfMemory> {
+        let pauses = Pauses {
+            count: AtomicU64::new(0),
+            nanos: AtomicU64::new(0),
+        };
+        Ok(Arc::new(alloc, pauses)?)
     }
 }
 
-/// A pause that returns at once, and adds up the nanoseconds of its delays.
+/// A pause that returns at once, and adds each delay to its pauses.
 #[derive(Drop)]
 pub struct SummedPause {
-    pub nanos: Arc<AtomicU64>,
+    pub pauses: Arc<Pauses>,
 }
 
 impl Pause for SummedPause {
@@ -47,7 +51,8 @@ impl Pause for SummedPause {
 
     fn pause(&mut self, delay: Duration) {
         let nanos = u64::try_from(delay.as_nanos()).unwrap_or(u64::MAX);
-        self.nanos.fetch_add(nanos, Ordering::SeqCst);
+        self.pauses.count.fetch_add(1, Ordering::SeqCst);
+        self.pauses.nanos.fetch_add(nanos, Ordering::SeqCst);
     }
 }
 
@@ -79,22 +84,23 @@ fn is_first(source: &X509Source, pass: &mut Pass) -> bool
     }
 }
 
-/// Returns what a build gives, at the fixed moment, and the nanoseconds of the pauses before it.
+/// Returns what a build gives, at the fixed moment, and the pauses before it: how many they are,
+/// and their nanoseconds.
 pub fn built<R, C>(
     rt: R,
     alloc: Global,
     builder: Builder<C>,
     spawner: &mut EitherSpawner,
     places: &mut EitherPlaces,
-) -> (&'static str, u64)
+) -> (&'static str, u64, u64)
 where
     R: Wait + Abort + Copy + Drop,
     C: Connector + Drop,
     C::Link: Drop,
 {
-    let nanos = Arc::new(alloc, AtomicU64::new(0)).expect(&rt, "memory");
+    let pauses = Pauses::none(alloc).expect(&rt, "memory");
     let pause = SummedPause {
-        nanos: Arc::try_clone(&nanos).expect(&rt, "memory"),
+        pauses: Arc::try_clone(&pauses).expect(&rt, "memory"),
     };
     let name = match builder.build(
         rt,
@@ -122,7 +128,8 @@ where
             name
         }
     };
-    let paused = nanos.load(Ordering::SeqCst);
-    drop(nanos);
-    (name, paused)
+    let count = pauses.count.load(Ordering::SeqCst);
+    let nanos = pauses.nanos.load(Ordering::SeqCst);
+    drop(pauses);
+    (name, count, nanos)
 }

@@ -1,6 +1,6 @@
 //! Inputs that are answered from a source over doubles.
 
-use crate::source::opened;
+use crate::source::opened_with;
 use spf_gate::{GateError, gate_serve};
 use spf_io::{MemSink, MemSource};
 use std::alloc::{AllocError, Global};
@@ -13,8 +13,11 @@ fn source_of(alloc: Global, input: &[u8]) -> Result<MemSource, AllocError> {
     Ok(MemSource::new(bytes, Vec::new(alloc), Vec::new(alloc)))
 }
 
-/// Whether these lines are written for the input by a source that holds the item I1, and its
-/// answering ends like this.
+/// The federated bundle of the item I1F.
+static FEDERATED: [(&str, &str); 1] = [("spiffe://other.org", "ROOT2")];
+
+/// Whether these lines are written for the input by a source that accepted the item I1F at 999,
+/// and its answering ends like this.
 fn is_served<R: Wait + Abort + Copy + Drop>(
     rt: R,
     alloc: Global,
@@ -23,7 +26,7 @@ fn is_served<R: Wait + Abort + Copy + Drop>(
     lines: &str,
     wanted: Result<u64, GateError>,
 ) -> Result<bool, Fail> {
-    let mut held = opened(rt, alloc)?;
+    let mut held = opened_with(rt, alloc, &FEDERATED)?;
     let mut input = source_of(alloc, input).expect(&rt, "an input");
     let mut out = MemSink::new(alloc, 4096, Vec::new(alloc)).expect(&rt, "a sink");
     let end = gate_serve(
@@ -44,7 +47,16 @@ fn is_served<R: Wait + Abort + Copy + Drop>(
 /// An input, the maximum number of its lines, what is written, and the end.
 type Case = (&'static [u8], u64, &'static str, Result<u64, GateError>);
 
-static INPUTS: [Case; 14] = [
+static INPUTS: [Case; 15] = [
+    (
+        b"allow prefix spiffe://example.org/w\ndeny domain example.org\nallow domain other.org\n---\n\
+          spiffe://example.org/w\nspiffe://example.org/wx\nspiffe://other.org/a\n\
+          spiffe://third.org/a\nx\n",
+        100,
+        "admitted 0 1 spiffe://example.org/w\ndenied 0 2 spiffe://example.org/wx\n\
+         admitted 0 3 spiffe://other.org/a\nno-bundle 0 spiffe://third.org/a\nbad-id 3\n",
+        Ok(5),
+    ),
     (
         b"allow prefix spiffe://example.org/w\n# no other\n\ndeny domain example.org\n---\n\
           spiffe://example.org/w\nspiffe://example.org/wx\nspiffe://third.org/a\nx",

@@ -6,13 +6,13 @@ mod build;
 #[cfg(test)]
 mod building;
 #[cfg(test)]
-mod either;
-#[cfg(test)]
 mod gate;
 #[cfg(test)]
 mod gate_late;
 #[cfg(test)]
 mod gate_serve;
+#[cfg(test)]
+mod places;
 #[cfg(test)]
 mod record;
 #[cfg(test)]

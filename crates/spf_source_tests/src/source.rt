@@ -6,9 +6,10 @@ ghost use Rattle.spf_feed.specs.Steps.{MayFollow};
 
 use spf_api::context_from;
 use spf_feed::{
-    Denial, NoPicker, Prepared, ResourceLimits, Step, X509SourceError, select_svid, validate_limits,
+    Denial, NoPicker, Prepared, ResourceLimits, Step, X509SourceError, X509SourceState,
+    select_svid, validate_limits,
 };
-use spf_fixtures::first_item;
+use spf_fixtures::{FIRST, context};
 use spf_id::TrustDomain;
 use spf_io::OutOfMemory;
 use spf_system::{Bell, StopFlag, closed_cell};
@@ -40,9 +41,9 @@ fn accepting(alloc: Global, context: X509Context) -> Result<Prepared, OutOfMemor
     Prepared::new(alloc, step)
 }
 
-/// The context of the item I1.
-fn first_context(alloc: Global) -> Result<X509Context, Fail> {
-    let item = first_item(alloc)?;
+/// The context of the item I1, with these federated bundles.
+fn first_context(alloc: Global, federated: &[(&str, &str)]) -> Result<X509Context, Fail> {
+    let item = context(alloc, &[FIRST], federated)?;
     let context = context_from(alloc, &item);
     drop(item);
     Ok(context?)
@@ -51,6 +52,7 @@ fn first_context(alloc: Global) -> Result<X509Context, Fail> {
 fn name_of(e: &X509SourceError) -> &'static str {
     match e {
         X509SourceError::NoSuitableSvid => "no SVID",
+        X509SourceError::Withdrawn(_) => "withdrawn",
         X509SourceError::Closed => "closed",
         _ => "another error",
     }
@@ -122,11 +124,24 @@ pub(crate) struct Held<R: Wait + Drop> {
     pub(crate) stop: StopFlag,
 }
 
+/// A source that accepted the item I1.
 pub(crate) fn opened<R: Wait + Abort + Copy + Drop>(rt: R, alloc: Global) -> Result<Held<R>, Fail>
     ensures pass { IfOk result (λ r. r.pass.book ≡ r.source.board) }
     ensures step { IfOk result (λ r. steps_of r.desk.list ≢ []) }
 {
-    let step = accepting(alloc, first_context(alloc)?)?;
+    opened_with(rt, alloc, &[])
+}
+
+/// A source that accepted the item I1 with these federated bundles.
+pub(crate) fn opened_with<R: Wait + Abort + Copy + Drop>(
+    rt: R,
+    alloc: Global,
+    federated: &[(&str, &str)],
+) -> Result<Held<R>, Fail>
+    ensures pass { IfOk result (λ r. r.pass.book ≡ r.source.board) }
+    ensures step { IfOk result (λ r. steps_of r.desk.list ≢ []) }
+{
+    let step = accepting(alloc, first_context(alloc, federated)?)?;
     let (desk, pass) = open(alloc, rt, step)?;
     let (caller, supervisor, watch) = closed_cell(alloc).expect(&rt, "a closed cell");
     drop(supervisor);
@@ -185,19 +200,20 @@ fn after_shutdown(rt: HostRuntime) -> Result<(), Fail> {
     Ok(())
 }
 
-/// Whether the last revision of updates is 0.
-fn has_last(updates: &mut X509SourceUpdates) -> bool {
+/// Whether that is the last revision of updates.
+fn has_last(updates: &mut X509SourceUpdates, revision: u64) -> bool {
     match updates.last() {
-        Ok(last) => last == 0,
+        Ok(last) => last == revision,
         Err(OutOfMemory) => false,
     }
 }
 
-/// Whether the state of updates has revision 0, and says accordingly whether the source is closed.
-fn has_state(updates: &mut X509SourceUpdates, is_closed: bool) -> bool {
+/// Whether the state of updates has that revision, and says accordingly whether the source is
+/// closed.
+fn has_state(updates: &mut X509SourceUpdates, revision: u64, is_closed: bool) -> bool {
     match updates.state() {
         Ok(state) => {
-            let found = state.revision() == 0 && state.is_closed() == is_closed;
+            let found = state.revision() == revision && state.is_closed() == is_closed;
             drop(state);
             found
         }
@@ -212,7 +228,7 @@ fn follows_first(source: &X509Source, pass: &mut Pass, is_closed: bool) -> bool
 {
     match source.updated(pass, &mut BoardPlaces::new()) {
         Ok(mut updates) => {
-            let found = has_last(&mut updates) && has_state(&mut updates, is_closed);
+            let found = has_last(&mut updates, 0) && has_state(&mut updates, 0, is_closed);
             drop(updates);
             found
         }
@@ -298,6 +314,72 @@ fn waits_for_a_change(rt: HostRuntime) -> Result<(), Fail> {
     assert!(rt; waits(&rt, &mut late, None, None));
     drop(late);
     drop(updates);
+    drop(held);
+    Ok(())
+}
+
+/// Whether a state is withdrawn for the published reason, at revision 1, and so are its getters.
+fn is_denial(state: &X509SourceState) -> bool {
+    let is_context = name_of_answer(state.context()) == "withdrawn";
+    let is_svid = name_of_answer(state.svid(Some(999))) == "withdrawn";
+    let is_reason = match state.withdrawal() {
+        Some(reason) => matches!(&**reason, Denial::NoIdentityIssued),
+        None => false,
+    };
+    is_context && is_svid && is_reason && state.revision() == 1
+}
+
+/// Whether a source shows the denial, and says accordingly whether it is closed.
+fn shows_denial(source: &X509Source, pass: &mut Pass, is_closed: bool) -> bool
+    requires { pass.old.book ≡ source.now.board }
+    ensures { pass.new.book ≡ pass.old.book }
+{
+    match source.state(pass) {
+        Ok(state) => {
+            let found = is_denial(&state) && state.is_closed() == is_closed;
+            drop(state);
+            found
+        }
+        Err(OutOfMemory) => false,
+    }
+}
+
+/// What the getters and updates return after a denial was read, before and after a shutdown.
+#[test]
+fn shutdown_after_denial(rt: HostRuntime) -> Result<(), Fail> {
+    let mut held = opened(rt, rt.alloc())?;
+    let domain = TrustDomain::new(rt.alloc(), "example.org").expect(&rt, "a trust domain");
+    assert!(rt; withdraw(rt.alloc(), &mut held.desk).is_ok());
+    assert!(rt; shows_denial(&held.source, &mut held.pass, false));
+    assert!(rt;
+        gives(
+            &held.source,
+            &mut held.pass,
+            &domain,
+            999,
+            "withdrawn",
+            "withdrawn"
+        )
+    );
+    let updates = held.source.updated(&mut held.pass, &mut BoardPlaces::new());
+    let mut updates = updates.expect(&rt, "updates");
+    held.source.shutdown();
+    assert!(rt;
+        gives(
+            &held.source,
+            &mut held.pass,
+            &domain,
+            999,
+            "closed",
+            "closed"
+        )
+    );
+    assert!(rt; shows_denial(&held.source, &mut held.pass, true));
+    assert!(rt; waits(&rt, &mut updates, None, None));
+    assert!(rt; has_last(&mut updates, 1));
+    assert!(rt; has_state(&mut updates, 1, true));
+    drop(updates);
+    drop(domain);
     drop(held);
     Ok(())
 }

@@ -134,11 +134,12 @@ fn written(alloc: Global, disk: &mut MemDisk, frames: &str) -> Result<u64, Fail>
 }
 
 /// The number that is found after this many steps of RECOVERY, which accept, deny and accept again.
+/// No step follows the third.
 fn number_after(steps: u64) -> Option<u64> {
     match steps {
+        0 | 2 => None,
         1 => Some(1),
-        3 => Some(3),
-        _ => None,
+        _ => Some(3),
     }
 }
 

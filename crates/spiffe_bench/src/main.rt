@@ -5,6 +5,7 @@
 mod arguments;
 mod bench_error;
 mod board;
+mod help;
 mod item;
 mod measure;
 mod publishing;
@@ -13,38 +14,30 @@ mod storm;
 
 use arguments::{Command, parse_command};
 use bench_error::BenchError;
+use help::{HELP, VERSION};
 use measure::measure_all;
 use spf_io::{Sink, StdSink};
-use spf_program::program_arguments;
+use spf_program::{program_arguments, put_about, report};
+use std::alloc::Global;
 use std::process::ExitCode;
 use std::sync::Wait;
 use std::thread::Threads;
 use std::time::Clock;
 use storm::storm;
 
-/// The text that is printed for wrong arguments.
-const HELP: &str = "\
-spiffe_bench - reads of a live source by several threads
+/// The status where standard output fails.
+const WRITE_FAILED: u8 = 4;
 
-Usage:
-  spiffe_bench reads THREADS READS
-  spiffe_bench storm THREADS ROUNDS
-
-THREADS is from 1 to 60, the other number from 1 to 1000000000. `reads` prints
-lines of what the writer does, the call, the threads, and the nanoseconds of one
-call. `storm` publishes rounds of a denial and two updates without pause, while
-each thread checks that revisions never fall and that what it reads belongs to
-one state; it prints `sound`, or ends with 1.
-";
+/// The line that says so.
+const NOT_WRITTEN: &str = "spiffe_bench: write failed\n";
 
 fn main(rt: HostRuntime) -> ExitCode {
     let mut out = StdSink::new(rt.stdout());
-    match run(rt, rt, &mut out) {
-        Ok(()) => ExitCode::from(0),
+    let mut errors = StdSink::new(rt.stderr());
+    match run(rt, rt, &mut out, &mut errors) {
+        Ok(status) => ExitCode::from(status),
         Err(error) => {
-            if error == BenchError::BadArguments {
-                let _ = StdSink::new(rt.stderr()).put(HELP.as_bytes());
-            }
+            report(&mut errors, "spiffe_bench: ", message_of(error), None);
             ExitCode::from(status_of(error))
         }
     }
@@ -52,33 +45,66 @@ fn main(rt: HostRuntime) -> ExitCode {
 
 fn status_of(error: BenchError) -> u8 {
     match error {
-        BenchError::Unsound => 1,
+        BenchError::BadArguments => 1,
         BenchError::OutOfMemory => 2,
-        BenchError::WriteFailed => 4,
-        BenchError::BadArguments => 9,
+        BenchError::WriteFailed => WRITE_FAILED,
+        BenchError::Unsound => 5,
         BenchError::NoThread => 12,
         BenchError::NoClock => 15,
     }
 }
 
-/// Does what the arguments ask for.
-fn run<R, K>(host: HostRuntime, rt: R, out: &mut K) -> Result<(), BenchError>
+fn message_of(error: BenchError) -> &'static str {
+    match error {
+        BenchError::BadArguments => "bad words\n",
+        BenchError::OutOfMemory => "out of memory\n",
+        BenchError::WriteFailed => "write failed\n",
+        BenchError::Unsound => "a read was not sound\n",
+        BenchError::NoThread => "no thread\n",
+        BenchError::NoClock => "no clock\n",
+    }
+}
+
+/// Does what the arguments ask for, and returns the exit status. `--help` and `--version`, alone,
+/// are answered here.
+fn run<R, K, E>(host: HostRuntime, rt: R, out: &mut K, errors: &mut E) -> Result<u8, BenchError>
+where
+    R: Threads + Wait + Clock + Copy + Drop + Send + 'static,
+    K: Sink,
+    E: Sink,
+{
+    let arguments = program_arguments(&host)?;
+    if let [argument] = arguments.as_slice() {
+        match argument.as_str() {
+            "--help" => return Ok(put_about(out, errors, HELP, WRITE_FAILED, NOT_WRITTEN)),
+            "--version" => return Ok(put_about(out, errors, VERSION, WRITE_FAILED, NOT_WRITTEN)),
+            _ => {}
+        }
+    }
+    match parse_command(arguments.as_slice()) {
+        Some(command) => execute(rt, host.alloc(), out, command),
+        None => Err(BenchError::BadArguments),
+    }
+}
+
+fn execute<R, K>(rt: R, alloc: Global, out: &mut K, command: Command) -> Result<u8, BenchError>
 where
     R: Threads + Wait + Clock + Copy + Drop + Send + 'static,
     K: Sink,
 {
-    let arguments = program_arguments(&host)?;
-    match parse_command(arguments.as_slice()) {
-        Some(Command::Reads { threads, reads }) => {
-            measure_all(rt, host.alloc(), out, threads, reads)
+    match command {
+        Command::Reads { threads, reads } => measure_all(rt, alloc, out, threads, reads)?,
+        Command::Storm { threads, rounds } => {
+            let _ = storm(rt, alloc, threads, rounds)?;
+            put_sound(out)?;
         }
-        Some(Command::Storm { threads, rounds }) => {
-            let _ = storm(rt, host.alloc(), threads, rounds)?;
-            match out.put(b"sound\n") {
-                Ok(()) => Ok(()),
-                Err(_) => Err(BenchError::WriteFailed),
-            }
-        }
-        None => Err(BenchError::BadArguments),
+    }
+    Ok(0)
+}
+
+fn put_sound<K: Sink>(out: &mut K) -> Result<(), BenchError> {
+    match out.put(b"sound\n") {
+        Ok(()) => Ok(()),
+        Err(_) => Err(BenchError::WriteFailed),
     }
 }

@@ -1,7 +1,7 @@
 //! Certificates, keys and SVIDs.
 
 use super::URI;
-use crate::shown::{has_debug_text, is_answered, is_refused, is_same};
+use crate::shown::{has_debug_text, is_answered, is_same};
 use crate::written::{LEAF, edited, written};
 use spf_der::write_key;
 use spf_fixtures::octets;
@@ -79,9 +79,15 @@ fn is_key(alloc: Global, key: &PrivateKey, der: Vec<u8>) -> bool {
         && has_debug_text(alloc, key, "PrivateKey { len: 15 }")
 }
 
+/// Whether the octets are refused as a key.
+fn is_no_key(alloc: Global, der: &[u8]) -> bool {
+    let refusal = "DecodePkcs8(Pkcs8DecodeError)";
+    is_answered(alloc, PrivateKey::try_from(alloc, der), refusal)
+}
+
 #[test]
 fn private_key(rt: HostRuntime) -> Result<(), Fail> {
-    assert!(rt; is_refused(PrivateKey::try_from(rt.alloc(), b"")));
+    assert!(rt; is_no_key(rt.alloc(), b""));
     let der = write_key(rt.alloc(), 1)?;
     let key = PrivateKey::try_from(rt.alloc(), der.as_slice())?;
     let same = is_key(rt.alloc(), &key, der);
@@ -144,6 +150,7 @@ const CHAINS: &[(&str, &str, &str)] = &[
         "KEY1",
         "Certificate(MissingX509Extension(BasicConstraints))",
     ),
+    // The row chain-limit.
     (
         "LEAF1 INTER1 00",
         "KEY1",
@@ -318,6 +325,11 @@ const LEAVES: &[(&str, &str, &str)] = &[
     ("861673", "a61673", ALT_NAMES),
     ("2f77", "2ff7", ALT_NAMES),
     ("2f77", "2f2e", "Certificate(InvalidSpiffeId(DotSegment))"),
+    (
+        "8616737069666665",
+        "8616535049464645",
+        "Certificate(InvalidSpiffeId(WrongScheme))",
+    ),
 ];
 
 /// Whether LEAF1 with one piece replaced by another, and KEY1, are refused with that error.

@@ -1,8 +1,9 @@
 //! Asks that are answered from a source of their own.
 
-use crate::either::{EitherPlaces, EitherSpawner};
+use crate::places::EitherPlaces;
 use crate::runs::doubles::{arguments, clock, connector_of, pause, sink};
 use spf_api::GrpcStatusCode;
+use spf_fixtures::EitherSpawner;
 use spf_gate_live::gate_live;
 use spf_io::{MemSink, MemSource};
 use spf_system::StepWords;

@@ -1,9 +1,9 @@
 //! Live runs over in-memory links: their lines and their statuses.
 
-use crate::either::{EitherPlaces, EitherSpawner};
+use crate::places::EitherPlaces;
 use crate::runs::doubles::{arguments, clock, connector_of, pause, sink};
 use spf_api::GrpcStatusCode;
-use spf_fixtures::is_written;
+use spf_fixtures::{EitherSpawner, is_written};
 use spf_io::MemSink;
 use spf_live::watch_live;
 use spf_system::StepWords;

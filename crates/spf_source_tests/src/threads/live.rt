@@ -3,7 +3,7 @@
 ghost use Rattle.std.specs.Prelude.{◌≡◌};
 
 use crate::threads::on_thread::{AgentJob, OnThread, start_on_thread};
-use spf_feed::{NoPicker, Step};
+use spf_feed::{Denial, NoPicker, Step, X509SourceState};
 use spf_fixtures::{
     Agent, AgentConnector, FixedClock, HeldRecorder, Marks, Scene, ShortPause, TURNS, is_set_soon,
 };
@@ -45,8 +45,25 @@ fn built<R: Threads + Wait + Abort + Copy + Drop + Send + 'static>(
     (source, pass, pending.started(handle))
 }
 
-/// A state that a source comes to: its revision, and whether it is a denial.
+/// A state that a source comes to: its revision, and whether it is the denial of the agent.
 type State = (u64, bool);
+
+/// Whether this is the denial of the agent, IS(7,`no`).
+fn is_no(denial: &Denial) -> bool {
+    match denial {
+        Denial::PermissionDenied(message) => message.as_str() == "no",
+        Denial::NoIdentityIssued => false,
+    }
+}
+
+/// Whether a state is that denial. None where it is another one.
+fn is_denied(state: &X509SourceState) -> Option<bool> {
+    match state.withdrawal() {
+        Some(reason) if is_no(reason) => Some(true),
+        Some(_) => None,
+        None => Some(false),
+    }
+}
 
 fn state_of(source: &X509Source, pass: &mut Pass) -> Option<State>
     requires { pass.old.book ≡ source.now.board }
@@ -54,9 +71,10 @@ fn state_of(source: &X509Source, pass: &mut Pass) -> Option<State>
 {
     match source.state(pass) {
         Ok(state) => {
-            let found = (state.revision(), state.withdrawal().is_some());
+            let revision = state.revision();
+            let is_denied = is_denied(&state);
             drop(state);
-            Some(found)
+            Some((revision, is_denied?))
         }
         Err(OutOfMemory) => None,
     }
@@ -207,10 +225,9 @@ static ROWS: [Row; 4] = [
         denials: &[false],
         last: (0, false),
     },
-    // The state is answered while the next item is held: the denial is read while the supervisor
-    // waits for the item after it, which comes only then.
+    // The denial is read while the supervisor waits for the item after it, which comes only then.
     Row {
-        name: "held_next",
+        name: "state_is_answered_while_next_is_held",
         scenes: &[("CN I1", None), ("CN IS7no", None), ("CN", Some("I1"))],
         turns: &[
             Turn::Held,
@@ -222,10 +239,9 @@ static ROWS: [Row; 4] = [
         denials: &[false, true, false],
         last: (2, false),
     },
-    // A shutdown between publish and record: a step is read and recorded whose supervisor is
-    // closed before it reaches its recorder.
+    // A step is read and recorded whose supervisor is closed before it reaches its recorder.
     Row {
-        name: "held_record",
+        name: "shutdown_between_publish_and_record",
         scenes: &[("CN I1", None), ("CN I1F", None)],
         turns: &[Turn::Held, Turn::Reads((1, false)), Turn::GoOn],
         seconds: 10,

@@ -3,10 +3,11 @@
 use spf_api::JwtBundleError;
 use spf_id::{SpiffeIdError, TrustDomain};
 use spf_io::{Bytes, OutOfMemory};
-use spf_jwt::{JwtAuthority, JwtBundle};
+use spf_jwt::{JwtAuthority, JwtBundle, JwtBundleSet};
 use std::alloc::Global;
 use std::mem::drop;
 use std::str;
+use std::sync::Arc;
 
 fn domain(alloc: Global) -> Result<TrustDomain, JwtBundleError> {
     match TrustDomain::new(alloc, "example.org") {
@@ -185,19 +186,57 @@ fn copied_key(alloc: Global) -> Result<JwtAuthority, JwtBundleError> {
     Ok(copy?)
 }
 
-/// A key set that was read again, with the copy of a key added.
+/// The bundle of a key set that was read again, with the copy of a key added.
+fn with_added_key(alloc: Global) -> Result<JwtBundle, JwtBundleError> {
+    let key = copied_key(alloc)?;
+    let mut bundle = keeping(alloc, KEPT)?;
+    bundle.add_jwt_authority(key)?;
+    Ok(bundle)
+}
+
+const ADDED: &str = "a={\"kid\":\"a\"} k={\"kid\":\"k\"} ";
+
 #[test]
 fn added_key(rt: HostRuntime) {
     let alloc = rt.alloc();
-    let key = copied_key(alloc).expect(&rt, "a key");
-    let mut bundle = keeping(alloc, KEPT).expect(&rt, "a bundle");
-    bundle.add_jwt_authority(key).expect(&rt, "memory");
+    let bundle = with_added_key(alloc).expect(&rt, "a bundle");
     let keys = keys_in(alloc, &bundle).expect(&rt, "memory");
-    assert!(rt;
-        keys.as_str() == "a={\"kid\":\"a\"} k={\"kid\":\"k\"} ",
-        "{keys}"
-    );
+    assert!(rt; keys.as_str() == ADDED, "{keys}");
     drop(keys);
     assert!(rt; !is_from(alloc, &bundle, "example.org", KEPT).expect(&rt, "a domain"));
     drop(bundle);
+}
+
+/// The set to which that bundle was added.
+fn set_of(alloc: Global, bundle: JwtBundle) -> Result<JwtBundleSet, OutOfMemory> {
+    let mut set = JwtBundleSet::new(alloc);
+    set.add_bundle(bundle)?;
+    Ok(set)
+}
+
+/// The keys of a bundle that was looked for; `none` where it was not found.
+fn keys_found(alloc: Global, found: Option<Arc<JwtBundle>>) -> Result<String, OutOfMemory> {
+    match found {
+        Some(bundle) => {
+            let keys = keys_in(alloc, &bundle);
+            drop(bundle);
+            keys
+        }
+        None => Ok(String::from_str(alloc, "none")?),
+    }
+}
+
+#[test]
+fn added_bundle(rt: HostRuntime) {
+    let alloc = rt.alloc();
+    let domain = domain(alloc).expect(&rt, "a domain");
+    let bundle = with_added_key(alloc).expect(&rt, "a bundle");
+    let set = set_of(alloc, bundle).expect(&rt, "memory");
+    assert!(rt; set.len() == 1);
+    let found = set.get(&domain).expect(&rt, "memory");
+    let keys = keys_found(alloc, found).expect(&rt, "memory");
+    assert!(rt; keys.as_str() == ADDED, "{keys}");
+    drop(keys);
+    drop(set);
+    drop(domain);
 }

@@ -22,14 +22,26 @@ fn refusal(alloc: Global, error: JwtSvidError) -> Result<String, OutOfMemory> {
     Ok(text?)
 }
 
-fn shown(alloc: Global, svid: &JwtSvid) -> Result<String, OutOfMemory> {
-    let id = svid.spiffe_id().as_str();
-    let audiences = svid.audience().len();
-    let key = svid.key_id().unwrap_or("-");
-    Ok(format!(in alloc; "{id} {audiences} {} {key}", svid.expiry())?)
+/// The audiences, each before a comma.
+fn audiences(alloc: Global, svid: &JwtSvid) -> Result<String, OutOfMemory> {
+    let mut text = String::new(alloc);
+    for audience in svid.audience() {
+        text.push_str(audience.as_str())?;
+        text.push(',')?;
+    }
+    Ok(text)
 }
 
-/// What a token says: the ID, how many audiences, the expiry and the key.
+fn shown(alloc: Global, svid: &JwtSvid) -> Result<String, OutOfMemory> {
+    let id = svid.spiffe_id().as_str();
+    let audiences = audiences(alloc, svid)?;
+    let key = svid.key_id().unwrap_or("-");
+    let text = format!(in alloc; "{id} {audiences} {} {key}", svid.expiry());
+    drop(audiences);
+    Ok(text?)
+}
+
+/// What a token says: the ID, the audiences, the expiry and the key.
 fn says(alloc: Global, token: &str) -> Result<String, OutOfMemory> {
     match JwtSvid::parse_insecure(alloc, token) {
         Ok(svid) => {
@@ -48,10 +60,9 @@ fn are_same(one: &Result<JwtSvid, JwtSvidError>, other: &Result<JwtSvid, JwtSvid
     }
 }
 
-/// Whether the other reading of a token is equal to the first.
-fn is_read_alike(alloc: Global, token: &str) -> bool {
+/// Whether another reading of a token is equal to the first.
+fn is_read_alike(alloc: Global, token: &str, other: Result<JwtSvid, JwtSvidError>) -> bool {
     let svid = JwtSvid::parse_insecure(alloc, token);
-    let other = JwtSvid::from_workload_api_token(alloc, token);
     let are_same = are_same(&svid, &other);
     drop(other);
     drop(svid);
@@ -75,8 +86,11 @@ fn is_copied(alloc: Global, token: &str) -> Result<bool, JwtSvidError> {
 fn token(rt: HostRuntime) {
     let alloc = rt.alloc();
     let text = says(alloc, TOKEN1).expect(&rt, "memory");
-    assert!(rt; text.as_str() == "spiffe://example.org/w 1 9 k1", "{text}");
-    assert!(rt; is_read_alike(alloc, TOKEN1));
+    assert!(rt; text.as_str() == "spiffe://example.org/w a, 9 k1", "{text}");
+    let given = JwtSvid::from_workload_api_token(alloc, TOKEN1);
+    assert!(rt; is_read_alike(alloc, TOKEN1, given));
+    let read = JwtSvid::from_str(alloc, TOKEN1);
+    assert!(rt; is_read_alike(alloc, TOKEN1, read));
     assert!(rt; is_copied(alloc, TOKEN1).expect(&rt, "a token"));
 }
 

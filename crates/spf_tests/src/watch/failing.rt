@@ -3,6 +3,7 @@
 use crate::watch::rows::ROWS;
 use crate::watch::running::{run, slow_source, source_of};
 use spf_fixtures::{octets, written_out};
+use spf_io::MemSource;
 use std::alloc::Global;
 use std::mem::drop;
 use std::process::Abort;
@@ -50,9 +51,23 @@ fn front(octets: &[u8], count: usize) -> &[u8] {
     }
 }
 
-/// Whether the row first-session, read octet by octet, fails at that read after the lines of the
-/// frames that were whole.
-fn fails_at_read(rt: &(impl Abort + AllocGlobal), lines: &str, taken: usize) -> Result<bool, Fail> {
+/// A status, and what is then on the error output.
+type End = (u8, &'static str);
+
+const READ_FAILED: End = (3, "spiffe_watch: read failed\n");
+
+const WRITE_FAILED: End = (4, "spiffe_watch: write failed\n");
+
+const WELL: End = (0, "");
+
+/// Whether the row first-session, read octet by octet with the read after that many failing, ends
+/// so after the lines of the frames that were whole.
+fn ends_at_read(
+    rt: &(impl Abort + AllocGlobal),
+    lines: &str,
+    taken: usize,
+    end: End,
+) -> Result<bool, Fail> {
     let (_, arguments, frames, _, _, _) = ROWS[0];
     let session = octets(rt.alloc(), frames)?;
     let count = whole_frames(front(session.as_slice(), taken));
@@ -62,9 +77,9 @@ fn fails_at_read(rt: &(impl Abort + AllocGlobal), lines: &str, taken: usize) -> 
         slow_source(rt, session, &[(taken as u64).saturating_add(1)]),
         &[],
     );
-    let fails = ran.is(first_lines(lines, count), 3, "spiffe_watch: read failed\n");
+    let ends = ran.is(first_lines(lines, count), end.0, end.1);
     drop(ran);
-    Ok(fails)
+    Ok(ends)
 }
 
 /// How many octets the row first-session has.
@@ -74,33 +89,61 @@ fn first_length(alloc: Global) -> Result<usize, Fail> {
 }
 
 /// The bytes of the row first-session one by one, where each read in turn fails. The lines of the
-/// frames that were whole are there.
+/// frames that were whole are there. A read after the last one is not reached.
 #[test]
 fn failing_reads(rt: HostRuntime) -> Result<(), Fail> {
     let lines = written_out(rt.alloc(), ROWS[0].3)?;
-    for taken in 0..first_length(rt.alloc())? {
-        assert!(rt; fails_at_read(&rt, lines.as_str(), taken)?, "at {taken}");
+    let length = first_length(rt.alloc())?;
+    for taken in 0..length {
+        assert!(rt;
+            ends_at_read(&rt, lines.as_str(), taken, READ_FAILED)?,
+            "at {taken}"
+        );
     }
+    assert!(rt; ends_at_read(&rt, lines.as_str(), length, WELL)?);
     Ok(())
 }
 
-/// Whether the row first-session fails at the put after that many, whose lines are there.
-fn fails_at_put(rt: &(impl Abort + AllocGlobal), lines: &str, put: usize) -> Result<bool, Fail> {
+/// Whether the row first-session, with the put after that many failing, ends so, and the lines of
+/// the puts before it are there.
+fn ends_at_put(
+    rt: &(impl Abort + AllocGlobal),
+    lines: &str,
+    put: usize,
+    end: End,
+) -> Result<bool, Fail> {
     let (_, arguments, frames, _, _, _) = ROWS[0];
     let source = source_of(rt.alloc(), octets(rt.alloc(), frames)?);
     let ran = run(rt, arguments, source, &[(put as u64).saturating_add(1)]);
-    let fails = ran.is(first_lines(lines, put), 4, "spiffe_watch: write failed\n");
+    let ends = ran.is(first_lines(lines, put), end.0, end.1);
     drop(ran);
-    Ok(fails)
+    Ok(ends)
 }
 
-/// The row first-session, where each put in turn fails. The lines before it are there.
+/// The row first-session, where each of its five puts in turn fails, the first as in the row
+/// failing-io. The lines before it are there. A put after the last one is not reached.
 #[test]
 fn failing_puts(rt: HostRuntime) -> Result<(), Fail> {
     let lines = written_out(rt.alloc(), ROWS[0].3)?;
     for put in 0..5 {
-        assert!(rt; fails_at_put(&rt, lines.as_str(), put)?, "at {put}");
+        assert!(rt;
+            ends_at_put(&rt, lines.as_str(), put, WRITE_FAILED)?,
+            "at {put}"
+        );
     }
+    assert!(rt; ends_at_put(&rt, lines.as_str(), 5, WELL)?);
+    Ok(())
+}
+
+/// The row failing-io: the second read of the row first-session, whose first gives one octet, fails.
+#[test]
+fn failing_second_read(rt: HostRuntime) -> Result<(), Fail> {
+    let session = octets(rt.alloc(), ROWS[0].2)?;
+    let failing = Vec::from_slice(rt.alloc(), &[2]).expect(&rt, "memory");
+    let source = MemSource::new(session, Vec::new(rt.alloc()), failing);
+    let ran = run(&rt, ROWS[0].1, source, &[]);
+    assert!(rt; ran.is("", READ_FAILED.0, READ_FAILED.1));
+    drop(ran);
     Ok(())
 }
 
