@@ -43,10 +43,13 @@ pub(crate) fn refusals_after<T>(refused: u64, outcome: &Result<T, ClientFault>) 
     }
 }
 
-/// The text of an endpoint that breaks a rule.
+/// What says why an endpoint was not parsed.
 fn unreachable(alloc: Global, e: &EndpointError) -> ClientFault
     ensures { IsNoStatus result }
 {
+    if let EndpointError::OutOfMemory = e {
+        return ClientFault::OutOfMemory;
+    }
     match format!(in alloc; "{e}") {
         Ok(text) => ClientFault::Unreachable(Text::new(text)),
         Err(_) => ClientFault::OutOfMemory,

@@ -4,7 +4,7 @@ ghost use Rattle.std.specs.Prelude.{◌≡◌, None};
 ghost use Rattle.spf_system.specs.Tracked.{is_news, tracked_after};
 
 /// What kind of error an attempt met.
-#[derive(Clone, Copy, Debug, PartialEq, Eq)]
+#[derive(Clone, Copy, Debug, PartialEq, Eq, Hash)]
 pub enum ErrorKey {
     /// A client could not be made.
     ClientCreation,

@@ -7,7 +7,7 @@ ghost use Rattle.spf_system.specs.Bounds.{normalized};
 use std::time::Duration;
 
 /// The least and the greatest delay between attempts.
-#[derive(Clone, Copy, PartialEq, Eq)]
+#[derive(Clone, Copy, Debug, PartialEq, Eq)]
 pub struct ReconnectConfig {
     pub min_backoff: Duration,
     pub max_backoff: Duration,

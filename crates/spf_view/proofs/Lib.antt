@@ -2,6 +2,7 @@ pub mod Known
 pub mod ViewLemmas
 pub mod HeldLemmas
 pub mod RevisionLemmas
+pub mod GrowthLemmas
 pub mod StandsLemmas
 pub mod AfterLemmas
 pub mod EventLemmas

@@ -1,7 +1,7 @@
 //! Laws of the definitions that contracts cite. No law has a body: its contract is its statement.
 
-ghost use Rattle.std.specs.Prelude.{◌≡◌, ◌≢◌, ℕ, ◌+◌, ◌-◌, ◌^◌, ◌<◌, Bool, true, if◌then◌else◌};
-ghost use Rattle.std.specs.Prelude.{List, [], ◌∷◌, ◌++◌, take};
+ghost use Rattle.std.specs.Prelude.{◌≡◌, ◌≢◌, ℕ, ◌+◌, ◌-◌, ◌^◌, ◌<◌, ◌≤◌, Bool, true};
+ghost use Rattle.std.specs.Prelude.{if◌then◌else◌, List, [], ◌∷◌, ◌++◌, take};
 ghost use Rattle.std.specs.Cmp.{IsEquivalence};
 ghost use Rattle.std.specs.List.{flat_map, AllByRecursion};
 ghost use Rattle.std.specs.Option.{option_to_list};
@@ -69,6 +69,12 @@ pub fn revision_counts_changes<E, M, L, D>()
         → revision_after s events < 2 ^ 64 - 1 →
         revision_after s (events ++ e ∷ [])
         ≡ (if s.is_same m n then revision_after s events else revision_after s events + 1) }
+{}
+
+/// More steps never lower the revision.
+pub fn revision_never_falls<M, L, D>()
+    ensures { (eq : M → M → Bool) (steps more : List (Step M L D))
+        → replay_revision eq steps ≤ replay_revision eq (steps ++ more) }
 {}
 
 /// What is kept for steps has the revision, the reason and the held

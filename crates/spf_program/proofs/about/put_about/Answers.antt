@@ -18,7 +18,8 @@ returns-in-Ok g c =
 pub returns-in-Err : goal.returns-in-Err
 returns-in-Err g c =
     let errors = side (g.E.Sink.held c.args.errors.now) (g.E.Sink.failures c.args.errors.now) in
-    let errors' = side (g.E.Sink.held c.put-in-Err.new.self) (g.E.Sink.failures c.put-in-Err.new.self) in
+    let errors' = side (g.E.Sink.held c.put-in-Err.new.self)
+    (g.E.Sink.failures c.put-in-Err.new.self) in
     record {
       put = c.put.result;
       appends = rw c.as_bytes.ensures.value at c.put.ensures.bytes;
