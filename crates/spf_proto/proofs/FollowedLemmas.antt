@@ -9,6 +9,7 @@ use Rattle.spf_api.specs.declared.response.ContextResponse.{ContextResponse}
 use Rattle.spf_view.specs.Sessions.{onto, Ports, Followed}
 use Rattle.spf_view.specs.Views.{has_synced}
 use Rattle.spf_feed.specs.declared.follow_error.FollowError.{FollowError}
+use Rattle.spf_feed.specs.declared.follow_error.FollowError.TheVariants as follow_errors
 use Rattle.spf_feed.specs.declared.record.MetricsRecord.{MetricsRecord}
 use Rattle.spf_feed.specs.declared.turn.Terminal.TheVariants as terminal
 use Rattle.spf_feed.specs.Items.{Event, Rules, subject}
@@ -23,14 +24,16 @@ use Rattle.spf_proto.specs.declared.taking.Stop.TheVariants as stops
 use Rattle.spf_proto.specs.Beginning.{Beginning}
 use Rattle.spf_proto.specs.Body.{message_at, body_within}
 use Rattle.spf_proto.specs.Ends.{IsReasonOf, IsResultOf, begun, error_of}
-use Rattle.spf_proto.specs.FrameEnds.{end_by}
+use Rattle.spf_proto.specs.FrameEnds.{end_by, result_of_end}
 use Rattle.spf_proto.specs.Following.{is_due, is_free, answer_of, OutputState, FollowsBody}
-use Rattle.spf_proto.specs.Following.{BodyFollowed}
+use Rattle.spf_proto.specs.Following.{BodyFollowed, CutShort, HandsOnBeginning, cuts_line}
+use Rattle.spf_proto.specs.Following.{cuts_steps}
 use Rattle.spf_proto.specs.Translated.{frames_from, moment_frame, session_of}
 use Rattle.spf_proto.specs.Translator.{Translating, IsTranslator, left_of}
 use Rattle.spf_proto.proofs.BodySessions.{undated, shut, body_frames, open_session, read_session}
 use Rattle.spf_proto.proofs.LaidMessages.{body_laid, body_count}
 use Rattle.spf_proto.proofs.GivenLemmas.{held, Given, IsKnown, IsGiven, known, rest_is, given_by}
+use Rattle.spf_proto.proofs.BeginningLemmas.{beginning_by, line_kept, steps_kept, may_be_cut}
 use Rattle.spf_proto.proofs.AnswerLemmas.{none_more, body_of, answer_synced, answer_many}
 use Rattle.spf_proto.proofs.AnswerLemmas.{answer_bad}
 
@@ -90,7 +93,24 @@ follows rules start max bytes old new r messages rest reading g answer = record 
 abbrev Answered : Rules → ℤ → ℕ → List ℕ → Ports PlainStep MetricsRecord
     → Ports PlainStep MetricsRecord → Result ℕ ProtoError → Type 0
 Answered rules start max bytes old new r =
-    IsTrue (is_free r) ⊎ FollowsBody rules start max bytes (held old) (held new) r
+    CutShort rules start max bytes (held old) (held new) r
+    ⊎ FollowsBody rules start max bytes (held old) (held new) r
+
+-- a beginning of what the session of a body gives
+abbrev BodyBegun : Rules → ℤ → ℕ → List ℕ → Ports PlainStep MetricsRecord
+    → Ports PlainStep MetricsRecord → Bool → Bool → Type 0
+BodyBegun rules start max bytes old new line_cut steps_cut =
+    HandsOnBeginning rules (session_of rules start (body_within max bytes).0) line_cut steps_cut
+    (held old) (held new)
+
+cut_by : (rules : Rules) (start : ℤ) (max : ℕ) (bytes : List ℕ)
+    (old new : Ports PlainStep MetricsRecord) (r end : Result ℕ ProtoError) → r ≡ end
+    → IsTrue (is_free end)
+    → BodyBegun rules start max bytes old new (cuts_line end) (cuts_steps end)
+    → Answered rules start max bytes old new r
+cut_by rules start max bytes old new r end is free part =
+    subst (λ (r : Result ℕ ProtoError). Answered rules start max bytes old new r) (sym is)
+    (inl (record { free = free; given = part }))
 
 -- where nothing is ready and nothing more is a message, nothing is left
 nothing_left : {T : Type 0} (loan : T → ℕ) (left : T → Option (List ℕ)) (failures : T → ℕ)
@@ -110,17 +130,20 @@ stopped : {T : Type 0} (loan : T → ℕ) (left : T → Option (List ℕ)) (fail
     (b : Beginning) (t : Translating T) (rules : Rules) (bytes : List ℕ)
     (old new : Ports PlainStep MetricsRecord) (r : Result ℕ ProtoError) (stop : Stop)
     → IsTranslator loan left failures b t → b.left ≡ Some bytes
+    → BodyBegun rules b.start b.max bytes old new false false
     → (left_of left b.rules b.start t ≡ Some []
     → Given rules (session_of rules b.start (body_within b.max bytes).0) old new)
     → r ≡ Err (error_of b.max t.allowed stop) → IsReasonOf left failures b t stop
     → Answered rules b.start b.max bytes old new r
-stopped loan left failures b t rules bytes old new r stops.SourceFailed i first g is reason =
-    subst (λ (r : Result ℕ ProtoError). Answered rules b.start b.max bytes old new r) (sym is)
-    (inl refl)
-stopped loan left failures b t rules bytes old new r stops.OutOfMemory i first g is reason =
-    subst (λ (r : Result ℕ ProtoError). Answered rules b.start b.max bytes old new r) (sym is)
-    (inl refl)
-stopped loan left failures b t rules bytes old new r stops.TooManyMessages i first g is
+stopped loan left failures b t rules bytes old new r stops.SourceFailed i first part g is reason =
+    cut_by rules b.start b.max bytes old new r (Err (errors.Follow follow_errors.ReadFault)) is refl
+    part
+stopped loan left failures b t rules bytes old new r stops.OutOfMemory i first part g is reason =
+    cut_by rules b.start b.max bytes old new r (Err (errors.Follow follow_errors.OutOfMemory)) is
+    refl
+    (may_be_cut rules (session_of rules b.start (body_within b.max bytes).0) true true (held old)
+    (held new) part)
+stopped loan left failures b t rules bytes old new r stops.TooManyMessages i first part g is
     (some, full, ready) =
     let more = tells loan left failures b t bytes i first in
     let stop : body_within t.allowed (t.got ++ more.0) ≡ ([], t.got ++ more.0) =
@@ -131,7 +154,7 @@ stopped loan left failures b t rules bytes old new r stops.TooManyMessages i fir
     inr (follows rules b.start b.max bytes old new r i.messages (t.got ++ more.0) body.read (g none)
     (is ∙ sym (answer_many rules b.start b.max i.messages (t.got ++ more.0)
     (some_more t.got more.0 some) (omega (arith, counted, full)))))
-stopped loan left failures b t rules bytes old new r stops.BadMessage i first g is
+stopped loan left failures b t rules bytes old new r stops.BadMessage i first part g is
     (some, allowed, ready, none) =
     let more = tells loan left failures b t bytes i first in
     let bad : message_at (t.got ++ more.0) ≡ None =
@@ -213,10 +236,12 @@ pub answered : {T : Type 0} (loan : T → ℕ) (left : T → Option (List ℕ)) 
     (b : Beginning) (t : Translating T) (rules : Rules) (bytes : List ℕ)
     (old new : Ports PlainStep MetricsRecord) (end : FrameEnd) (r : Result ℕ ProtoError)
     → IsTranslator loan left failures b t → b.left ≡ Some bytes
+    → BodyBegun rules b.start b.max bytes old new (cuts_line (result_of_end end))
+    (cuts_steps (result_of_end end))
     → IsGiven rules (session_of rules b.start (body_within b.max bytes).0) old new end
     → IsResultOf left failures b new.left t end r
     → Answered rules b.start b.max bytes old new r
-answered loan left failures b t rules bytes old new (ends.Whole n) r i first
+answered loan left failures b t rules bytes old new (ends.Whole n) r i first part
     (count, synced, none, g) (keeps, inl (is, end)) =
     let here = keeps_none new.left (left_of left b.rules b.start t) none keeps in
     let body = ended loan left failures b t bytes i first here end in
@@ -225,10 +250,10 @@ answered loan left failures b t rules bytes old new (ends.Whole n) r i first
     (is ∙ ap Ok (count ∙ ap length all)
     ∙ sym (answer_synced rules b.start b.max i.messages true
     (ap (λ (l : List Event). has_synced (subject rules) (onto [] l)) (sym all) ∙ synced))))
-answered loan left failures b t rules bytes old new (ends.Whole n) r i first
+answered loan left failures b t rules bytes old new (ends.Whole n) r i first part
     (count, synced, none, g) (keeps, inr (stop, is, reason)) =
-    stopped loan left failures b t rules bytes old new r stop i first (λ none. g) is reason
-answered loan left failures b t rules bytes old new ends.NeverSynced r i first
+    stopped loan left failures b t rules bytes old new r stop i first part (λ none. g) is reason
+answered loan left failures b t rules bytes old new ends.NeverSynced r i first part
     (synced, none, g) (keeps, inl (is, end)) =
     let here = keeps_none new.left (left_of left b.rules b.start t) none keeps in
     let body = ended loan left failures b t bytes i first here end in
@@ -237,19 +262,19 @@ answered loan left failures b t rules bytes old new ends.NeverSynced r i first
     (is
     ∙ sym (answer_synced rules b.start b.max i.messages false
     (ap (λ (l : List Event). has_synced (subject rules) (onto [] l)) (sym all) ∙ synced))))
-answered loan left failures b t rules bytes old new ends.NeverSynced r i first
+answered loan left failures b t rules bytes old new ends.NeverSynced r i first part
     (synced, none, g) (keeps, inr (stop, is, reason)) =
-    stopped loan left failures b t rules bytes old new r stop i first (λ none. g) is reason
-answered loan left failures b t rules bytes old new ends.ReadFault r i first
+    stopped loan left failures b t rules bytes old new r stop i first part (λ none. g) is reason
+answered loan left failures b t rules bytes old new ends.ReadFault r i first part
     (here, g) (keeps, (stop, is, reason)) =
-    stopped loan left failures b t rules bytes old new r stop i first
+    stopped loan left failures b t rules bytes old new r stop i first part
     (λ none. g (kept_none new.left (left_of left b.rules b.start t) here keeps none)) is reason
-answered loan left failures b t rules bytes old new ends.WriteFault r i first g is =
-    subst (λ (r : Result ℕ ProtoError). Answered rules b.start b.max bytes old new r) (sym is)
-    (inl refl)
-answered loan left failures b t rules bytes old new ends.OutOfMemory r i first g is =
-    subst (λ (r : Result ℕ ProtoError). Answered rules b.start b.max bytes old new r) (sym is)
-    (inl refl)
+answered loan left failures b t rules bytes old new ends.WriteFault r i first part g is =
+    cut_by rules b.start b.max bytes old new r (Err (errors.Follow follow_errors.WriteFault)) is
+    refl part
+answered loan left failures b t rules bytes old new ends.OutOfMemory r i first part g is =
+    cut_by rules b.start b.max bytes old new r (Err (errors.Follow follow_errors.OutOfMemory)) is
+    refl part
 
 early : (deadline : Option ℤ) (start : ℤ) → is_due deadline start ≡ false
     → timed_out deadline start ≡ None
@@ -292,7 +317,18 @@ followed_body loan left failures b t rules seconds old new followed end r i star
         subst (λ (e : FrameEnd). IsGiven rules (session_of rules b.start ms) old new e) (sym end_is)
         (subst (λ (s : ℤ). IsGiven rules (session_of rules s ms) old new (end_by followed))
         (sym start) g) in
-        answered loan left failures b t rules bytes old new end r i first g' result
+        let part = beginning_by rules (2 ^ 64 - 1) (body_frames rules seconds ms)
+        (session_of rules (pos seconds) ms) old new (end_for followed)
+        (cuts_line (result_of_end (end_by followed))) (cuts_steps (result_of_end (end_by followed)))
+        going is (line_kept followed) (steps_kept followed) f in
+        let part' : BodyBegun rules b.start b.max bytes old new (cuts_line (result_of_end end))
+        (cuts_steps (result_of_end end)) =
+        subst (λ (e : FrameEnd). BodyBegun rules b.start b.max bytes old new
+        (cuts_line (result_of_end e)) (cuts_steps (result_of_end e))) (sym end_is)
+        (subst (λ (s : ℤ). BodyBegun rules s b.max bytes old new
+        (cuts_line (result_of_end (end_by followed)))
+        (cuts_steps (result_of_end (end_by followed)))) (sym start) part) in
+        answered loan left failures b t rules bytes old new end r i first part' g' result
 
 -- what a translation that has not begun has left
 pub begun_left : {T : Type 0} (left : T → Option (List ℕ)) (b : Beginning) (rules : Rules)

@@ -13,6 +13,7 @@ pub mod BodyErrorLemmas
 pub mod LaidMessages
 pub mod BodySessions
 pub mod GivenLemmas
+pub mod BeginningLemmas
 pub mod AnswerLemmas
 pub mod FollowedLemmas
 pub mod WatchLemmas

@@ -8,25 +8,28 @@ use Rattle.std.proofs.KnownBytes.{Appends-nil}
 use Rattle.spf_io.specs.declared.memory.Failed.{Failed}
 use Rattle.spf_io.specs.Outside.{HasCause, PutAppends, Rose}
 use Rattle.spf_api.specs.declared.response.ContextResponse.{ContextResponse}
-use Rattle.spf_view.specs.Sessions.{onto}
+use Rattle.spf_view.specs.Sessions.{GrowsUpTo, all_of, onto}
 use Rattle.spf_view.specs.Views.{has_synced}
 use Rattle.spf_feed.specs.declared.follow_error.FollowError.TheVariants as follow_errors
 use Rattle.spf_feed.specs.declared.limits.ResourceLimits.{ResourceLimits}
 use Rattle.spf_feed.specs.declared.ready.Ready.TheVariants as readiness
 use Rattle.spf_feed.specs.Items.{Rules, rules_with, subject}
 use Rattle.spf_feed.specs.Limits.{default_limits}
+use Rattle.spf_feed.specs.Run.{stream, outputs}
 use Rattle.spf_proto.specs.declared.proto_error.ProtoError.{ProtoError}
 use Rattle.spf_proto.specs.declared.proto_error.ProtoError.TheVariants as errors
 use Rattle.spf_proto.specs.BodyErrors.{RefusedFor}
 use Rattle.spf_proto.specs.Following.{answer_of, BodyFollowed, FollowsBody, HasCauses, OutputState}
-use Rattle.spf_proto.specs.Following.{is_free, OnlyThese}
+use Rattle.spf_proto.specs.Following.{cuts_line, cuts_steps, is_free, OnlyThese}
 use Rattle.spf_proto.specs.Translated.{session_of}
 use Rattle.spf_program.specs.Reports.{IsReported, failure_line}
 use Rattle.spf_proto.specs.Watching.{message, number, Completes, Follows, Headline}
-use Rattle.spf_proto.specs.Watching.{IsWholeBody, line_of_end, max_messages, PrintsBody}
+use Rattle.spf_proto.specs.Watching.{IsWholeBody, line_of_end, max_messages, PrintsBeginning}
+use Rattle.spf_proto.specs.Watching.{PrintsBody}
 use Rattle.spf_program.specs.Streams.{Side, Streams}
 use Rattle.spf_proto.specs.Watching.{program_rules, Runs, shown, status, status_of_end}
 use Rattle.spf_proto.proofs.AnswerLemmas.{answer_synced, some_rest}
+use Rattle.spf_proto.proofs.BeginningLemmas.{all_lines, lines_of}
 
 -- ---- reports
 
@@ -177,7 +180,8 @@ printed : (start : ℤ) (left : Option (List ℕ)) (old new : OutputState) (coun
     → BodyFollowed program_rules start max_messages left old new (Ok count)
     → IfSome left (PrintsBody start old.held new.held)
 printed start None old new count followed = tt
-printed start (Some bytes) old new count (inl free) = absurd cc
+printed start (Some bytes) old new count (inl cut) =
+    let free : false ≡ true = cut.free in absurd cc
 printed start (Some bytes) old new count (inr f) =
     let whole = answer_whole program_rules start max_messages f.messages f.rest count f.answer in
     record {
@@ -204,6 +208,36 @@ pub headline_of : (o : Option ℤ) (passed start : ℤ) (input input' output out
 headline_of o passed start input input' output output' end n some same f is zero =
     subst (λ (x : Option ℤ). Headline x input.bytes output.bytes output'.bytes)
     (ap Some same ∙ some) (by_end passed input input' output output' end (sym is ∙ zero) f)
+
+-- ---- the beginning
+
+begun : (start : ℤ) (left : Option (List ℕ)) (old new : OutputState) (end : Result ℕ ProtoError)
+    → BodyFollowed program_rules start max_messages left old new end
+    → PrintsBeginning (Some start) left old.held new.held
+begun start None old new end followed = tt
+begun start (Some bytes) old new end (inl cut) =
+    lines_of program_rules _ (cuts_line end) (cuts_steps end) old new cut.given
+begun start (Some bytes) old new end (inr f) =
+    subst (λ (p : List ContextResponse × List ℕ). GrowsUpTo old.held new.held
+    (all_of (stream program_rules) (outputs program_rules).line []
+    (session_of program_rules start p.0)) true) (sym f.reading)
+    (all_lines old.held new.held
+    (all_of (stream program_rules) (outputs program_rules).line []
+    (session_of program_rules start f.messages)) f.given.lines)
+
+pub beginning_of : (o : Option ℤ) (passed start : ℤ) (input input' output output' : Side)
+    (end : Result ℕ ProtoError) → Some start ≡ o → passed ≡ start
+    → Follows passed input input' output output' end
+    → PrintsBeginning o input.bytes output.bytes output'.bytes
+beginning_of o passed start input input' output output' end some same f =
+    subst (λ (x : Option ℤ). PrintsBeginning x input.bytes output.bytes output'.bytes)
+    (ap Some same ∙ some)
+    (begun passed input.bytes (shown output) (shown output') end f.followed)
+
+pub unprinted : (o : Option ℤ) (left held held' : Option (List ℕ)) → None ≡ o → held' ≡ held
+    → PrintsBeginning o left held held'
+unprinted o left held held' none same =
+    subst (λ (x : Option ℤ). PrintsBeginning x left held held') none same
 
 -- ---- completeness
 
@@ -262,8 +296,8 @@ completes_left : (start : ℤ) (left : Option (List ℕ)) (old new : OutputState
     → IfSome left (λ bytes. IsWholeBody start bytes → (Rose reads reads' → ⊥)
     → (Rose writes writes' → ⊥) → (status_of_end end ≡ 0) ⊎ (status_of_end end ≡ 2))
 completes_left start None old new reads reads' writes writes' end followed cause = tt
-completes_left start (Some bytes) old new reads reads' writes writes' end (inl free) cause =
-    λ body calm still. free_end reads reads' writes writes' end cause calm still free
+completes_left start (Some bytes) old new reads reads' writes writes' end (inl cut) cause =
+    λ body calm still. free_end reads reads' writes writes' end cause calm still cut.free
 completes_left start (Some bytes) old new reads reads' writes writes' end (inr f) cause =
     λ body calm still. inl (whole_end start bytes old new end body f)
 

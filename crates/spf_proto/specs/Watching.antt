@@ -3,7 +3,7 @@ use Rattle.std.specs.Prelude.{◌≡◌, ◌⊎◌, ℕ, ℤ, true, List, [], co
 use Rattle.std.specs.Prelude.{Option, None, Some, IfSome, Result, Ok, Err}
 use Rattle.spf_io.specs.Outside.{Rose}
 use Rattle.spf_api.specs.declared.response.ContextResponse.{ContextResponse}
-use Rattle.spf_view.specs.Sessions.{Grows, all_of, onto}
+use Rattle.spf_view.specs.Sessions.{Grows, GrowsUpTo, all_of, onto}
 use Rattle.spf_view.specs.Views.{has_synced}
 use Rattle.spf_feed.specs.declared.ready.Ready.TheVariants as readiness
 use Rattle.spf_feed.specs.Items.{Rules, rules_with, subject}
@@ -101,6 +101,16 @@ pub record PrintsBody (start : ℤ) (held held' : Option (List ℕ)) (bytes : Li
 abbrev pub Headline : Option ℤ → Option (List ℕ) → Option (List ℕ) → Option (List ℕ) → Type 0
 Headline None left held held' = Unit {0}
 Headline (Some start) left held held' = IfSome left (PrintsBody start held held')
+
+-- Whatever the end, the output grew by a beginning of the lines of the session that the bytes of
+-- the input stand for, where they are known; without a moment it did not grow.
+abbrev pub PrintsBeginning : Option ℤ → Option (List ℕ) → Option (List ℕ) → Option (List ℕ) → Type 0
+PrintsBeginning None left held held' = held' ≡ held
+PrintsBeginning (Some start) left held held' =
+    IfSome left
+    (λ bytes. GrowsUpTo held held'
+    (all_of (stream program_rules) (outputs program_rules).line []
+    (session_of program_rules start (body_within max_messages bytes).0)) true)
 
 -- a whole body is followed to its end, or memory runs out, where neither input nor output failed
 abbrev pub Completes : Option ℤ → Side → Side → Side → Side → ℕ → Type 0

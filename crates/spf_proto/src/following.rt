@@ -134,7 +134,8 @@ pub fn follow_proto<S: Source, K: Sink, P: Publisher, M: MetricsRecorder, C: Svi
     requires picker { ForSome picker (λ p. C.can_pick p.now) }
     requires start { IsTrue (int_le (pos 0) start) }
     // The bytes fix the result: the messages with which they begin are followed as the session that
-    // they stand for, whose lines, steps and records are handed on whole.
+    // they stand for, whose lines, steps and records are handed on whole. Where reading or writing
+    // fails or memory runs out, a beginning of these is handed on, in order.
     ensures followed { is_due deadline start ≡ false → BodyFollowed
         (rules_with limits deadline ready (option_map (λ p. C.picks p.now) picker.entry)) start
         max_messages (S.left source.old)

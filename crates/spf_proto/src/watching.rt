@@ -4,7 +4,7 @@ ghost use Rattle.std.specs.Prelude.{◌≡◌, ◌↔◌, None, IsTrue, int_le, 
 ghost use Rattle.spf_io.specs.Outside.{Rose};
 ghost use Rattle.spf_proto.specs.Arguments.{start_in};
 ghost use Rattle.spf_program.specs.Streams.{Streams, side};
-ghost use Rattle.spf_proto.specs.Watching.{Completes, Follows, Headline, Runs};
+ghost use Rattle.spf_proto.specs.Watching.{Completes, Follows, Headline, PrintsBeginning, Runs};
 
 use crate::arguments::start_of;
 use crate::following::follow_proto;
@@ -74,6 +74,9 @@ pub fn proto_watch<S: Source, K: Sink, E: Sink>(
         Runs (start_in (map string_bytes arguments.now)) before after result }
     // Status 0: the input was a whole body, and the output is the lines of its session.
     ensures headline { result ≡ 0 → Headline (start_in (map string_bytes arguments.now))
+        (S.left source.old) (K.held out.old) (K.held out.new) }
+    // Whatever the status, the output is a beginning of the lines of the session of the input.
+    ensures beginning { PrintsBeginning (start_in (map string_bytes arguments.now))
         (S.left source.old) (K.held out.old) (K.held out.new) }
     // A whole body with an accepted message, within the bound
     // and without a failure, ends with 0, or out of memory.

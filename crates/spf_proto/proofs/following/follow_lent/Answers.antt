@@ -3,6 +3,7 @@ use Rattle.spf_feed.specs.Items.{rules_with}
 use Rattle.std.specs.Option.{option_map}
 use Rattle.spf_proto.specs.Beginning.{Beginning}
 use Rattle.spf_proto.specs.Following.{is_due}
+use Rattle.spf_proto.proofs.BeginningLemmas.{cut_at_start}
 use Rattle.spf_proto.proofs.BodyErrorLemmas.{result_tells}
 use Rattle.spf_proto.proofs.EndLemmas.{causes_of}
 use Rattle.spf_proto.proofs.FollowedLemmas.{begun_left, followed_body, followed_since}
@@ -42,3 +43,6 @@ returns-clause-followed g c =
     c.of-end.result c.result_of-result.result c.into_source.ensures.knows start c.requires.small
     few due frames c.follow_x509_sharing-followed.ensures.followed c.of-end.ensures
     c.result_of-result.ensures)
+
+pub returns-in_default-clause-followed : goal.returns-in_default-clause-followed
+returns-in_default-clause-followed g c = cut_at_start _ _ _ _ _
