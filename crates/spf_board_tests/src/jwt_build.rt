@@ -5,7 +5,7 @@ ghost use Rattle.std.specs.Prelude.{◌≡◌};
 
 use crate::jwt_links::{good, refusing};
 use spf_api::{ClientFault, EndpointError, GrpcStatusCode, WorkloadApiError};
-use spf_fixtures::{EitherSpawner, FixedClock};
+use spf_fixtures::{EitherSpawner, FixedClock, Pauses, SummedPause};
 use spf_io::{OutOfMemory, Text};
 use spf_jwt_feed::{JwtSourceError, NoRecorder};
 use spf_jwt_source::{
@@ -13,61 +13,13 @@ use spf_jwt_source::{
     RefusingPlaces,
 };
 use spf_link::{Connector, MemConnector, MemLink};
-use spf_system::{Job, Joins, MemClock, Pause, StepWords};
+use spf_system::{Job, Joins, MemClock, StepWords};
 use std::alloc::Global;
 use std::process::Abort;
-use std::sync::atomic::{AtomicU64, Ordering};
 use std::sync::{Arc, Wait};
 use std::time::Duration;
 
 type Builder<C> = JwtSourceBuilder<C, NoRecorder>;
-
-/// How many delays there were, and their nanoseconds.
-#[derive(Drop)]
-struct Delays {
-    count: AtomicU64,
-    nanos: AtomicU64,
-}
-
-impl Delays {
-    fn none() -> Delays {
-        Delays {
-            count: AtomicU64::new(0),
-            nanos: AtomicU64::new(0),
-        }
-    }
-
-    fn add(&self, delay: Duration) {
-        let nanos = u64::try_from(delay.as_nanos()).unwrap_or(u64::MAX);
-        self.count.fetch_add(1, Ordering::SeqCst);
-        self.nanos.fetch_add(nanos, Ordering::SeqCst);
-    }
-
-    fn sum(&self) -> (u64, u64) {
-        (
-            self.count.load(Ordering::SeqCst),
-            self.nanos.load(Ordering::SeqCst),
-        )
-    }
-}
-
-/// A pause that returns at once, and adds its delays to these.
-#[derive(Drop)]
-struct SummedPause {
-    delays: Arc<Delays>,
-}
-
-impl Pause for SummedPause {
-    ghost use Rattle.std.specs.Prelude.{None};
-
-    ghost delays = { λ _. None };
-
-    ghost room = { λ _. 0 };
-
-    fn pause(&mut self, delay: Duration) {
-        self.delays.add(delay);
-    }
-}
 
 fn name_of(error: &JwtSourceError) -> &'static str {
     match error {
@@ -134,9 +86,9 @@ where
     C::Link: Drop,
     L: JwtPlaces,
 {
-    let delays = Arc::new(alloc, Delays::none()).expect(&rt, "memory");
+    let pauses = Pauses::none(alloc).expect(&rt, "memory");
     let pause = SummedPause {
-        delays: Arc::try_clone(&delays).expect(&rt, "memory"),
+        pauses: Arc::try_clone(&pauses).expect(&rt, "memory"),
     };
     let moments = vec![in alloc; Some(5), Some(9)].expect(&rt, "memory");
     let mut clock = MemClock::new(moments);
@@ -167,9 +119,9 @@ where
             name
         }
     };
-    let sum = delays.sum();
+    let sum = pauses.sum();
     drop(clock);
-    drop(delays);
+    drop(pauses);
     (name, sum)
 }
 

@@ -9,6 +9,7 @@ mod either;
 mod links;
 mod marks;
 mod names;
+mod pauses;
 mod responses;
 mod tokens;
 
@@ -18,5 +19,6 @@ pub use either::EitherSpawner;
 pub use links::{connector, good_link, refusing_link};
 pub use marks::{Marks, TURNS, is_set_soon};
 pub use names::{is_written, octets, written_out};
+pub use pauses::{Pauses, SummedPause};
 pub use responses::{FIRST, SECOND, SvidRow, bundle_entries, context, first_item};
 pub use tokens::TOKEN1;

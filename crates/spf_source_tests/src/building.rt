@@ -5,56 +5,17 @@ ghost use Rattle.std.specs.Prelude.{◌≡◌};
 use crate::places::EitherPlaces;
 use spf_api::{EndpointError, WorkloadApiError};
 use spf_feed::{NoPicker, NoRecorder, X509SourceError};
-use spf_fixtures::{EitherSpawner, FixedClock};
+use spf_fixtures::{EitherSpawner, FixedClock, Pauses, SummedPause};
 use spf_io::OutOfMemory;
 use spf_link::Connector;
-use spf_system::{Pause, StepWords};
+use spf_system::StepWords;
 use spiffe::{Pass, X509Source, X509SourceBuilder};
 use std::alloc::Global;
 use std::process::Abort;
-use std::sync::atomic::{AtomicU64, Ordering};
 use std::sync::{Arc, Wait};
-use std::time::Duration;
 
 /// A builder over a connector of that kind, on which nothing is set but plain values.
 pub type Builder<C> = X509SourceBuilder<NoPicker, C, NoRecorder>;
-
-/// How many pauses there were, and the nanoseconds of all of them.
-#[derive(Drop)]
-pub struct Pauses {
-    count: AtomicU64,
-    nanos: AtomicU64,
-}
-
-impl Pauses {
-    pub fn none(alloc: Global) -> Result<Arc<Pauses>, OutOfMemory> {
-        let pauses = Pauses {
-            count: AtomicU64::new(0),
-            nanos: AtomicU64::new(0),
-        };
-        Ok(Arc::new(alloc, pauses)?)
-    }
-}
-
-/// A pause that returns at once, and adds each delay to its pauses.
-#[derive(Drop)]
-pub struct SummedPause {
-    pub pauses: Arc<Pauses>,
-}
-
-impl Pause for SummedPause {
-    ghost use Rattle.std.specs.Prelude.{None};
-
-    ghost delays = { λ _. None };
-
-    ghost room = { λ _. 0 };
-
-    fn pause(&mut self, delay: Duration) {
-        let nanos = u64::try_from(delay.as_nanos()).unwrap_or(u64::MAX);
-        self.pauses.count.fetch_add(1, Ordering::SeqCst);
-        self.pauses.nanos.fetch_add(nanos, Ordering::SeqCst);
-    }
-}
 
 fn name_of(e: &X509SourceError) -> &'static str {
     match e {
@@ -128,8 +89,7 @@ where
             name
         }
     };
-    let count = pauses.count.load(Ordering::SeqCst);
-    let nanos = pauses.nanos.load(Ordering::SeqCst);
+    let (count, nanos) = pauses.sum();
     drop(pauses);
     (name, count, nanos)
 }

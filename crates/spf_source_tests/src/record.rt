@@ -2,9 +2,8 @@
 
 ghost use Rattle.std.specs.Prelude.{◌≡◌};
 
-use crate::building::{Pauses, SummedPause};
 use spf_feed::{NoPicker, Step, X509SourceError};
-use spf_fixtures::{FixedClock, connector, good_link};
+use spf_fixtures::{FixedClock, Pauses, SummedPause, connector, good_link};
 use spf_io::OutOfMemory;
 use spf_link::MemConnector;
 use spf_system::{InlineSpawner, Job, Joins, MemClock, StepWords};
