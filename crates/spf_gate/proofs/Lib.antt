@@ -1,3 +1,4 @@
+pub mod CutLemmas
 mod FirstFeed
 mod PolicyLemmas
 mod ServeLemmas

@@ -114,7 +114,7 @@ asking_none max number old rules seen held = record {
   remains = remains_all old;
 }
 
-remains_less : (max number : ℕ) (old mid new : Option (List ℕ)) (asks : List (List ℕ))
+pub remains_less : (max number : ℕ) (old mid new : Option (List ℕ)) (asks : List (List ℕ))
     (ask : List ℕ) → Remains old mid asks → TakesLine max number mid new ask (Ok true)
     → Remains old new (asks ++ ask ∷ [])
 remains_less max number None mid new asks ask so takes = tt
@@ -128,7 +128,7 @@ length_more : (asks : List (List ℕ)) (ask : List ℕ) → length (asks ++ ask 
 length_more [] ask = refl
 length_more (x ∷ asks) ask = let rest = length_more asks ask in omega (arith, rest)
 
-kept_more : (max first number : ℕ) (asks : List (List ℕ)) (ask : List ℕ)
+pub kept_more : (max first number : ℕ) (asks : List (List ℕ)) (ask : List ℕ)
     → asks_rule max first asks ≡ Ok tt → number + 1 ≡ first + length asks
     → line_rule max (number + 1) ask ≡ Ok tt → asks_rule max first (asks ++ ask ∷ []) ≡ Ok tt
 kept_more max first number asks ask kept number_is rule =

@@ -1,6 +1,6 @@
 -- Answering the asks of an input.
-use Rattle.std.specs.Prelude.{◌≡◌, ℕ, ◌+◌, ◌≤◌, Bool, true, false, ◌⊎◌, List, [], ◌∷◌, ◌++◌}
-use Rattle.std.specs.Prelude.{length, Option, Some, None, IfSome, Result, Ok, Err, IsErrOf}
+use Rattle.std.specs.Prelude.{◌≡◌, ℕ, ◌≤◌, Bool, true, false, ◌⊎◌, List, [], ◌∷◌, ◌++◌}
+use Rattle.std.specs.Prelude.{length, take, Option, Some, None, IfSome, Result, Ok, Err, IsErrOf}
 use Rattle.std.specs.Io.KnownBytes.{Appends}
 use mathlib.Core.List.{IsPrefix}
 use Rattle.spf_io.specs.Outside.{Rose}
@@ -30,6 +30,16 @@ abbrev pub AnswersAsk : List Rule → Seen → List ℕ → Option (List ℕ) �
 AnswersAsk rules seen ask held held' =
     (state : StateView) × IsStateOf seen state.closed state
     × Appends held held' (answer_line rules state ask)
+
+-- What an error leaves of the line that answers an ask: nothing where memory ran out, and a
+-- beginning of it where a write failed.
+abbrev pub AnswersPart : List Rule → Seen → List ℕ → Option (List ℕ) → Option (List ℕ)
+    → GateError → Type 0
+AnswersPart rules seen ask held held' errors.OutOfMemory = held' ≡ held
+AnswersPart rules seen ask held held' errors.WriteFault =
+    (state : StateView) × IsStateOf seen state.closed state
+    × (size : ℕ) × Appends held held' (take size (answer_line rules state ask))
+AnswersPart rules seen ask held held' _ = ⊥
 
 -- ---- the asks
 
@@ -65,6 +75,22 @@ pub record ServesAsks (max first : ℕ) (old new : Option (List ℕ)) (rules : L
   pub answers : AreAnswers rules seen asks text seen'
   pub asks_are : AreAsks max first old new asks r
 
+-- asks are the first of these, and keep the rules of lines
+abbrev pub AreFirst : ℕ → ℕ → List (List ℕ) → List (List ℕ) → Type 0
+AreFirst max first asks all = IsPrefix asks all × (asks_rule max first asks ≡ Ok tt)
+
+-- Answering was cut: what is written is a beginning of the answers to the first asks. Memory that
+-- ran out cuts no line.
+pub record ServesFirst (max first : ℕ) (old : Option (List ℕ)) (rules : List Rule)
+    (seen seen' : Seen) (held held' : Option (List ℕ)) (e : GateError) : Type 0 where
+  pub asks : List (List ℕ)
+  pub text : List ℕ
+  pub answers : AreAnswers rules seen asks text seen'
+  pub size : ℕ
+  pub written : Appends held held' (take size text)
+  pub whole : e ≡ errors.OutOfMemory → size ≡ length text
+  pub asks_are : IfSome old (λ bytes. AreFirst max first asks (lines_of bytes))
+
 -- ---- the whole input
 
 -- The source failed with `coming` to come: what it gave of a line that has not ended, and what it
@@ -99,6 +125,26 @@ pub record Serves (max : ℕ) (left left' : Option (List ℕ)) (seen seen' : See
   pub written : Appends held held' text
   pub answers : AreAnswers rules seen asks text seen'
   pub read : IfSome left (λ bytes. AreRead max bytes left' rules asks r)
+
+-- The asks are the first of an input, whose policy has these rules; or they are none.
+abbrev pub AreReadFirst : ℕ → List ℕ → List Rule → List (List ℕ) → Type 0
+AreReadFirst max bytes rules asks =
+    (asks ≡ [])
+    ⊎ ((p : Policy) × (policy_of max 1 (lines_of bytes) ≡ Ok p) × (p.rules ≡ rules)
+    × AreFirst max p.first asks p.asks)
+
+-- A run was cut: what is written is a beginning of the answers to the first asks of the input.
+-- Memory that ran out cuts no line.
+pub record ServesPart (max : ℕ) (left : Option (List ℕ)) (seen seen' : Seen)
+    (held held' : Option (List ℕ)) (e : GateError) : Type 0 where
+  pub rules : List Rule
+  pub asks : List (List ℕ)
+  pub text : List ℕ
+  pub answers : AreAnswers rules seen asks text seen'
+  pub size : ℕ
+  pub written : Appends held held' (take size text)
+  pub whole : e ≡ errors.OutOfMemory → size ≡ length text
+  pub read : IfSome left (λ bytes. AreReadFirst max bytes rules asks)
 
 -- the count never falls, and `WriteFault` comes only where it rose
 pub record PutHasCause {T : Type 0} (before now : ℕ) (r : Result T GateError) : Type 0 where

@@ -1,8 +1,10 @@
 use Rattle.std.proofs.Common.{◌+◌, ◌∙◌, refl, List, ℕ, Ok, Err, subst, arith, rules}
 use Rattle.std.specs.Prelude.{string_bytes}
 use Rattle.std.specs.Io.KnownBytes.{prepend_known}
-use Rattle.spf_gate.specs.Serving.{AnswersAsk}
+use Rattle.spf_gate.specs.Serving.{AnswersAsk, AnswersPart}
 use Rattle.spf_gate.proofs.PolicyLemmas.{nearer}
+use Rattle.spf_board.proofs.Prefixes.{begins_self}
+use Rattle.spf_gate.proofs.CutLemmas.{cut_between, cut_in_ask}
 use Rattle.spf_gate.proofs.ServeLemmas.{asked_until, asking_more, asking_none, retake}
 use Rattle.spf_gate.proofs.ServeLemmas.{sees_more, sees_same}
 use Rattle.spf_gate.proofs.serve.answer_asks.Goals as goal
@@ -19,6 +21,34 @@ returns-in-Err-clause-serves g c = λ uncut.
     asked_until c.args.lines.now.max (c.args.lines.now.number + 1) _ mid new c.args.rules.now _
     c.loop-is_line.pass.seen _ (g.K.Sink.held c.loop-is_line.out) c.loop-is_line.lines.number
     (string_bytes c.take_line.new.text) c.in-Err.e uncut c.loop-is_line.invariant.0 takes
+
+pub returns-in-Err-clause-cut : goal.returns-in-Err-clause-cut
+returns-in-Err-clause-cut g c = λ is.
+    let mid = prepend_known c.loop-is_line.lines.octets.items (g.S.Source.left c.loop-is_line.input)
+    in
+    cut_between c.args.lines.now.max (c.args.lines.now.number + 1) _ mid c.args.rules.now _
+    c.loop-is_line.pass.seen c.loop-is_line.pass.seen _ (g.K.Sink.held c.loop-is_line.out)
+    c.loop-is_line.lines.number c.in-Err.e c.loop-is_line.invariant.0
+    (begins_self c.loop-is_line.pass.seen)
+
+pub returns-in-Err-answer_ask-clause-cut : goal.returns-in-Err-answer_ask-clause-cut
+returns-in-Err-answer_ask-clause-cut g c = λ is.
+    let mid = prepend_known c.loop-is_line.lines.octets.items (g.S.Source.left c.loop-is_line.input)
+    in
+    let new = prepend_known c.take_line.new.self.octets.items
+    (g.S.Source.left c.take_line.new.source) in
+    let text = string_bytes c.take_line.new.text in
+    let so = c.loop-is_line.invariant in
+    let takes = retake c.args.lines.now.max c.loop-is_line.lines.max
+    (c.loop-is_line.lines.number + 1) mid new text (Ok c.in-Ok.is_line) so.1 c.in-Ok.ensures.takes
+    in
+    let part = subst (λ (a : List ℕ). AnswersPart c.args.rules.now c.answer_ask.new.pass.seen a
+    (g.K.Sink.held c.loop-is_line.out) (g.K.Sink.held c.answer_ask.new.out) c.in-Err-answer_ask.e)
+    c.as_str.ensures.value c.in-Err-answer_ask.ensures.part in
+    cut_in_ask c.args.lines.now.max (c.args.lines.now.number + 1) _ mid new c.args.rules.now _
+    c.loop-is_line.pass.seen c.answer_ask.new.pass.seen _ (g.K.Sink.held c.loop-is_line.out)
+    (g.K.Sink.held c.answer_ask.new.out) c.loop-is_line.lines.number text c.in-Ok.is_line
+    c.in-Err-answer_ask.e so.0 takes (search rules) c.in-Err-answer_ask.ensures.pass.seen part
 
 pub loop-is_line-init : goal.loop-is_line-init
 loop-is_line-init g c = (
