@@ -1,6 +1,6 @@
 -- The steps of a board keep its rule.
 use Rattle.std.proofs.Common.{◌≡◌, ◌≢◌, ℕ, ◌+◌, true, List, [], ◌∷◌, ◌++◌, fold, set, refl, sym}
-use Rattle.std.proofs.Common.{ap, ◌∙◌, subst, ⊎_elim}
+use Rattle.std.proofs.Common.{ap, ◌∙◌, subst, ⊎_elim, length}
 use mathlib.Core.Option.{some, some-ne-none}
 use lib.ListN.{get_elem?}
 use Rattle.left_right.specs.Register.{Admits, TurnsAt, Turns, Forks, Merges}
@@ -59,11 +59,12 @@ module _ {S X N : Type 0} (replays : List S → X → Type 0) (snap : N → X) (
   pub takes : (seat : ℕ) (v : Place)
       → Turns holds seat v (λ x. x) (λ v x y w. Enters replays v (snap y) (front y) w)
   takes seat v x views keeps at =
-      let w = bound_to (v.enters + 1) (front x).book in (
+      let w = bound_to (v.enters + 1) (length (front x).list) (front x).book in (
         w,
         stays x views seat w keeps (λ _. refl),
         record {
           once = refl;
+          all = refl;
           stands = keeps.stands;
           bound = record { bound = refl; book = refl };
           same = keeps.bound seat v at;
@@ -89,7 +90,7 @@ module _ {S X N : Type 0} (replays : List S → X → Type 0) (snap : N → X) (
       → (replays (steps_of (front x).list) (snap x) → replays (steps_of (front y).list) (snap y))
       → TurnsAt holds seat v x y (λ v x y w. Posts replays (snap y) (front y) w)
   posts seat v x y book stands views keeps at =
-      let w = bound_to v.enters (front y).book in
+      let w = bound_to v.enters v.entries (front y).book in
       let moved : holds y views = record {
         stands = stands keeps.stands;
         bound = λ j u e t. keeps.bound j u e t ∙ sym book;

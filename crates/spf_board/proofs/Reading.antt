@@ -1,6 +1,6 @@
 -- What a pass takes in.
 use Rattle.std.proofs.Common.{◌≡◌, ℕ, ◌+◌, ◌-◌, ◌^◌, ◌<◌, ◌≤◌, min, List, refl, sym, ap, ◌∙◌, subst}
-use Rattle.std.proofs.Common.{inl, inr, arith, lt_of_not-le}
+use Rattle.std.proofs.Common.{inl, inr, arith, lt_of_not-le, length}
 use native.Mathlib.Decide.{dec_le}
 use mathlib.Core.List.{IsPrefix}
 use Rattle.spf_board.specs.Lists.{steps_of, IsBoardList}
@@ -42,7 +42,8 @@ module _ {S : Type 0} (legal : List S → Type 0) where
   pub renews_in : {X F : Type 0} (replays : List S → X → Type 0) (finds : X → F → Type 0)
       (seen entered now then : Past S) (m n : ℕ) (v w : Place) (found : F) → then ≡ now
       → IsPrefix seen.list entered.list → IsPrefix entered.list now.list
-      → Finds legal replays finds now.list found → (w.enters ≡ v.enters + 1) × (n ≡ m)
+      → Finds legal replays finds now.list found
+      → (w.enters ≡ v.enters + 1) × (n ≡ m) × (w.entries ≡ length now.list)
       → Renews legal (passed (remembered seen entered m) v) (passed (remembered then now n) w)
   renews_in replays finds seen entered now then m n v w found same p q found_is once =
       let longer : IsPrefix seen.list now.list =
@@ -52,7 +53,7 @@ module _ {S : Type 0} (legal : List S → Type 0) where
       record {
         seen = subst (λ l. IsPrefix seen.list l) (sym list) longer;
         board = subst (λ l. IsBoardList legal l) (sym list) board;
-        cause = inl (once.0, once.1, list);
+        cause = inl (once.0, once.1, list, sym once.2);
         final = λ ended. list ∙ ended_stays seen.list now.list longer board.ends ended;
       }
 
@@ -70,12 +71,19 @@ module _ {S : Type 0} (legal : List S → Type 0) where
   module _ {X F : Type 0} (replays : List S → X → Type 0) (finds : X → F → Type 0) where
     pub peeks_in : (seen entered now : Past S) (m n : ℕ) (v w : Place) (found : F)
         → IsPrefix seen.list entered.list → IsPrefix entered.list now.list
-        → Finds legal replays finds now.list found → (w.enters ≡ v.enters + 1) × (n ≡ m)
+        → Finds legal replays finds now.list found
+        → (w.enters ≡ v.enters + 1) × (n ≡ m) × (w.entries ≡ length now.list)
         → Peeks legal replays finds (passed (remembered seen entered m) v)
         (passed (remembered seen now n) w) found
     peeks_in seen entered now m n v w found p q found_is once = record {
       seen = refl;
-      cause = inl (once.0, once.1, begins_trans seen.list entered.list now.list p q, found_is);
+      cause = inl (
+        once.0,
+        once.1,
+        begins_trans seen.list entered.list now.list p q,
+        found_is,
+        sym once.2,
+      );
     }
 
     pub peeks_kept : (seen entered now : Past S) (m n : ℕ) (v w : Place) (kept : X) (found : F)

@@ -1,5 +1,5 @@
 -- What a pass has seen, and what a read does to it.
-use Rattle.std.specs.Prelude.{◌≡◌, ℕ, ◌+◌, ◌-◌, ◌^◌, ◌<◌, ◌⊎◌, true, List, Option}
+use Rattle.std.specs.Prelude.{◌≡◌, ℕ, ◌+◌, ◌⊎◌, true, List, Option, length}
 use mathlib.Core.List.{IsPrefix}
 use Rattle.logbook.specs.Pages.{Book}
 use Rattle.spf_io.specs.Outside.{Rose}
@@ -27,13 +27,14 @@ remembered seen entered missed = record {
   missed = missed;
 }
 
--- the same with the number of its enter steps
+-- the same with the number of its enter steps, and how many entries were posted at the last of them
 pub record Passed (S : Type 0) : Type 0 where
   pub book : Book
   pub seen : List (Entry S)
   pub entered : List (Entry S)
   pub missed : ℕ
   pub enters : ℕ
+  pub entries : ℕ
 
 abbrev pub passed : {S : Type 0} → Remembered S → Place → Passed S
 passed m v = record {
@@ -42,6 +43,7 @@ passed m v = record {
   entered = m.entered;
   missed = m.missed;
   enters = v.enters;
+  entries = v.entries;
 }
 
 -- what contracts see of a pass of a source: the same, and which mark it knows of the closed cell
@@ -51,6 +53,7 @@ pub record PassView (S C : Type 0) : Type 0 where
   pub entered : List (Entry S)
   pub missed : ℕ
   pub enters : ℕ
+  pub entries : ℕ
   pub closed : Option C
 
 abbrev pub pass_view : {S C : Type 0} → Remembered S → Place → Option C → PassView S C
@@ -60,6 +63,7 @@ pass_view m v closed = record {
   entered = m.entered;
   missed = m.missed;
   enters = v.enters;
+  entries = v.entries;
   closed = closed;
 }
 
@@ -71,6 +75,7 @@ read_of p = record {
   entered = p.entered;
   missed = p.missed;
   enters = p.enters;
+  entries = p.entries;
 }
 
 -- it remembers no less than before, of the same board
@@ -88,21 +93,22 @@ pub record Finds {S X F : Type 0} (legal : List S → Type 0) (replays : List S 
   pub is_found : finds shown found
 
 module _ {S : Type 0} (legal : List S → Type 0) where
-  -- A read that is kept: the pass entered, and has now seen what it entered; or
-  -- it missed, and has seen what it had seen. Nothing is seen after an End.
+  -- A read that is kept: the pass entered, and has now seen what it entered, which is all that was
+  -- posted then; or it missed, and has seen what it had seen. Nothing is seen after an End.
   pub record Renews (old new : Passed S) : Type 0 where
     pub seen : IsPrefix old.seen new.seen
     pub board : IsBoardList legal new.seen
     pub cause : ((new.enters ≡ old.enters + 1) × (new.missed ≡ old.missed)
-        × (new.seen ≡ new.entered))
+        × (new.seen ≡ new.entered) × (length new.entered ≡ new.entries))
         ⊎ (Rose old.missed new.missed × (new.seen ≡ old.seen))
     pub final : is_ended old.seen ≡ true → new.seen ≡ old.seen
 
-  -- A read that keeps nothing: something was found in the snapshot of the list that was
-  -- entered; or the pass missed, and found it in that of what it has seen.
+  -- A read that keeps nothing: something was found in the snapshot of the list that was entered,
+  -- which is all that was posted then; or the pass missed, and found it in that of what it has seen.
   pub record Peeks {X F : Type 0} (replays : List S → X → Type 0) (finds : X → F → Type 0)
       (old new : Passed S) (found : F) : Type 0 where
     pub seen : new.seen ≡ old.seen
     pub cause : ((new.enters ≡ old.enters + 1) × (new.missed ≡ old.missed)
-        × IsPrefix old.seen new.entered × Finds legal replays finds new.entered found)
+        × IsPrefix old.seen new.entered × Finds legal replays finds new.entered found
+        × (length new.entered ≡ new.entries))
         ⊎ (Rose old.missed new.missed × Finds legal replays finds new.seen found)

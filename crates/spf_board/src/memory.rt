@@ -1,6 +1,6 @@
 //! What a pass remembers, and the reads through it. They take no lock and never wait.
 
-ghost use Rattle.std.specs.Prelude.{◌≡◌, ◌+◌, false, OnSome, IfSome, IfNone};
+ghost use Rattle.std.specs.Prelude.{◌≡◌, ◌+◌, false, OnSome, IfSome, IfNone, length};
 ghost use mathlib.Core.List.{IsPrefix};
 ghost use Rattle.left_right.specs.Sides.{view};
 ghost use Rattle.spf_board.specs.Lists.{IsBoardList};
@@ -70,6 +70,7 @@ fn read<K: Replay, L: Look<K::Snapshot>>(
     ensures bound { IsBoundTo (view result.0.place) entered.now.book }
     ensures once { OnSome result.1
         ((view result.0.place).enters ≡ (view reader.place).enters + 1) }
+    ensures all { IfSome result.1 (λ t. (view result.0.place).entries ≡ length t.front.list) }
     ensures found { IfSome result.1 (λ t.
         IfSome t.found (Finds K.legal K.replays (L.finds look.now) t.front.list)) }
     ensures seen { IfSome result.1 (λ t.
@@ -107,7 +108,8 @@ fn enter<K: Replay, L: Look<K::Snapshot>>(
         IfNone read ((looks_again ≡ false) × (entered.new.list ≡ seen.now.list))) }
     ensures once { OnSome result.1
         (((view result.0.place).enters ≡ (view reader.place).enters + 1)
-        × (missed.new ≡ missed.old)) }
+        × (missed.new ≡ missed.old)
+        × ((view result.0.place).entries ≡ length entered.new.list)) }
     ensures missed { IfNone result.1 (Rose missed.old missed.new
         × (entered.new.list ≡ entered.old.list)) }
 {

@@ -7,11 +7,12 @@ use crossbeam_utils::rule::{Outcome, Protocol};
 use left_right::reader::Reader;
 use left_right::writer::Writer;
 
-/// What a reader or the writer knows: how often it has entered, and which history
-/// the board has, once it is bound to it. No value of it is made.
+/// What a reader or the writer knows: how often it has entered, how many entries were posted when
+/// it entered last, and which history the board has, once it is bound to it. No value of it is made.
 pub struct Place {
     pub bound: bool,
     pub enters: u64,
+    pub entries: u64,
     pub number: u64,
     pub log_name: u64,
     pub cells_name: u64,

@@ -1,6 +1,6 @@
 -- What one turn of a feeder does.
 use Rattle.std.proofs.Common.{◌≡◌, Bool, true, false, List, [], ◌∷◌, ◌++◌, reverse, Option, None}
-use Rattle.std.proofs.Common.{Some, Result, Ok, Err, inl, inr, refl, sym, ◌∙◌, subst}
+use Rattle.std.proofs.Common.{Some, Result, Ok, Err, inl, inr, refl, sym, subst}
 use Rattle.std.specs.Prelude.{IfErr, IfSome, ℤ, ◌⊎◌}
 use Rattle.spf_io.specs.declared.memory.OutOfMemory.{OutOfMemory}
 use Rattle.spf_api.specs.declared.response.ResponseKind.{ResponseKind}
@@ -21,12 +21,13 @@ use Rattle.spf_feeder.specs.declared.session.Stop.{Stop}
 use Rattle.spf_feeder.specs.declared.session.Stop.TheVariants as stops
 use Rattle.spf_feeder.specs.Asking.{Asked, AsksFor, AsksOnceFor, Wanted, kind_wanted}
 use Rattle.spf_feeder.specs.Coming.{AllYieldedBy, AllYieldedOf, Holds, left_after_by, left_of}
-use Rattle.spf_feeder.specs.Fed.{FedOf, IsFed, IsReadyFor, StopsFor, TurnedAway, TurnsBy, YieldsOf}
+use Rattle.spf_feeder.specs.Fed.{EndsFor, FedOf, IsFed, IsReadyFor, StopsFor, TurnedAway, TurnsBy}
+use Rattle.spf_feeder.specs.Fed.{YieldsOf}
 use Rattle.spf_feeder.specs.Kept.{AdvancesBy, Progress}
 use Rattle.spf_feeder.specs.Kinds.{FollowsEvents, IsLawful, Kind, x509}
 use Rattle.spf_feeder.specs.Orderly.{AddsAnswerTo, GoesOn, IsAboutToAsk, IsFirstStep, IsOneStep}
-use Rattle.spf_feeder.specs.Orderly.{IsOpening, IsSyncedOf, IsTimedOf}
-use Rattle.spf_feeder.proofs.OrderLemmas.{about_timed, ends_unmoved, synced_on}
+use Rattle.spf_feeder.specs.Orderly.{IsOpening, IsOrderlyOf, IsSyncedOf, IsTimedOf, does_answer}
+use Rattle.spf_feeder.proofs.OrderLemmas.{about_timed, ends_unmoved, once_answers, synced_on}
 use Rattle.spf_feeder.proofs.YieldLemmas.{ready_more, yields_more}
 
 -- an ask that yielded an event was made
@@ -193,6 +194,47 @@ yields_of connector link records k later before after old new e r ask first next
     (subst (λ l. YieldsOf k connector.members link.answers l new f) (sym run)
     (record { yielded = more.0; rest = more.1 }))) yields
 
+-- an event that was refused may stand in the run
+run_by : {I M B R N : Type 0} (records : N → Option (List R)) (k : Kind I M B R)
+    (before after : Progress N I) (e : SessionEvent I) (r : Result (Option AttemptEnd) Stop)
+    → AdvancesBy k records before e r after
+    → (after.run ≡ before.run) ⊎ (after.run ≡ before.run ++ e ∷ [])
+run_by records k before after e (Ok end) h = inr h.run_is
+run_by records k before after e (Err (stops.Terminal end)) h = inl h.run_is
+run_by records k before after e (Err stops.OutOfMemory) h = h.run_is
+
+yielded_in : {I M B R : Type 0} (k later : Kind I M B R) (before after : List (SessionEvent I))
+    (e : SessionEvent I) (f : List Member) → later ≡ k → AllYieldedOf k f (reverse before)
+    → AllYieldedOf k f (reverse (before ++ e ∷ []))
+    → (after ≡ before) ⊎ (after ≡ before ++ e ∷ []) → AllYieldedOf later f (reverse after)
+yielded_in {I} {M} {B} {R} k later before after e f same was is (inl run) =
+    subst (λ (x : Kind I M B R × List (SessionEvent I)). AllYieldedOf x.0 f (reverse x.1))
+    (λ i. (sym same i, sym run i)) was
+yielded_in {I} {M} {B} {R} k later before after e f same was is (inr run) =
+    subst (λ (x : Kind I M B R × List (SessionEvent I)). AllYieldedOf x.0 f (reverse x.1))
+    (λ i. (sym same i, sym run i)) is
+
+yielded_of : {S L I M B R N : Type 0} (connector : connectors.Ghosts S L) (link : links.Ghosts L)
+    (records : N → Option (List R)) (k later : Kind I M B R) (before after : Progress N I)
+    (old new : Asked S L) (e : SessionEvent I) (r : Result (Option AttemptEnd) Stop) (ask : Phase)
+    (first : Option (List Member)) → ask ≡ k.ask (reverse before.run)
+    → AsksFor {E = OutOfMemory} k.wanted connector link ask old (Ok e) new
+    → AdvancesBy k records before e r after → later ≡ k
+    → IsReadyFor (kind_wanted k.wanted) link.kind (k.ask (reverse before.run)) old.link
+    → IfSome first (YieldsOf k connector.members link.answers before.run old)
+    → IfSome first (λ f. AllYieldedOf later f (reverse after.run))
+unfolding AllYieldedOf left_of
+yielded_of connector link records k later before after old new e r ask first next asks h same ready
+    yields =
+    let once = asked_as k.wanted connector link ask _ old new e next asks in
+    if_some first (YieldsOf k connector.members link.answers before.run old)
+    (λ f. AllYieldedOf later f (reverse after.run))
+    (λ f t.
+    let more = yields_more OutOfMemory k.wanted k.ask connector link before.run old new e f once
+    ready t.yielded t.rest in
+    yielded_in k later before.run after.run e f same t.yielded more.0
+    (run_by records k before after e r h)) yields
+
 -- one more ask
 pub fed_more : {S L I M B R N : Type 0} (connector : connectors.Ghosts S L) (link : links.Ghosts L)
     (records : N → Option (List R)) (k later : Kind I M B R) → IsLawful k
@@ -208,22 +250,74 @@ fed_more connector link records k later law before after old new e r ask first n
           asks h same (fed.ready going);
       yields = yields_of connector link records k later before after old new e r ask
           (connector.members first) next asks h same (fed.ready going) (fed.yields going);
+      yielded = yielded_of connector link records k later before after old new e r ask
+          (connector.members first) next asks h same (fed.ready going) (fed.yields going);
     }
 
 -- ---- a terminal event
 
-pub stops_by : {I M B R N : Type 0} (records : N → Option (List R)) (k seen : Kind I M B R)
-    (old new : Progress N I) (e : SessionEvent I) (r : Result (Option AttemptEnd) Stop) → k ≡ seen
-    → AdvancesBy k records old e r new → IfErr r (StopsFor seen new.run)
-stops_by records k seen old new e (Ok end) same h = tt
-stops_by records k seen old new e (Err (stops.Terminal end)) same h =
-    (e, (λ i. (sym same i).refusal (reverse (h.run_is i)) e) ∙ h.refused)
-stops_by records k seen old new e (Err stops.OutOfMemory) same h = tt
+pub ends_by : {I M B R N : Type 0} (records : N → Option (List R)) (k later : Kind I M B R)
+    (members : Option (List Member)) (old new : Progress N I) (e : SessionEvent I)
+    (r : Result (Option AttemptEnd) Stop) → later ≡ k → AdvancesBy k records old e r new
+    → IsOrderlyOf later (reverse new.run)
+    → IfSome members (λ m. AllYieldedOf k m (e ∷ reverse old.run))
+    → IfErr r (EndsFor k members old.run e)
+ends_by records k later members old new e (Ok end) same h orderly yielded = tt
+ends_by {I} {M} {B} {R} records k later members old new e (Err (stops.Terminal end)) same h orderly
+    yielded =
+    record {
+      refused = h.refused;
+      orderly = subst (λ (x : Kind I M B R × List (SessionEvent I)).
+          IsOrderlyOf x.0 (reverse x.1)) (λ i. (same i, h.run_is i)) orderly;
+      yielded = yielded;
+    }
+ends_by records k later members old new e (Err stops.OutOfMemory) same h orderly yielded = tt
 
--- the same kind
-pub stops_as : {I M B R : Type 0} (k seen : Kind I M B R) (run : List (SessionEvent I))
-    (stop : Stop) → seen ≡ k → StopsFor seen run stop → StopsFor k run stop
-stops_as k seen run stop same h = subst (λ x. StopsFor x run stop) same h
+-- by what an ask yielded
+stops_of : {I M B R : Type 0} (k : Kind I M B R) (members : Option (List Member))
+    (run : List (SessionEvent I)) (e : SessionEvent I) (r : Result (Option AttemptEnd) Stop)
+    → does_answer (k.ask (reverse run)) e ≡ true → IfErr r (EndsFor k members run e)
+    → IfErr r (StopsFor k members run)
+stops_of k members run e (Ok end) answers h = tt
+stops_of k members run e (Err (stops.Terminal end)) answers h = (e, answers, h)
+stops_of k members run e (Err stops.OutOfMemory) answers h = tt
+
+pub stops_by : {S L I M B R N : Type 0} (connector : connectors.Ghosts S L) (link : links.Ghosts L)
+    (records : N → Option (List R)) (k later : Kind I M B R) (before after : Progress N I)
+    (old new : Asked S L) (e : SessionEvent I) (r : Result (Option AttemptEnd) Stop) (ask : Phase)
+    (first : S) → ask ≡ k.ask (reverse before.run)
+    → AsksFor {E = OutOfMemory} k.wanted connector link ask old (Ok e) new
+    → AdvancesBy k records before e r after → later ≡ k → before.stuck ≡ false
+    → IsOrderlyOf later (reverse after.run) → IsFed k connector link before old first
+    → IfErr r (StopsFor k (connector.members first) before.run)
+unfolding AllYieldedOf left_of
+stops_by connector link records k later before after old new e r ask first next asks h same going
+    orderly fed =
+    let once = asked_as k.wanted connector link ask _ old new e next asks in
+    stops_of k (connector.members first) before.run e r
+    (once_answers OutOfMemory k.wanted connector link _ old new e once)
+    (ends_by records k later (connector.members first) before after e r same h orderly
+    (if_some (connector.members first) (YieldsOf k connector.members link.answers before.run old)
+    (λ f. AllYieldedOf k f (e ∷ reverse before.run))
+    (λ f t.
+    subst (AllYieldedBy k.wanted k.ask f) (last_first before.run e)
+    (yields_more OutOfMemory k.wanted k.ask connector link before.run old new e f once
+    (fed.ready going) t.yielded t.rest).0) (fed.yields going)))
+
+-- by a moment
+pub ends_at_moment : {S L I M B R N : Type 0} (connector : connectors.Ghosts S L)
+    (link : links.Ghosts L) (records : N → Option (List R)) (k later : Kind I M B R)
+    (before after : Progress N I) (asked : Asked S L) (m : ℤ)
+    (r : Result (Option AttemptEnd) Stop) (first : S)
+    → AdvancesBy k records before (events.Moment m) r after → later ≡ k
+    → IsOrderlyOf later (reverse after.run) → IsFed k connector link before asked first
+    → IfErr r (EndsFor k (connector.members first) before.run (events.Moment m))
+unfolding AllYieldedOf
+ends_at_moment connector link records k later before after asked m r first h same orderly fed =
+    ends_by records k later (connector.members first) before after (events.Moment m) r same h
+    orderly
+    (if_some (connector.members first) (λ f. AllYieldedOf k f (reverse before.run))
+    (λ f. AllYieldedOf k f (events.Moment m ∷ reverse before.run)) (λ f t. (tt, t)) fed.yielded)
 
 -- ---- a moment asks nothing
 
@@ -264,7 +358,19 @@ yields_still members answers records k later before after m r asked first h same
           Holds members answers (left_after_by k.ask f l) asked.connector asked.link) more t.rest;
     }))) yields
 
--- ---- of an X.509 session
+yielded_still : {I M B R N : Type 0} (records : N → Option (List R)) (k later : Kind I M B R)
+    (before after : Progress N I) (m : ℤ) (r : Result (Option AttemptEnd) Stop)
+    (first : Option (List Member)) → AdvancesBy k records before (events.Moment m) r after
+    → later ≡ k → IfSome first (λ f. AllYieldedOf k f (reverse before.run))
+    → IfSome first (λ f. AllYieldedOf later f (reverse after.run))
+unfolding AllYieldedOf
+yielded_still records k later before after m r first h same yielded =
+    if_some first (λ f. AllYieldedOf k f (reverse before.run))
+    (λ f. AllYieldedOf later f (reverse after.run))
+    (λ f t.
+    yielded_in k later before.run after.run (events.Moment m) f same t
+    (subst (AllYieldedBy k.wanted k.ask f) (sym (last_first before.run (events.Moment m))) (tt, t))
+    (run_by records k before after (events.Moment m) r h)) yielded
 
 -- one more moment
 pub fed_still : {S L I M B R N : Type 0} (connector : connectors.Ghosts S L) (link : links.Ghosts L)
@@ -279,6 +385,8 @@ fed_still connector link records k later law before after m r asked first h same
           (fed.ready going);
       yields = yields_still connector.members link.answers records k later before after m r asked
           (connector.members first) h same (fed.yields going);
+      yielded = yielded_still records k later before after m r (connector.members first) h same
+          fed.yielded;
     }
 
 -- ---- the moments

@@ -1,6 +1,7 @@
 -- What holds of rules and a run holds where they are the same.
 use Rattle.std.proofs.Common.{◌≡◌, [], ◌∷◌, true, List, Option, ap, reverse, subst, sym}
-use Rattle.std.specs.Prelude.{ℤ}
+use Rattle.std.specs.Prelude.{IfSome, ℤ}
+use Rattle.spf_link.specs.Connecting.{Member}
 use Rattle.spf_link.specs.declared.connector.Connector as connectors
 use Rattle.spf_link.specs.declared.link.Link as links
 use Rattle.spf_system.specs.declared.pace.Pace.{Pace}
@@ -14,7 +15,8 @@ use Rattle.spf_feeder.specs.Fed.{IsFed}
 use Rattle.spf_feeder.specs.Kept.{Progress}
 use Rattle.spf_feeder.specs.Kinds.{Kind}
 use Rattle.spf_feeder.specs.Opened.{IsOpened}
-use Rattle.spf_feeder.specs.Orderly.{IsFirstStep, IsSyncedOf, IsTimedOf}
+use Rattle.spf_feeder.specs.Coming.{AllYieldedOf}
+use Rattle.spf_feeder.specs.Orderly.{IsFirstStep, IsOrderlyOf, IsSyncedOf, IsTimedOf}
 use Rattle.spf_feeder.specs.Pacing.{KeepsPaceOf}
 use Rattle.spf_feeder.specs.Times.{GivesMoments, TakesMoment}
 use Rattle.spf_feeder.proofs.TimeLemmas.{gives_moment, gives_more}
@@ -25,6 +27,21 @@ pub synced_as : {G I M B R : Type 0} (kind : G → Kind I M B R) (g h : G)
 synced_as {G} {I} kind g h run more a b synced =
     subst (λ (x : G × List (SessionEvent I)). IsSyncedOf (kind x.0) (reverse x.1))
     (λ i. (sym a i, sym b i)) synced
+
+pub orderly_as : {G I M B R : Type 0} (kind : G → Kind I M B R) (g h : G)
+    (run more : List (SessionEvent I)) → h ≡ g → more ≡ run → IsOrderlyOf (kind g) (reverse run)
+    → IsOrderlyOf (kind h) (reverse more)
+orderly_as {G} {I} kind g h run more a b orderly =
+    subst (λ (x : G × List (SessionEvent I)). IsOrderlyOf (kind x.0) (reverse x.1))
+    (λ i. (sym a i, sym b i)) orderly
+
+pub yielded_as : {G I M B R : Type 0} (kind : G → Kind I M B R) (members : Option (List Member))
+    (g h : G) (run more : List (SessionEvent I)) → h ≡ g → more ≡ run
+    → IfSome members (λ m. AllYieldedOf (kind g) m (reverse run))
+    → IfSome members (λ m. AllYieldedOf (kind h) m (reverse more))
+yielded_as {G} {I} kind members g h run more a b yielded =
+    subst (λ (x : G × List (SessionEvent I)).
+    IfSome members (λ m. AllYieldedOf (kind x.0) m (reverse x.1))) (λ i. (sym a i, sym b i)) yielded
 
 pub paces_as : {G I M B R : Type 0} (kind : G → Kind I M B R) (g h : G)
     (run more : List (SessionEvent I)) (pace : Pace) → h ≡ g → more ≡ run
@@ -51,15 +68,21 @@ fed_as {S = S} {L = L} {I = I} {M = M} {B = B} {R = R} {N = N} {connector = conn
 
 -- an initial synchronisation that began with this moment of the clock
 pub opened_of : {G I M B R : Type 0} (kind : G → Kind I M B R) (g h : G)
-    (clock between clock' : Option (List (Option ℤ))) (first m : ℤ) (run : List (SessionEvent I))
-    (pace : Pace) → h ≡ g → m ≡ first → TakesMoment clock between first
+    (members members' : Option (List Member)) (clock between clock' : Option (List (Option ℤ)))
+    (first m : ℤ) (run : List (SessionEvent I)) (pace : Pace) → h ≡ g → members' ≡ members
+    → m ≡ first → TakesMoment clock between first
     → has_synced (kind g).subject (reverse run) ≡ true → IsTimedOf (kind g) (reverse run)
+    → IsOrderlyOf (kind g) (reverse run)
+    → IfSome members' (λ x. AllYieldedOf (kind g) x (reverse run))
     → IsFirstStep (kind g) run → GivesMoments between clock' (events.Moment m ∷ []) run
-    → KeepsPaceOf (kind g) run pace → IsOpened (kind h) clock clock' run pace
-opened_of {G} kind g h clock between clock' first m run pace same moment takes synced timed once
-    gives paces =
-    subst (λ (x : G). IsOpened (kind x) clock clock' run pace) (sym same)
+    → KeepsPaceOf (kind g) run pace → IsOpened (kind h) members clock clock' run pace
+opened_of {G} kind g h members members' clock between clock' first m run pace same had moment takes
+    synced timed orderly yielded once gives paces =
+    subst (λ (x : G × Option (List Member)). IsOpened (kind x.0) x.1 clock clock' run pace)
+    (λ i. (sym same i, had i))
     (record {
+      orderly = orderly;
+      yielded = yielded;
       synced = record { timed = timed; synced = synced };
       once = once;
       clock_is = gives_more clock between clock' [] (events.Moment m ∷ []) run

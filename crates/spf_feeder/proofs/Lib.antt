@@ -10,4 +10,5 @@ pub mod TimeLemmas
 pub mod Leaving
 pub mod Recording
 pub mod Sending
+pub mod StopLemmas
 pub mod Unyielded

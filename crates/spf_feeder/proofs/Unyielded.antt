@@ -35,5 +35,7 @@ assigned_as {S = S} {G = G} {I = I} members kind IsSet bounds connector clock cl
       bounds_are = is.bounds_are;
       members_are = refl;
       synced = is.synced;
+      orderly = is.orderly;
+      yielded = tt;
       clock_is = is.clock_is;
     })

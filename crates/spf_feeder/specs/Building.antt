@@ -1,11 +1,12 @@
 -- What a builder makes of a source, whatever its kind.
-use Rattle.std.specs.Prelude.{◌≡◌, ℕ, ℤ, List, [], Option, reverse}
+use Rattle.std.specs.Prelude.{◌≡◌, ℕ, ℤ, List, [], Option, IfSome, reverse}
 use Rattle.spf_link.specs.Connecting.{Member}
 use Rattle.spf_system.specs.declared.reconnect_config.ReconnectConfig.{ReconnectConfig}
 use Rattle.spf_view.specs.Steps.{Step, steps_of}
 use Rattle.spf_feed.specs.declared.step.Denial.{Denial}
 use Rattle.spf_feeder.specs.Kinds.{Kind}
-use Rattle.spf_feeder.specs.Orderly.{IsSyncedOf}
+use Rattle.spf_feeder.specs.Coming.{AllYieldedOf}
+use Rattle.spf_feeder.specs.Orderly.{IsOrderlyOf, IsSyncedOf}
 use Rattle.spf_feeder.specs.Times.{GivesMoments}
 use Rattle.spf_board.specs.Passes.{PassView}
 use Rattle.spf_system.specs.Marks.{Mark}
@@ -14,8 +15,8 @@ use Rattle.spf_board.specs.Sources.{Source}
 use Rattle.spf_feeder.specs.Records.{AssignedOf}
 
 -- What an initial synchronisation leaves to a supervisor: the rules are those of the builder, the
--- connector has its meaning, the run is synchronised, and its moments are those that the clock
--- gave.
+-- connector has its meaning, the run is synchronised, its events answer their asks and are what the
+-- connector had to yield, where that is known, and its moments are those that the clock gave.
 pub record IsAssignedBy {S G I M B R : Type 0} (members : S → Option (List Member))
     (kind : G → Kind I M B R) (IsSet : G → Type 0) (bounds : ReconnectConfig) (connector : S)
     (clock clock' : Option (List (Option ℤ))) (job : AssignedOf S G I) : Type 0 where
@@ -23,6 +24,9 @@ pub record IsAssignedBy {S G I M B R : Type 0} (members : S → Option (List Mem
   pub bounds_are : job.bounds ≡ bounds
   pub members_are : members job.first ≡ members connector
   pub synced : IsSyncedOf (kind job.rules) (reverse job.run)
+  pub orderly : IsOrderlyOf (kind job.rules) (reverse job.run)
+  pub yielded : IfSome (members connector)
+      (λ m. AllYieldedOf (kind job.rules) m (reverse job.run))
   pub clock_is : GivesMoments clock clock' [] job.run
 
 -- A source, its first pass, what closes it, and the job of its supervisor: the pass has seen the

@@ -11,13 +11,14 @@ use Rattle.spf_system.specs.declared.pacer.AttemptEnd.{AttemptEnd}
 use Rattle.spf_feed.specs.declared.event.SessionEvent.{SessionEvent}
 use Rattle.spf_feed.specs.declared.phase.Phase.{Phase}
 use Rattle.spf_feed.specs.declared.phase.Phase.TheVariants as phases
-use Rattle.spf_feed.specs.Items.{Event, Rules}
+use Rattle.spf_feed.specs.declared.turn.Terminal.{Terminal}
 use Rattle.spf_feeder.specs.declared.session.Stop.{Stop}
 use Rattle.spf_feeder.specs.declared.session.Stop.TheVariants as stops
 use Rattle.spf_feeder.specs.Asking.{Asked, AsksOnceFor, kind_wanted}
 use Rattle.spf_feeder.specs.Coming.{AllYieldedOf, Coming, Holds, left_of}
 use Rattle.spf_feeder.specs.Kept.{Advanced, Progress}
-use Rattle.spf_feeder.specs.Kinds.{Kind, x509}
+use Rattle.spf_feeder.specs.Kinds.{Kind}
+use Rattle.spf_feeder.specs.Orderly.{IsOrderlyOf, does_answer}
 
 -- What contracts see of a feeder, where C is the core.
 pub record FedOf (S L C : Type 0) : Type 0 where
@@ -61,8 +62,8 @@ abbrev pub YieldsOf : {S L I M B R : Type 0} → Kind I M B R → (S → Option 
 YieldsOf k members answers run asked first =
     YieldsBy (AllYieldedOf k) (left_of k) members answers run asked first
 
--- While a session goes on, its link may be asked for what comes next, and its events are what the
--- asks take of the connector as it was handed in.
+-- The events are what the asks take of the connector as it was handed in. While the session goes
+-- on, its link may be asked for what comes next, and the rest is still to come.
 pub record IsFed {S L I M B R N : Type 0} (k : Kind I M B R) (connector : connectors.Ghosts S L)
     (link : links.Ghosts L) (progress : Progress N I) (asked : Asked S L) (first : S) :
     Type 0 where
@@ -70,6 +71,8 @@ pub record IsFed {S L I M B R N : Type 0} (k : Kind I M B R) (connector : connec
       (k.ask (reverse progress.run)) asked.link
   pub yields : progress.stuck ≡ false → IfSome (connector.members first)
       (YieldsOf k connector.members link.answers progress.run asked)
+  pub yielded : IfSome (connector.members first)
+      (λ members. AllYieldedOf k members (reverse progress.run))
 
 -- A turn that went through: one ask, one more event, which is published before the next turn.
 pub record TurnedOnce {S L I M B R N : Type 0} (k : Kind I M B R)
@@ -112,13 +115,24 @@ TurnsBy k connector link records old (Ok end) new =
     TurnedOnce k connector link records old end new
 TurnsBy k connector link records old (Err e) new = TurnedAway k connector link old new
 
--- a terminal event came after the run, and is not part of it; or memory ran out
-abbrev pub StopsFor : {I M B R : Type 0} → Kind I M B R → List (SessionEvent I) → Stop → Type 0
-StopsFor {I} k run (stops.Terminal end) =
-    (e : SessionEvent I) × (k.refusal (reverse run) e ≡ Some end)
-StopsFor k run stops.OutOfMemory = Unit {0}
+-- An event that came after the run is terminal, and is not part of it. Where it is not a moment, it
+-- is what the ask after the run takes of what the connector had to yield.
+pub record EndsRun {I M B R : Type 0} (k : Kind I M B R) (members : Option (List Member))
+    (run : List (SessionEvent I)) (event : SessionEvent I) (end : Terminal) : Type 0 where
+  pub refused : k.refusal (reverse run) event ≡ Some end
+  pub orderly : IsOrderlyOf k (reverse run)
+  pub yielded : IfSome members (λ m. AllYieldedOf k m (event ∷ reverse run))
 
--- ---- of an X.509 session
+-- that event was terminal, or memory ran out
+abbrev pub EndsFor : {I M B R : Type 0} → Kind I M B R → Option (List Member)
+    → List (SessionEvent I) → SessionEvent I → Stop → Type 0
+EndsFor k members run event (stops.Terminal end) = EndsRun k members run event end
+EndsFor k members run event stops.OutOfMemory = Unit {0}
 
-abbrev pub StopsBy : Rules → List Event → Stop → Type 0
-StopsBy rules run stop = StopsFor (x509 rules) run stop
+-- the ask after the run yielded a terminal event, or memory ran out
+abbrev pub StopsFor : {I M B R : Type 0} → Kind I M B R → Option (List Member)
+    → List (SessionEvent I) → Stop → Type 0
+StopsFor {I} k members run (stops.Terminal end) =
+    (e : SessionEvent I) × (does_answer (k.ask (reverse run)) e ≡ true)
+    × EndsRun k members run e end
+StopsFor k members run stops.OutOfMemory = Unit {0}

@@ -8,6 +8,7 @@ use Rattle.spf_board.specs.Past.{Past}
 use Rattle.spf_link.specs.Connecting.{Member}
 use Rattle.spf_system.specs.declared.reconnect_config.ReconnectConfig.{ReconnectConfig}
 use Rattle.spf_system.specs.declared.pace.Pace.{Pace}
+use Rattle.spf_board.specs.Lists.{steps_of as board_steps}
 use Rattle.spf_view.specs.Steps.{Step, steps_of}
 use Rattle.spf_feed.specs.declared.event.SessionEvent.{SessionEvent}
 use Rattle.spf_feed.specs.declared.step.Denial.{Denial}
@@ -92,7 +93,29 @@ pub record LeftOf (G I X P : Type 0) : Type 0 where
 abbrev pub left_of : {G I X P : Type 0} → Past P → Option (RecordedOf G I X) → LeftOf G I X P
 left_of past recorded = record { past = past; recorded = recorded }
 
+-- The steps of a run are what was published. A step is `plain` without its sharing, and `shown` as
+-- it stands on a board.
+pub record IsPublishedBy {I X P M B R : Type 0} (plain : X → Step M B Denial) (shown : X → P)
+    (k : Kind I M B R) (run : List (SessionEvent I)) (published : List P) : Type 0 where
+  pub steps : List X
+  pub steps_are : map plain steps ≡ steps_of k.subject run
+  pub published_are : map shown steps ≡ published
+
+-- What a supervisor went through, also where memory ran out: its events go on from those of the
+-- initial synchronisation and have no more moments, they answer their asks and are what the
+-- connector had to yield, where that is known, and their steps are what it published.
+pub record WentThroughBy {S G I X P M B R : Type 0} (members : S → Option (List Member))
+    (kind : G → Kind I M B R) (plain : X → Step M B Denial) (shown : X → P)
+    (job : AssignedOf S G I) (published : List P) : Type 0 where
+  pub run : List (SessionEvent I)
+  pub goes_on : GoesOn job.run run
+  pub orderly : IsOrderlyOf (kind job.rules) (reverse run)
+  pub yielded : IfSome (members job.first) (λ m. AllYieldedOf (kind job.rules) m (reverse run))
+  pub published_is : IsPublishedBy plain shown (kind job.rules) run published
+
 pub record IsLeftByOf {S G I X P M B R : Type 0} (members : S → Option (List Member))
-    (kind : G → Kind I M B R) (job : AssignedOf S G I) (done : LeftOf G I X P) : Type 0 where
+    (kind : G → Kind I M B R) (plain : X → Step M B Denial) (shown : X → P)
+    (job : AssignedOf S G I) (done : LeftOf G I X P) : Type 0 where
   pub board : done.past.book ≡ job.board
+  pub went : WentThroughBy members kind plain shown job (board_steps done.past.list)
   pub record_is : IfSome done.recorded (IsOfBy members kind job)

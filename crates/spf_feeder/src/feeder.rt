@@ -3,7 +3,7 @@
 ghost use Rattle.std.specs.Prelude.{◌≡◌, [], false, IfErr, IfSome, reverse};
 ghost use Rattle.spf_view.specs.Views.{has_synced};
 ghost use Rattle.spf_feed.specs.declared.event.SessionEvent.TheVariants as events;
-ghost use Rattle.spf_feeder.specs.Fed.{IsFed, StopsFor, TurnsBy, YieldsOf, with_core};
+ghost use Rattle.spf_feeder.specs.Fed.{EndsFor, IsFed, StopsFor, TurnsBy, YieldsOf, with_core};
 ghost use Rattle.spf_feeder.specs.Kept.{AdvancesBy};
 ghost use Rattle.spf_feeder.specs.Asking.{is_client};
 ghost use Rattle.spf_feeder.specs.Coming.{AllYieldedOf};
@@ -155,8 +155,13 @@ where
     /// Whether an item was accepted.
     pub(crate) fn is_synced(&self) -> bool
         requires { (S.progress self.now.core).stuck ≡ false }
-        ensures { result ≡ has_synced (S.Rules.kind (S.given self.now.core).rules).subject
+        ensures synced { result ≡ has_synced (S.Rules.kind (S.given self.now.core).rules).subject
             (reverse (S.progress self.now.core).run) }
+        ensures orderly { spec.IsOrderlyOf (S.Rules.kind (S.given self.now.core).rules)
+            (reverse (S.progress self.now.core).run) }
+        ensures yielded { IfSome (C.members self.now.first) (λ members. AllYieldedOf
+            (S.Rules.kind (S.given self.now.core).rules) members
+            (reverse (S.progress self.now.core).run)) }
     {
         self.session.is_synced()
     }
@@ -183,8 +188,8 @@ where
         ensures given { S.given self.new.core ≡ S.given self.old.core }
         ensures first { self.new.first ≡ self.old.first }
         ensures asked { self.new.asked ≡ self.old.asked }
-        ensures ended { IfErr result (StopsFor (S.Rules.kind (S.given self.old.core).rules)
-            (S.progress self.new.core).run) }
+        ensures ended { IfErr result (EndsFor (S.Rules.kind (S.given self.old.core).rules)
+            (C.members self.old.first) (S.progress self.old.core).run (events.Moment moment)) }
         ensures advances { AdvancesBy (S.Rules.kind (S.given self.old.core).rules) S.records
             (S.progress self.old.core) (events.Moment moment) result (S.progress self.new.core) }
     {
@@ -198,7 +203,7 @@ where
         ensures published { S.publishes (S.publisher self.new.core) (S.given self.new.core).rules
             (S.progress self.new.core).run }
         ensures ended { IfErr result (StopsFor (S.Rules.kind (S.given self.old.core).rules)
-            (S.progress self.new.core).run) }
+            (C.members self.old.first) (S.progress self.old.core).run) }
         ensures goes_on { GoesOn (S.progress self.old.core).run (S.progress self.new.core).run }
         ensures turn { TurnsBy (S.Rules.kind (S.given self.old.core).rules) C.Connector C.Link.Link
             S.records
@@ -277,8 +282,7 @@ where
     /// Returns the session of a feeder that asks no more. Its connector and its link are dropped.
     pub fn into_session(self) -> S
         ensures session { result ≡ self.core }
-        ensures yielded { (S.progress self.core).stuck ≡ false
-            → IfSome (C.members self.first) (λ members. AllYieldedOf
+        ensures yielded { IfSome (C.members self.first) (λ members. AllYieldedOf
             (S.Rules.kind (S.given self.core).rules) members (reverse (S.progress self.core).run)) }
     {
         let SessionFeeder { session, .. } = self;

@@ -3,10 +3,11 @@
 ghost use Rattle.std.specs.Prelude.{◌≡◌, false, IfSome, None, reverse};
 ghost use Rattle.spf_system.specs.declared.maker.Maker.TheVariants as makers;
 ghost use Rattle.spf_feeder.specs.Coming.{AllYieldedOf};
-ghost use Rattle.spf_feeder.specs.Orderly.{IsSyncedOf};
+ghost use Rattle.spf_feeder.specs.Orderly.{IsOrderlyOf, IsSyncedOf};
 ghost use Rattle.spf_feeder.specs.Pacing.{KeepsPaceOf};
 ghost use Rattle.spf_feeder.specs.Connectors.{unyielded};
-ghost use Rattle.spf_feeder.specs.Records.{IsLeftByOf, assigned, task_of};
+ghost use Rattle.spf_board.specs.Lists.{steps_of as board_steps};
+ghost use Rattle.spf_feeder.specs.Records.{IsLeftByOf, IsPublishedBy, assigned, task_of};
 
 use crate::done::SupervisorDone;
 use crate::feeder::SessionFeeder;
@@ -101,8 +102,13 @@ where
     ensures board { result.past.book ≡ S.Publisher.board (S.publisher feeder.core) }
     ensures recorded { IfSome result.recorded (λ r. (r.run ≡ (S.progress feeder.core).run)
         × (r.rules ≡ (S.given feeder.core).rules) × (r.pace ≡ pace) × (r.closed ≡ closed)) }
+    ensures orderly { IsOrderlyOf (S.Rules.kind (S.given feeder.core).rules)
+        (reverse (S.progress feeder.core).run) }
     ensures yielded { IfSome (C.members feeder.first) (λ m. AllYieldedOf
         (S.Rules.kind (S.given feeder.core).rules) m (reverse (S.progress feeder.core).run)) }
+    ensures published { IsPublishedBy S.Rules.plain S.Publisher.shown
+        (S.Rules.kind (S.given feeder.core).rules) (S.progress feeder.core).run
+        (board_steps result.past.list) }
 {
     let SessionParts {
         publisher,
@@ -128,6 +134,13 @@ where
     S::Publisher: Finishes<K, S>,
     ensures board { result.past.book ≡ S.Publisher.board (S.publisher feeder.core) }
     ensures recorded { result.recorded ≡ None }
+    ensures orderly { IsOrderlyOf (S.Rules.kind (S.given feeder.core).rules)
+        (reverse (S.progress feeder.core).run) }
+    ensures yielded { IfSome (C.members feeder.first) (λ m. AllYieldedOf
+        (S.Rules.kind (S.given feeder.core).rules) m (reverse (S.progress feeder.core).run)) }
+    ensures published { IsPublishedBy S.Rules.plain S.Publisher.shown
+        (S.Rules.kind (S.given feeder.core).rules) (S.progress feeder.core).run
+        (board_steps result.past.list) }
 {
     let SessionParts { publisher, .. } = feeder.into_session().into_parts();
     let (ended, _steps) = publisher.finish();
@@ -214,11 +227,13 @@ where
 
     ghost use Rattle.spf_feeder.specs.Records.{IsLeftByOf};
 
-    ghost may_give = { IsLeftByOf C.members S.Rules.kind };
+    ghost may_give = { IsLeftByOf C.members S.Rules.kind S.Rules.plain S.Publisher.shown };
 
     fn run(self) -> SupervisorDone<K, S>
-        ensures left { IsLeftByOf C.members S.Rules.kind self result }
-        ensures task { IsLeftByOf unyielded S.Rules.kind (task_of self) result }
+        ensures left { IsLeftByOf C.members S.Rules.kind S.Rules.plain S.Publisher.shown self
+            result }
+        ensures task { IsLeftByOf unyielded S.Rules.kind S.Rules.plain S.Publisher.shown
+            (task_of self) result }
     {
         let SupervisorJob {
             mut feeder,

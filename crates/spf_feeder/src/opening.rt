@@ -1,14 +1,14 @@
 //! How the feeder of a session is opened: by its initial synchronisation.
 
-ghost use Rattle.std.specs.Prelude.{◌≡◌, ◌∷◌, [], ◌≤ℤ◌, pos, false, true, IfErr, IfOk, List};
+ghost use Rattle.std.specs.Prelude.{◌≡◌, ◌∷◌, [], ◌≤ℤ◌, pos, false, true, IfErr, IfOk, IfSome};
 ghost use Rattle.std.specs.Prelude.{reverse};
 ghost use Rattle.std.specs.Option.{option_map};
 ghost use Rattle.spf_view.specs.Views.{has_synced};
-ghost use Rattle.spf_feed.specs.declared.event.SessionEvent.{SessionEvent};
 ghost use Rattle.spf_feed.specs.declared.event.SessionEvent.TheVariants as events;
 ghost use Rattle.spf_feed.specs.declared.phase.Phase.TheVariants as phases;
-ghost use Rattle.spf_feeder.specs.Fed.{StopsFor};
-ghost use Rattle.spf_feeder.specs.Orderly.{IsFirstStep, IsTimedOf};
+ghost use Rattle.spf_feeder.specs.Coming.{AllYieldedOf};
+ghost use Rattle.spf_feeder.specs.Opened.{StopsAt};
+ghost use Rattle.spf_feeder.specs.Orderly.{IsFirstStep, IsOrderlyOf, IsTimedOf};
 ghost use Rattle.spf_feeder.specs.Pacing.{KeepsPaceOf};
 ghost use Rattle.spf_feeder.specs.Times.{GivesMoments, TakesMoment};
 ghost use Rattle.spf_feeder.specs.Times.{deadline_after as deadline_from};
@@ -87,13 +87,18 @@ where
     // The moments after the first are those that the clock gave.
     ensures clock { IfOk result (λ r. GivesMoments (T.moments clock.old) (T.moments clock.new)
         (events.Moment first ∷ []) (S.progress r.0.core).run) }
+    ensures orderly { IfOk result (λ r. IsOrderlyOf (S.Rules.kind (S.given session).rules)
+        (reverse (S.progress r.0.core).run)) }
+    ensures yielded { IfOk result (λ r. IfSome (C.members connector) (λ m. AllYieldedOf
+        (S.Rules.kind (S.given session).rules) m (reverse (S.progress r.0.core).run))) }
     ensures bounds { IfOk result (λ r. r.1.bounds ≡ bounds) }
     ensures paces { IfOk result (λ r. KeepsPaceOf (S.Rules.kind (S.given session).rules)
         (S.progress r.0.core).run r.1) }
 
     // A terminal event came before anything was accepted.
-    ensures ended { IfErr result (λ stop. (run : List (SessionEvent S.Rules.Item))
-        × StopsFor (S.Rules.kind (S.given session).rules) run stop) }
+    ensures ended { IfErr result (StopsAt (S.Rules.kind (S.given session).rules)
+        (C.members connector) (T.moments clock.old) (T.moments clock.new)
+        (events.Moment first ∷ [])) }
 {
     let mut feeder = SessionFeeder::new(alloc, connector, session);
     if let Err(stop) = feeder.take_moment(first) {

@@ -86,7 +86,9 @@ pub trait Session: Drop {
     /// Whether an item was accepted.
     fn is_synced(&self) -> bool
         requires { (progress self.now).stuck ≡ false }
-        ensures { result ≡ has_synced (Self.Rules.kind (given self.now).rules).subject
+        ensures synced { result ≡ has_synced (Self.Rules.kind (given self.now).rules).subject
+            (reverse (progress self.now).run) }
+        ensures orderly { IsOrderlyOf (Self.Rules.kind (given self.now).rules)
             (reverse (progress self.now).run) };
 
     /// Returns the events so far, oldest first.
@@ -133,6 +135,8 @@ pub trait Session: Drop {
         ensures given { given self.new ≡ given self.old }
         ensures published { publishes (publisher self.new) (given self.new).rules
             (progress self.new).run }
+        ensures orderly { IsOrderlyOf (Self.Rules.kind (given self.new).rules)
+            (reverse (progress self.new).run) }
         ensures advances { AdvancesBy (Self.Rules.kind (given self.old).rules) records
             (progress self.old) event result (progress self.new) };
 

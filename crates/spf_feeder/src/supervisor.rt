@@ -39,7 +39,7 @@ where
         (S.progress feeder.old.core).run
         pace.old result (S.progress feeder.new.core).run pace.new }
     ensures ended { IfErr result (StopsFor (S.Rules.kind (S.given feeder.old.core).rules)
-        (S.progress feeder.new.core).run) }
+        (C.members feeder.old.first) (S.progress feeder.old.core).run) }
 {
     let was_synced = feeder.is_synced();
     match feeder.ask_once()? {

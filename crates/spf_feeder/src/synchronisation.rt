@@ -1,10 +1,12 @@
 //! The initial synchronisation: attempts with a moment of the clock before each, until an item is
 //! accepted.
 
-ghost use Rattle.std.specs.Prelude.{◌≡◌, ◌≤ℤ◌, false, true, pos, IfErr, OnOk, reverse};
+ghost use Rattle.std.specs.Prelude.{◌≡◌, ◌≤ℤ◌, false, true, pos, IfErr, IfSome, OnOk, reverse};
 ghost use Rattle.spf_view.specs.Views.{has_synced};
-ghost use Rattle.spf_feeder.specs.Fed.{StopsFor};
-ghost use Rattle.spf_feeder.specs.Orderly.{IsAboutToAsk, IsFirstStep, IsOpening, IsTimedOf};
+ghost use Rattle.spf_feeder.specs.Coming.{AllYieldedOf};
+ghost use Rattle.spf_feeder.specs.Opened.{StopsAt};
+ghost use Rattle.spf_feeder.specs.Orderly.{IsAboutToAsk, IsFirstStep, IsOpening, IsOrderlyOf};
+ghost use Rattle.spf_feeder.specs.Orderly.{IsTimedOf};
 ghost use Rattle.spf_feeder.specs.Pacing.{KeepsPaceOf};
 ghost use Rattle.spf_feeder.specs.Times.{GivesMoments, TakesMoment};
 ghost use Rattle.spf_feeder.specs.Times as spec;
@@ -81,8 +83,9 @@ where
         (S.progress feeder.old.core).run pace
         → OnOk result (KeepsPaceOf (S.Rules.kind (S.given feeder.old.core).rules)
         (S.progress feeder.new.core).run pace) }
-    ensures ended { IfErr result (StopsFor (S.Rules.kind (S.given feeder.old.core).rules)
-        (S.progress feeder.new.core).run) }
+    ensures ended { IfErr result (StopsAt (S.Rules.kind (S.given feeder.old.core).rules)
+        (C.members feeder.old.first) (T.moments clock.old) (T.moments clock.new)
+        (S.progress feeder.old.core).run) }
 {
     if !feeder.asks_client() || feeder.ends_with_moment() {
         return Ok(());
@@ -130,10 +133,16 @@ where
     ensures going { OnOk result ((S.progress feeder.new.core).stuck ≡ false) }
     ensures synced { OnOk result (has_synced (S.Rules.kind (S.given feeder.old.core).rules).subject
         (reverse (S.progress feeder.new.core).run) ≡ true) }
+    ensures orderly { OnOk result (IsOrderlyOf (S.Rules.kind (S.given feeder.old.core).rules)
+        (reverse (S.progress feeder.new.core).run)) }
+    ensures yielded { OnOk result (IfSome (C.members feeder.new.first) (λ m. AllYieldedOf
+        (S.Rules.kind (S.given feeder.old.core).rules) m
+        (reverse (S.progress feeder.new.core).run))) }
     ensures paces { OnOk result (KeepsPaceOf (S.Rules.kind (S.given feeder.old.core).rules)
         (S.progress feeder.new.core).run pace.new) }
-    ensures ended { IfErr result (StopsFor (S.Rules.kind (S.given feeder.old.core).rules)
-        (S.progress feeder.new.core).run) }
+    ensures ended { IfErr result (StopsAt (S.Rules.kind (S.given feeder.old.core).rules)
+        (C.members feeder.old.first) (T.moments clock.old) (T.moments clock.new)
+        (S.progress feeder.old.core).run) }
 {
     'asks: for _ in rt.forever() {
         moment_before(rt, feeder, clock, pause, delay)?;

@@ -38,5 +38,6 @@ where
     ghost use Rattle.spf_feeder.specs.Connectors.{unyielded};
     ghost use Rattle.spf_feeder.specs.Records.{IsLeftByOf};
 
-    ghost kept_by = { λ task done. IsLeftByOf unyielded S.Rules.kind task done };
+    ghost kept_by = { λ task done. IsLeftByOf unyielded S.Rules.kind S.Rules.plain
+        S.Publisher.shown task done };
 }

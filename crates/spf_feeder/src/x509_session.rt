@@ -359,6 +359,7 @@ impl<P: Publisher + Drop, M: MetricsRecorder + Drop, K: SvidPicker + Drop> Sessi
         ensures given { given P.target self.new ≡ given P.target self.old }
         ensures published { Published (P.steps self.new.publisher)
             (rules_by K.picks self.new.rules) self.new.run }
+        ensures orderly { IsOrderly (rules_by K.picks self.new.rules) (reverse self.new.run) }
         ensures advances { AdvancesBy
             (kind_by K.picks self.old.rules) M.records
             (progress self.old) event result (progress self.new) }

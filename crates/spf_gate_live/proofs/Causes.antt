@@ -1,5 +1,5 @@
 -- Why runs fail, from the causes of their parts.
-use Rattle.std.proofs.Common.{◌≡◌, refl, sym, subst, ℕ, Bool, true, false, List, Option}
+use Rattle.std.proofs.Common.{◌≡◌, refl, sym, subst, ℕ, Bool, true, false, List, [], Option}
 use Rattle.std.proofs.Common.{Result, Ok, Err}
 use Rattle.std.specs.Prelude.{IfErr}
 use Rattle.spf_api.specs.declared.endpoint_error.EndpointError.{EndpointError}
@@ -8,96 +8,107 @@ use Rattle.spf_link.specs.Connecting.{Member}
 use Rattle.spf_x509.specs.Svid.{Svid}
 use Rattle.spf_feed.specs.declared.state.X509SourceError.{X509SourceError}
 use Rattle.spf_feed.specs.declared.state.X509SourceError.TheVariants as source
+use Rattle.spf_feeder.specs.Opened.{Meeting}
 use Rattle.spiffe.specs.declared.builder.Settings.{Settings}
 use Rattle.spiffe.specs.Building.{IsDefault, PrepareFails}
 use Rattle.spf_gate.specs.declared.gate_error.GateError.{GateError}
 use Rattle.spf_gate.specs.declared.gate_error.GateError.TheVariants as gate
 use Rattle.spf_gate.specs.Serving.{HasCauses}
+use Rattle.spf_gate.proofs.CutLemmas.{cut_at_first}
+use Rattle.spf_board.proofs.Prefixes.{begins_self}
 use Rattle.spf_gate_live.specs.Ends.{end_of, error_of}
-use Rattle.spf_gate_live.specs.Runs.{FailsBy, Runs}
+use Rattle.spf_gate_live.specs.Runs.{AnswersUntil, FailsBy, Runs, max_lines}
 use Rattle.spf_gate_live.specs.declared.live_error.LiveGateError.{LiveGateError}
-use Rattle.spf_gate_live.specs.declared.live_error.LiveGateError.TheVariants as errors
 
-served_by : {K : Type 0} (picks : K → List Svid → Option ℕ)
+served_by : {K : Type 0} (members : Option (List Member)) (picks : K → List Svid → Option ℕ)
     (valid : Result (Unit {0}) EndpointError) (supervisor place : Type 0)
     (reads reads' writes writes' : ℕ) (served : Result ℕ GateError) (recorded : Bool)
     → HasCauses reads reads' writes writes' served
     → IfErr (end_of served recorded)
-    (FailsBy picks valid supervisor place (Rose reads reads') (Rose writes writes'))
-served_by picks valid supervisor place reads reads' writes writes' (Ok count) true causes = tt
-served_by picks valid supervisor place reads reads' writes writes' (Ok count) false causes = tt
-served_by picks valid supervisor place reads reads' writes writes' (Err gate.ReadFault) recorded
+    (FailsBy members picks valid supervisor place (Rose reads reads') (Rose writes writes'))
+served_by members picks valid supervisor place reads reads' writes writes' (Ok count) true causes = tt
+served_by members picks valid supervisor place reads reads' writes writes' (Ok count) false causes = tt
+served_by members picks valid supervisor place reads reads' writes writes' (Err gate.ReadFault) recorded
     causes = causes.read refl
-served_by picks valid supervisor place reads reads' writes writes' (Err gate.WriteFault) recorded
+served_by members picks valid supervisor place reads reads' writes writes' (Err gate.WriteFault) recorded
     causes = causes.write refl
-served_by picks valid supervisor place reads reads' writes writes' (Err (gate.BadRule line))
+served_by members picks valid supervisor place reads reads' writes writes' (Err (gate.BadRule line))
     recorded causes = tt
-served_by picks valid supervisor place reads reads' writes writes' (Err gate.NoPolicyEnd) recorded
+served_by members picks valid supervisor place reads reads' writes writes' (Err gate.NoPolicyEnd) recorded
     causes = tt
-served_by picks valid supervisor place reads reads' writes writes' (Err (gate.LineTooLong line))
+served_by members picks valid supervisor place reads reads' writes writes' (Err (gate.LineTooLong line))
     recorded causes = tt
-served_by picks valid supervisor place reads reads' writes writes' (Err (gate.NotText line))
+served_by members picks valid supervisor place reads reads' writes writes' (Err (gate.NotText line))
     recorded causes = tt
-served_by picks valid supervisor place reads reads' writes writes' (Err gate.TooManyLines) recorded
+served_by members picks valid supervisor place reads reads' writes writes' (Err gate.TooManyLines) recorded
     causes = tt
-served_by picks valid supervisor place reads reads' writes writes' (Err gate.OutOfMemory) recorded
+served_by members picks valid supervisor place reads reads' writes writes' (Err gate.OutOfMemory) recorded
     causes = tt
 
 -- why answering fails
-pub served_fails : {K : Type 0} (picks : K → List Svid → Option ℕ)
+pub served_fails : {K : Type 0} (members : Option (List Member)) (picks : K → List Svid → Option ℕ)
     (valid : Result (Unit {0}) EndpointError) (supervisor place : Type 0)
     (reads reads' writes writes' : ℕ) (served : Result ℕ GateError) (recorded : Bool)
     (end : Result (Unit {0}) LiveGateError) → end ≡ end_of served recorded
     → HasCauses reads reads' writes writes' served
-    → IfErr end (FailsBy picks valid supervisor place (Rose reads reads') (Rose writes writes'))
-served_fails picks valid supervisor place reads reads' writes writes' served recorded end is
+    → IfErr end (FailsBy members picks valid supervisor place (Rose reads reads') (Rose writes writes'))
+served_fails members picks valid supervisor place reads reads' writes writes' served recorded end is
     causes =
     subst (λ (r : Result (Unit {0}) LiveGateError).
-    IfErr r (FailsBy picks valid supervisor place (Rose reads reads') (Rose writes writes')))
+    IfErr r (FailsBy members picks valid supervisor place (Rose reads reads') (Rose writes writes')))
     (sym is)
-    (served_by picks valid supervisor place reads reads' writes writes' served recorded causes)
+    (served_by members picks valid supervisor place reads reads' writes writes' served recorded causes)
 
-prepared_by : {K : Type 0} (picks : K → List Svid → Option ℕ) (set : Settings K)
-    (valid : Result (Unit {0}) EndpointError) (before now : ℕ)
-    (supervisor place input output : Type 0) (e : X509SourceError) → IsDefault set
-    → (Rose before now → place) → PrepareFails picks set valid before now e
-    → FailsBy picks valid supervisor place input output (error_of e)
-prepared_by picks set valid before now supervisor place input output (source.Source e) is f why =
-    (e, (set, is, why))
-prepared_by picks set valid before now supervisor place input output (source.UnsupportedRpc e) is
-    f why = (e, (set, is, why))
-prepared_by picks set valid before now supervisor place input output source.NoPlace is f why = f why
-prepared_by picks set valid before now supervisor place input output source.NoSupervisor is f why =
+prepared_by : {K : Type 0} (picks : K → List Svid → Option ℕ) (set : Settings K) (met : Meeting)
+    (before now : ℕ) (supervisor place input output : Type 0) (e : X509SourceError)
+    → IsDefault set → (Rose before now → place) → PrepareFails picks set met before now e
+    → FailsBy met.members picks met.valid supervisor place input output (error_of e)
+prepared_by picks set met before now supervisor place input output (source.Source e) is f why =
+    (e, (set, met.clock, met.clock_after, is, why))
+prepared_by picks set met before now supervisor place input output (source.UnsupportedRpc e) is
+    f why = (e, (set, met.clock, met.clock_after, is, why))
+prepared_by picks set met before now supervisor place input output source.NoPlace is f why =
+    f why.1
+prepared_by picks set met before now supervisor place input output source.NoSupervisor is f why =
     absurd why
-prepared_by picks set valid before now supervisor place input output source.InitialSyncTimeout is f
+prepared_by picks set met before now supervisor place input output source.InitialSyncTimeout is f
     why = tt
-prepared_by picks set valid before now supervisor place input output source.OutOfMemory is f why =
+prepared_by picks set met before now supervisor place input output source.OutOfMemory is f why =
     tt
-prepared_by picks set valid before now supervisor place input output source.NoSuitableSvid is f why
+prepared_by picks set met before now supervisor place input output source.NoSuitableSvid is f why
     = tt
-prepared_by picks set valid before now supervisor place input output (source.Withdrawn d) is f why =
+prepared_by picks set met before now supervisor place input output (source.Withdrawn d) is f why =
     tt
-prepared_by picks set valid before now supervisor place input output source.Closed is f why = tt
-prepared_by picks set valid before now supervisor place input output source.StreamEnded is f why =
+prepared_by picks set met before now supervisor place input output source.Closed is f why = tt
+prepared_by picks set met before now supervisor place input output source.StreamEnded is f why =
     tt
-prepared_by picks set valid before now supervisor place input output
+prepared_by picks set met before now supervisor place input output
     (source.ResourceLimitExceeded k l a) is f why = tt
-prepared_by picks set valid before now supervisor place input output (source.ShutdownTimeout s t) is
+prepared_by picks set met before now supervisor place input output (source.ShutdownTimeout s t) is
     f why = tt
 
 -- why a source is not built
-pub prepare_fails : {K : Type 0} (picks : K → List Svid → Option ℕ) (set : Settings K)
-    (valid found : Result (Unit {0}) EndpointError) (before now : ℕ)
+pub prepare_fails : {K : Type 0} (members : Option (List Member)) (picks : K → List Svid → Option ℕ)
+    (set : Settings K) (valid : Result (Unit {0}) EndpointError) (met : Meeting) (before now : ℕ)
     (supervisor place input output : Type 0) (e : X509SourceError) (error : LiveGateError)
-    → found ≡ valid → error ≡ error_of e → IsDefault set → (Rose before now → place)
-    → PrepareFails picks set found before now e
-    → FailsBy picks valid supervisor place input output error
-prepare_fails picks set valid found before now supervisor place input output e error valid_is
-    error_is is f why =
-    subst (λ (x : Result (Unit {0}) EndpointError × LiveGateError).
-    FailsBy picks x.0 supervisor place input output x.1)
-    (λ i. (valid_is i, sym error_is i))
-    (prepared_by picks set found before now supervisor place input output e is f why)
+    → met.members ≡ members → met.valid ≡ valid → error ≡ error_of e → IsDefault set
+    → (Rose before now → place) → PrepareFails picks set met before now e
+    → FailsBy members picks valid supervisor place input output error
+prepare_fails members picks set valid met before now supervisor place input output e error
+    members_are valid_is error_is is f why =
+    subst (λ (x : Option (List Member) × Result (Unit {0}) EndpointError × LiveGateError).
+    FailsBy x.0 picks x.1 supervisor place input output x.2)
+    (λ i. (members_are i, valid_is i, sym error_is i))
+    (prepared_by picks set met before now supervisor place input output e is f why)
+
+-- memory runs out before a source is built
+unanswered : (left held : Option (List ℕ)) → AnswersUntil left left held held gate.OutOfMemory
+unanswered left held = (
+  [],
+  [],
+  (λ uncut. absurd (cc)),
+  λ is. cut_at_first max_lines left [] [] held gate.OutOfMemory (begins_self []),
+)
 
 unbuilt_so : {K : Type 0} (members : Option (List Member)) (picks : K → List Svid → Option ℕ)
     (left held : Option (List ℕ)) (e : X509SourceError)
@@ -106,14 +117,14 @@ unbuilt_so members picks left held (source.Source e) = (refl, refl)
 unbuilt_so members picks left held (source.UnsupportedRpc e) = (refl, refl)
 unbuilt_so members picks left held source.NoPlace = (refl, refl)
 unbuilt_so members picks left held source.NoSupervisor = (refl, refl)
-unbuilt_so members picks left held source.InitialSyncTimeout = λ uncut. absurd (cc)
-unbuilt_so members picks left held source.OutOfMemory = λ uncut. absurd (cc)
-unbuilt_so members picks left held source.NoSuitableSvid = λ uncut. absurd (cc)
-unbuilt_so members picks left held (source.Withdrawn d) = λ uncut. absurd (cc)
-unbuilt_so members picks left held source.Closed = λ uncut. absurd (cc)
-unbuilt_so members picks left held source.StreamEnded = λ uncut. absurd (cc)
-unbuilt_so members picks left held (source.ResourceLimitExceeded k l a) = λ uncut. absurd (cc)
-unbuilt_so members picks left held (source.ShutdownTimeout s t) = λ uncut. absurd (cc)
+unbuilt_so members picks left held source.InitialSyncTimeout = unanswered left held
+unbuilt_so members picks left held source.OutOfMemory = unanswered left held
+unbuilt_so members picks left held source.NoSuitableSvid = unanswered left held
+unbuilt_so members picks left held (source.Withdrawn d) = unanswered left held
+unbuilt_so members picks left held source.Closed = unanswered left held
+unbuilt_so members picks left held source.StreamEnded = unanswered left held
+unbuilt_so members picks left held (source.ResourceLimitExceeded k l a) = unanswered left held
+unbuilt_so members picks left held (source.ShutdownTimeout s t) = unanswered left held
 
 -- where no source is built, nothing is read or written
 pub unbuilt : {K : Type 0} (members : Option (List Member)) (picks : K → List Svid → Option ℕ)

@@ -1,7 +1,7 @@
 -- What a run does whose source was built.
 use Rattle.std.proofs.Common.{◌≡◌, sym, ap, ◌∙◌, refl, subst, ℕ, Bool, true, false, List}
 use Rattle.std.proofs.Common.{map, reverse, Option, None, Some, Result, Ok, Err}
-use Rattle.std.specs.Prelude.{ℤ, IfSome, IfOk, is_ok}
+use Rattle.std.specs.Prelude.{ℤ, IfErr, IfSome, IfOk, is_ok}
 use mathlib.Core.List.{IsPrefix}
 use Rattle.spf_board.specs.Lists.{is_ended, steps_of}
 use Rattle.spf_io.specs.declared.memory.OutOfMemory.{OutOfMemory}
@@ -16,7 +16,8 @@ use Rattle.spiffe.specs.Building.{IsAssigned, IsDefault}
 use Rattle.spiffe.specs.Records.{Assigned, IsLeftBy, IsOf, IsRecord, Left, Recorded}
 use Rattle.spf_gate.specs.declared.gate_error.GateError.{GateError}
 use Rattle.spf_gate.specs.declared.gate_error.GateError.TheVariants as gate
-use Rattle.spf_gate.specs.Serving.{Serves, is_cut}
+use Rattle.spf_gate.specs.Serving.{Serves, ServesPart, cuts, is_cut}
+use Rattle.spf_gate.proofs.CutLemmas.{cut_at_last}
 use Rattle.spiffe.specs.Passes.{Seen}
 use Rattle.spf_gate_live.specs.Ends.{end_of}
 use Rattle.spf_gate_live.specs.Runs.{AnswersAll, IsRecordOf, Runs, max_lines}
@@ -61,12 +62,13 @@ answered_so : {S K : Type 0} (members : S → Option (List Member))
     (done : Left K) (joined : Result (Recorded K) OutOfMemory) → IsDefault set
     → IsAssigned members picks set connector clock clock' job
     → (is_cut served ≡ false → Serves max_lines left left' seen last held held' served)
+    → IfErr served (λ e. cuts e ≡ true → ServesPart max_lines left seen last held held' e)
     → IsPrefix last published → IsLeftBy members picks job done
     → IfOk joined (λ r. done.recorded ≡ Some r) → IfOk joined (IsRecord picks)
     → IfOk joined (λ r. (map plain r.steps ≡ steps_of published) × (is_ended published ≡ true))
     → Runs (members connector) picks left left' held held' (end_of served (is_ok joined))
 answered_so members picks set connector clock clock' job left left' held held' seen last published
-    (Ok count) done (Ok found) is assigned serves begins leaves recorded kept settled =
+    (Ok count) done (Ok found) is assigned serves part begins leaves recorded kept settled =
     let of = subst (λ (o : Option (Recorded _)). IfSome o (IsOf members picks job)) recorded
     leaves.record_is in
     record {
@@ -81,11 +83,17 @@ answered_so members picks set connector clock clock' job left left' held held' s
           assigned kept of settled.0 settled.1;
     }
 answered_so members picks set connector clock clock' job left left' held held' seen last published
-    (Ok count) done (Err e) is assigned serves begins leaves recorded kept settled =
-    λ uncut. absurd (cc)
+    (Ok count) done (Err e) is assigned serves part begins leaves recorded kept settled = (
+      seen,
+      last,
+      (λ uncut. absurd (cc)),
+      λ is.
+          cut_at_last max_lines left left' seen last held held' count gate.OutOfMemory
+          (serves refl),
+    )
 answered_so members picks set connector clock clock' job left left' held held' seen last published
-    (Err e) done joined is assigned serves begins leaves recorded kept settled =
-    λ uncut. (seen, last, serves uncut)
+    (Err e) done joined is assigned serves part begins leaves recorded kept settled =
+    (seen, last, serves, part)
 
 -- the same for the handle's job, over the connector that was handed in
 pub answered : {S K : Type 0} (members : S → Option (List Member))
@@ -97,20 +105,21 @@ pub answered : {S K : Type 0} (members : S → Option (List Member))
     (end : Result (Unit {0}) LiveGateError) → own ≡ connector → IsDefault set
     → IsAssigned members picks set own clock clock' job → started ≡ job
     → (is_cut served ≡ false → Serves max_lines left left' seen last held held' served)
+    → IfErr served (λ e. cuts e ≡ true → ServesPart max_lines left seen last held held' e)
     → IsPrefix last published → IsLeftBy members picks started done
     → IfOk joined (λ r. done.recorded ≡ Some r) → IfOk joined (IsRecord picks)
     → IfOk joined (λ r. (map plain r.steps ≡ steps_of published) × (is_ended published ≡ true))
     → recorded ≡ is_ok joined → end ≡ end_of served recorded
     → Runs (members connector) picks left left' held held' end
 answered {S} {K} members picks set connector own clock clock' job started left left' held held'
-    seen last published served done joined recorded end by is assigned same serves begins leaves
-    found kept settled recorded_is end_is =
+    seen last published served done joined recorded end by is assigned same serves part begins
+    leaves found kept settled recorded_is end_is =
     let of_job = subst (λ (j : Assigned S K). IsLeftBy members picks j done) same leaves in
     subst (λ (x : S × Result (Unit {0}) LiveGateError).
     Runs (members x.0) picks left left' held held' x.1)
     (λ i. (by i, sym (end_is ∙ ap (end_of served) recorded_is) i))
     (answered_so members picks set own clock clock' job left left' held held' seen last
-    published served done joined is assigned serves begins of_job found kept settled)
+    published served done joined is assigned serves part begins of_job found kept settled)
 
 unyielded_all : {K : Type 0} (members : Option (List Member)) (picks : K → List Svid → Option ℕ)
     (left left' held held' : Option (List ℕ)) → AnswersAll members picks left left' held held'

@@ -16,12 +16,14 @@ use Rattle.spf_feed.specs.declared.state.X509SourceError.{X509SourceError}
 use Rattle.spf_feed.specs.declared.state.X509SourceError.TheVariants as source
 use Rattle.spf_feeder.specs.Coming.{AllYielded}
 use Rattle.spf_feeder.specs.Governed.{rules_by}
+use Rattle.spf_feeder.specs.Opened.{meeting}
 use Rattle.spiffe.specs.declared.builder.Settings.{Settings}
 use Rattle.spiffe.specs.Building.{IsDefault, SyncFails}
 use Rattle.spiffe.specs.Records.{IsRecord, Recorded}
 use Rattle.spf_gate.specs.declared.gate_error.GateError.{GateError}
 use Rattle.spf_gate.specs.declared.gate_error.GateError.TheVariants as gate
-use Rattle.spf_gate.specs.Serving.{Serves, cuts}
+use Rattle.spf_gate.specs.Serving.{Serves, ServesPart, cuts}
+use Rattle.spf_live.specs.Printing.{Moments}
 use Rattle.spiffe.specs.Passes.{Seen}
 use Rattle.spf_gate_live.specs.Ends.{end_status, error_line}
 use Rattle.spf_gate_live.specs.declared.live_error.LiveGateError.{LiveGateError}
@@ -58,12 +60,14 @@ pub record AnswersAll {K : Type 0} (members : Option (List Member))
   pub found : Recorded K
   pub is_record : IsRecordOf members picks published found
 
--- The asks before an error were answered, unless it is one that cuts a line.
+-- The asks before an error were answered. Where it is one that cuts the answers, what was written
+-- is a beginning of those to the first asks.
 abbrev pub AnswersUntil : Option (List ℕ) → Option (List ℕ) → Option (List ℕ) → Option (List ℕ)
     → GateError → Type 0
 AnswersUntil left left' held held' e =
-    cuts e ≡ false
-    → (first : Seen) × (last : Seen) × Serves max_lines left left' first last held held' (Err e)
+    (first : Seen) × (last : Seen)
+    × (cuts e ≡ false → Serves max_lines left left' first last held held' (Err e))
+    × (cuts e ≡ true → ServesPart max_lines left first last held held' e)
 
 -- what a run does, by its end: without a source nothing is read or written
 abbrev pub Runs : {K : Type 0} → Option (List Member) → (K → List Svid → Option ℕ)
@@ -77,26 +81,29 @@ Runs members picks left left' held held' (Err _) = (left' ≡ left) × (held' �
 
 -- ---- why a run fails
 
--- the initial synchronisation over the defaults gives this error
-abbrev pub SyncFailsBy : {K : Type 0} → (K → List Svid → Option ℕ)
+-- The initial synchronisation over the defaults gives this error, by the moments of some clock:
+-- without a deadline they decide nothing.
+abbrev pub SyncFailsBy : {K : Type 0} → Option (List Member) → (K → List Svid → Option ℕ)
     → Result (Unit {0}) EndpointError → X509SourceError → Type 0
-SyncFailsBy {K} picks valid e = (set : Settings K) × IsDefault set × SyncFails picks set valid e
+SyncFailsBy {K} members picks valid e =
+    (set : Settings K) × (clock : Moments) × (clock' : Moments) × IsDefault set
+    × SyncFails picks set (meeting valid members clock clock') e
 
 -- Why a run fails, by what the refusal of a supervisor and of a place, and a failure of the input
 -- and of the output come from. The other errors of answering come from the input's bytes, as `Runs`
 -- says.
-abbrev pub FailsBy : {K : Type 0} → (K → List Svid → Option ℕ) → Result (Unit {0}) EndpointError
-    → Type 0 → Type 0 → Type 0 → Type 0 → LiveGateError → Type 0
-FailsBy picks valid supervisor place input output errors.BadArguments = Unit {0}
-FailsBy picks valid supervisor place input output (errors.Gate gate.ReadFault) = input
-FailsBy picks valid supervisor place input output (errors.Gate gate.WriteFault) = output
-FailsBy picks valid supervisor place input output (errors.Gate e) = Unit {0}
-FailsBy picks valid supervisor place input output errors.Rejected =
-    (e : WorkloadApiError) × SyncFailsBy picks valid (source.Source e)
-FailsBy picks valid supervisor place input output errors.Unsupported =
-    (e : WorkloadApiError) × SyncFailsBy picks valid (source.UnsupportedRpc e)
-FailsBy picks valid supervisor place input output errors.NoSupervisor = supervisor
-FailsBy picks valid supervisor place input output errors.NoPlace = place
+abbrev pub FailsBy : {K : Type 0} → Option (List Member) → (K → List Svid → Option ℕ)
+    → Result (Unit {0}) EndpointError → Type 0 → Type 0 → Type 0 → Type 0 → LiveGateError → Type 0
+FailsBy members picks valid supervisor place input output errors.BadArguments = Unit {0}
+FailsBy members picks valid supervisor place input output (errors.Gate gate.ReadFault) = input
+FailsBy members picks valid supervisor place input output (errors.Gate gate.WriteFault) = output
+FailsBy members picks valid supervisor place input output (errors.Gate e) = Unit {0}
+FailsBy members picks valid supervisor place input output errors.Rejected =
+    (e : WorkloadApiError) × SyncFailsBy members picks valid (source.Source e)
+FailsBy members picks valid supervisor place input output errors.Unsupported =
+    (e : WorkloadApiError) × SyncFailsBy members picks valid (source.UnsupportedRpc e)
+FailsBy members picks valid supervisor place input output errors.NoSupervisor = supervisor
+FailsBy members picks valid supervisor place input output errors.NoPlace = place
 
 -- ---- the whole
 
@@ -106,6 +113,6 @@ pub record Ended {K : Type 0} (members : Option (List Member)) (picks : K → Li
     (left left' held held' : Option (List ℕ)) (before after : Side) (status : ℕ) : Type 0 where
   pub end : Result (Unit {0}) LiveGateError
   pub runs : Runs members picks left left' held held' end
-  pub cause : IfErr end (FailsBy picks valid supervisor place input output)
+  pub cause : IfErr end (FailsBy members picks valid supervisor place input output)
   pub status_is : status ≡ end_status end
   pub reported : IsEndReported error_line before after end

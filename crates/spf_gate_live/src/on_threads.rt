@@ -66,8 +66,8 @@ where
     K: Sink,
     ensures runs { Runs None (⟦<HintPicker as SvidPicker>⟧.picks) (I.left input.old)
         (I.left input.new) (K.held out.old) (K.held out.new) result }
-    ensures cause { IfErr result (FailsBy (⟦<HintPicker as SvidPicker>⟧.picks) (Ok tt) (Unit {0})
-        (Unit {0}) (Rose (I.failures input.old) (I.failures input.new))
+    ensures cause { IfErr result (FailsBy None (⟦<HintPicker as SvidPicker>⟧.picks) (Ok tt)
+        (Unit {0}) (Unit {0}) (Rose (I.failures input.old) (I.failures input.new))
         (Rose (K.failures out.old) (K.failures out.new))) }
     ensures arguments { IsErrOf result kinds.BadArguments → ⊥ }
 {

@@ -1,7 +1,7 @@
 -- Whether a snapshot is usable, after a first step and after one more.
-use Rattle.std.proofs.Common.{◌≡◌, ℕ, Bool, true, false, not, cond, refl, sym, ap, ◌∙◌}
+use Rattle.std.proofs.Common.{◌≡◌, ℕ, Bool, true, false, not, cond, refl, sym, ap}
 use Rattle.spf_view.specs.Views.{View, Waiting, Withdrawn, Permitted}
-use Rattle.spf_view.specs.Standing.{Kept, kept_first, kept_next, raised, shown_by}
+use Rattle.spf_view.specs.Standing.{Kept, kept_first, kept_next, raised}
 use Rattle.spf_view.specs.Steps.{Accept, Deny}
 use Rattle.spf_feed.specs.declared.step.Denial.{Denial}
 use Rattle.spf_jwt.specs.Bundle.{set_eq}

@@ -1,5 +1,5 @@
 -- What a builder makes of a source, and why it fails.
-use Rattle.std.specs.Prelude.{◌≡◌, ◌⊎◌, ℕ, ℤ, List, Option, None, Some, Result, Ok, Err}
+use Rattle.std.specs.Prelude.{◌≡◌, ◌⊎◌, ℕ, ℤ, List, Option, None, Some, Ok, Err}
 use Rattle.std.specs.Prelude.{if◌then◌else◌}
 use Rattle.std.specs.Duration.{as_nanos}
 use Rattle.std.specs.Option.{option_map}
@@ -13,7 +13,7 @@ use Rattle.spf_feed.specs.declared.turn.Terminal.{Terminal}
 use Rattle.spf_feed.specs.declared.turn.Terminal.TheVariants as terminal
 use Rattle.spf_feeder.specs.declared.session.Stop.{Stop}
 use Rattle.spf_feeder.specs.declared.session.Stop.TheVariants as stops
-use Rattle.spf_feeder.specs.Opened.{HasDeadline, StopsOpening}
+use Rattle.spf_feeder.specs.Opened.{HasDeadline, Meeting, StopsOpening, meeting}
 use Rattle.spf_jwt.specs.Limits.{default_limits}
 use Rattle.spf_jwt_feed.specs.declared.state.JwtSourceError.{JwtSourceError}
 use Rattle.spf_jwt_feed.specs.declared.state.JwtSourceError.TheVariants as errors
@@ -51,40 +51,36 @@ pub record IsSetBy (set : JwtSettings) (rules : JwtRules) : Type 0 where
   pub deadline : HasDeadline set.timeout rules.deadline
 
 -- the initial synchronisation may stop so
-abbrev pub StopsBy : JwtSettings → Stop → Type 0
-StopsBy set stop =
+abbrev pub StopsBy : JwtSettings → Meeting → Stop → Type 0
+StopsBy set met stop =
     StopsOpening (λ deadline. jwt (record { limits = set.limits; deadline = deadline })) set.timeout
-    stop
+    met.members met.clock met.clock_after stop
 
--- the same with a terminal event
-abbrev pub Stops : JwtSettings → Terminal → Type 0
-Stops set end = StopsBy set (stops.Terminal end)
+-- the same with a terminal event, where the endpoint is valid
+abbrev pub Stops : JwtSettings → Meeting → Terminal → Type 0
+Stops set met end = (met.valid ≡ Ok tt) × StopsBy set met (stops.Terminal end)
 
 -- Why an initial synchronisation gives an error: the endpoint is invalid, a terminal event came by
 -- the connector or the clock before anything was accepted, or memory ran out.
-abbrev pub SyncFails : JwtSettings
-    → Result (Unit {0}) EndpointError → JwtSourceError → Type 0
-SyncFails set valid (errors.Source e) =
-    ((x : EndpointError) × (valid ≡ Err x) × (e ≡ api.Endpoint x))
-    ⊎ ((valid ≡ Ok tt) × Stops set (terminal.Source e))
-SyncFails set valid (errors.UnsupportedRpc e) =
-    (valid ≡ Ok tt) × Stops set (terminal.UnsupportedRpc e)
-SyncFails set valid errors.InitialSyncTimeout =
-    (valid ≡ Ok tt) × Stops set terminal.InitialSyncTimeout
-SyncFails set valid errors.OutOfMemory = Unit {0}
-SyncFails set valid _ = ⊥
+abbrev pub SyncFails : JwtSettings → Meeting → JwtSourceError → Type 0
+SyncFails set met (errors.Source e) =
+    ((x : EndpointError) × (met.valid ≡ Err x) × (e ≡ api.Endpoint x))
+    ⊎ Stops set met (terminal.Source e)
+SyncFails set met (errors.UnsupportedRpc e) = Stops set met (terminal.UnsupportedRpc e)
+SyncFails set met errors.InitialSyncTimeout = Stops set met terminal.InitialSyncTimeout
+SyncFails set met errors.OutOfMemory = Unit {0}
+SyncFails set met _ = ⊥
 
 -- The same, which may also find no place for the pass.
-abbrev pub PrepareFails : JwtSettings
-    → Result (Unit {0}) EndpointError → ℕ → ℕ → JwtSourceError → Type 0
-PrepareFails set valid before now errors.NoPlace = Rose before now
-PrepareFails set valid before now e = SyncFails set valid e
+abbrev pub PrepareFails : JwtSettings → Meeting → ℕ → ℕ → JwtSourceError → Type 0
+PrepareFails set met before now errors.NoPlace = (met.valid ≡ Ok tt) × Rose before now
+PrepareFails set met before now e = SyncFails set met e
 
 -- the same, which may find no supervisor after that
-abbrev pub BuildFails : JwtSettings
-    → Result (Unit {0}) EndpointError → ℕ → ℕ → ℕ → ℕ → JwtSourceError → Type 0
-BuildFails set valid before now started starts errors.NoSupervisor = Rose started starts
-BuildFails set valid before now started starts e = PrepareFails set valid before now e
+abbrev pub BuildFails : JwtSettings → Meeting → ℕ → ℕ → ℕ → ℕ → JwtSourceError → Type 0
+BuildFails set met before now started starts errors.NoSupervisor =
+    (met.valid ≡ Ok tt) × Rose started starts
+BuildFails set met before now started starts e = PrepareFails set met before now e
 
 -- what an initial synchronisation leaves to a supervisor
 abbrev pub IsAssigned : {S : Type 0} → (S → Option (List Member)) → JwtSettings → S
@@ -105,6 +101,8 @@ IsAssignedByDefault {S} is_connector clock clock' job =
     (set : JwtSettings) × (connector : S) × IsDefault set × is_connector connector
     × IsAssigned (λ _. None) set connector clock clock' job
 
-abbrev pub FailsByDefault : ℕ → ℕ → ℕ → ℕ → JwtSourceError → Type 0
-FailsByDefault before now started starts e =
-    (set : JwtSettings) × IsDefault set × BuildFails set (Ok tt) before now started starts e
+abbrev pub FailsByDefault : Option (List (Option ℤ)) → Option (List (Option ℤ)) → ℕ → ℕ → ℕ → ℕ
+    → JwtSourceError → Type 0
+FailsByDefault clock clock' before now started starts e =
+    (set : JwtSettings) × IsDefault set
+    × BuildFails set (meeting (Ok tt) None clock clock') before now started starts e

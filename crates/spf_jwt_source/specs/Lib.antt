@@ -4,7 +4,6 @@ pub mod Reads
 pub mod Updating
 pub mod Asking
 pub mod Coming
-pub mod Fed
 pub mod Governed
 pub mod Kept
 pub mod Kinds

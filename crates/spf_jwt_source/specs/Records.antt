@@ -31,4 +31,4 @@ abbrev pub Left : Type 0
 Left = LeftOf JwtRules BundlesResponse JwtStep PlainStep
 
 abbrev pub IsLeftBy : {S : Type 0} → (S → Option (List Member)) → Assigned S → Left → Type 0
-IsLeftBy members job done = IsLeftByOf members kind_of job done
+IsLeftBy members job done = IsLeftByOf members kind_of plain plain job done

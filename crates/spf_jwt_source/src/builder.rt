@@ -1,6 +1,7 @@
 //! Builders of live sources.
 
 ghost use Rattle.std.specs.Prelude.{◌≡◌, ◌≤◌, Err, IfErr, IfOk, None, Ok, Some};
+ghost use Rattle.spf_feeder.specs.Opened.{meeting};
 ghost use Rattle.spf_jwt_source.specs.Building.{BuildFails, IsAssigned, IsBuilt, IsDefault};
 ghost use Rattle.spf_jwt_source.specs.Building.{PrepareFails};
 
@@ -167,7 +168,9 @@ where
         ensures endpoint { IfOk result (λ _. C.validates self.connector ≡ Ok tt) }
         ensures places { IfOk result (λ _. L.refusals places.old ≤ L.refusals places.new) }
         ensures failed { IfErr result (PrepareFails self.settings
-            (C.validates self.connector) (L.refusals places.old) (L.refusals places.new)) }
+            (meeting (C.validates self.connector) (C.members self.connector)
+            (T.moments clock.old) (T.moments clock.new)) (L.refusals places.old)
+            (L.refusals places.new)) }
     {
         let mut pause = pause;
         let mut random = random;
@@ -244,8 +247,9 @@ where
         ensures grace { IfOk result (λ r. r.2.grace ≡ self.settings.grace) }
         ensures endpoint { IfOk result (λ _. C.validates self.connector ≡ Ok tt) }
         ensures failed { IfErr result (BuildFails self.settings
-            (C.validates self.connector) (L.refusals places.old) (L.refusals places.new)
-            (S.refusals spawner.old) (S.refusals spawner.new)) }
+            (meeting (C.validates self.connector) (C.members self.connector)
+            (T.moments clock.old) (T.moments clock.new)) (L.refusals places.old)
+            (L.refusals places.new) (S.refusals spawner.old) (S.refusals spawner.new)) }
     {
         let (source, pass, job, pending) = self.prepare(rt, alloc, clock, pause, random, places)?;
         match spawner.start(job) {

@@ -1,8 +1,8 @@
 //! Live sources of JWT bundles: handles, their reads and fetches, the updates of one reader,
 //! builders, and the supervisor with its record; the sessions of JWT bundles that it feeds, with
-//! their rules; and the board on which it publishes, which up to 64 passes read without a lock. What
-//! a caller needs of the crates of JWT below has its names here as well; the rest, such as clocks,
-//! pauses and connectors, `spiffe` names.
+//! their rules; and the board on which it publishes, which up to 64 passes read without a lock.
+//! What a caller needs of the crates of JWT below has its names here as well; the rest, such as
+//! clocks, pauses and connectors, `spiffe` names.
 #![tactic(auto)]
 
 mod board;

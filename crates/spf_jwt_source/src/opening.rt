@@ -5,7 +5,7 @@ ghost use Rattle.std.specs.Prelude.{reverse};
 ghost use Rattle.spf_view.specs.Steps.{steps_of};
 ghost use Rattle.spf_board.specs.Lists.{steps_of as board_steps};
 ghost use Rattle.spf_jwt_feed.specs.Steps.{MayFollow, plain};
-ghost use Rattle.spf_feeder.specs.Opened.{IsOpened};
+ghost use Rattle.spf_feeder.specs.Opened.{IsOpened, meeting};
 ghost use Rattle.spf_feeder.specs.Orderly.{IsFirstStep, IsSyncedOf};
 ghost use Rattle.spf_feeder.specs.Pacing.{KeepsPaceOf};
 ghost use Rattle.spf_jwt_source.specs.Governed.{kind_of};
@@ -88,10 +88,11 @@ where
     ensures bounds { IfOk result (λ r. r.1.bounds ≡ settings.bounds) }
     ensures members { IfOk result (λ r. C.members r.0.first ≡ C.members connector) }
     ensures going { IfOk result (λ r. r.0.core.stuck ≡ false) }
-    ensures opened { IfOk result (λ r. IsOpened (kind_of r.0.core.rules) (T.moments clock.old)
-        (T.moments clock.new) r.0.core.run r.1) }
+    ensures opened { IfOk result (λ r. IsOpened (kind_of r.0.core.rules) (C.members connector)
+        (T.moments clock.old) (T.moments clock.new) r.0.core.run r.1) }
     ensures endpoint { IfOk result (λ _. C.validates connector ≡ Ok tt) }
-    ensures failed { IfErr result (SyncFails settings (C.validates connector)) }
+    ensures failed { IfErr result (SyncFails settings (meeting (C.validates connector)
+        (C.members connector) (T.moments clock.old) (T.moments clock.new))) }
 {
     let mut connector = connector;
     if let Err(e) = make_ready(&mut connector, pause, stop) {

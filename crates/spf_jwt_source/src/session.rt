@@ -338,6 +338,7 @@ impl<P: JwtPublisher + Drop, M: JwtMetricsRecorder + Drop> Session for JwtSessio
         ensures given { given P.target self.new ≡ given P.target self.old }
         ensures published { Published (P.steps self.new.publisher) (rules_of self.new.rules)
             self.new.run }
+        ensures orderly { IsOrderly (rules_of self.new.rules) (reverse self.new.run) }
         ensures advances { AdvancesBy (kind_of self.old.rules) M.records
             (progress self.old) event result (progress self.new) }
     {

@@ -3,6 +3,7 @@ use Rattle.std.proofs.Common.{◌≡◌, sym, ap, ◌∙◌, refl, subst, ℕ, L
 use Rattle.std.proofs.Common.{Result, Ok, Err}
 use Rattle.std.specs.Prelude.{◌↔◌, IfErr}
 use Rattle.spf_api.specs.declared.endpoint_error.EndpointError.{EndpointError}
+use Rattle.spf_feeder.specs.Opened.{Meeting, meeting}
 use Rattle.spf_link.specs.Connecting.{Member}
 use Rattle.spf_x509.specs.Svid.{Svid}
 use Rattle.spf_program.specs.Live.{LiveSetting}
@@ -30,7 +31,7 @@ pub does_by : {K : Type 0} (members : Option (List Member)) (picks : K → List 
     (said : Option LiveSetting) (setting : LiveSetting) (clock clock' : Moments)
     (held held' : Option (List ℕ)) (r : Result (Unit {0}) LiveError) → Some setting ≡ said
     → Runs members picks setting clock clock' held held' r
-    → IfErr r (FailsBy picks setting valid supervisor place output)
+    → IfErr r (FailsBy picks setting (meeting valid members clock clock') supervisor place output)
     → Does members picks valid supervisor place output said clock clock' held held' r
 does_by members picks valid supervisor place output said setting clock clock' held held' r is
     runs fails =
@@ -53,7 +54,7 @@ pub does_early : {K : Type 0} (members : Option (List Member)) (picks : K → Li
     (valid : Result (Unit {0}) EndpointError) (supervisor place output : Type 0)
     (said : Option LiveSetting) (setting : LiveSetting) (clock clock' : Moments)
     (held held' : Option (List ℕ)) (e : LiveError) → Some setting ≡ said → held' ≡ held
-    → FailsBy picks setting valid supervisor place output e
+    → FailsBy picks setting (meeting valid members clock clock') supervisor place output e
     → Does members picks valid supervisor place output said clock clock' held held' (Err e)
 does_early members picks valid supervisor place output said setting clock clock' held held' e is
     same fails =
@@ -61,19 +62,19 @@ does_early members picks valid supervisor place output said setting clock clock'
     is (runs_none members picks setting clock clock' held held' e same) fails
 
 bad_arguments : {K : Type 0} (picks : K → List Svid → Option ℕ)
-    (valid : Result (Unit {0}) EndpointError) (supervisor place output : Type 0)
+    (met : Meeting) (supervisor place output : Type 0)
     (setting : LiveSetting) (e : LiveError) (r : Result (Unit {0}) LiveError)
-    → FailsBy picks setting valid supervisor place output e → r ≡ Err e
+    → FailsBy picks setting met supervisor place output e → r ≡ Err e
     → r ≡ Err errors.BadArguments → ⊥
-bad_arguments picks valid supervisor place output setting errors.BadArguments r fails is same =
+bad_arguments picks met supervisor place output setting errors.BadArguments r fails is same =
     fails
-bad_arguments picks valid supervisor place output setting errors.OutOfMemory r fails is same = cc
-bad_arguments picks valid supervisor place output setting errors.WriteFailed r fails is same = cc
-bad_arguments picks valid supervisor place output setting errors.Rejected r fails is same = cc
-bad_arguments picks valid supervisor place output setting errors.Unsupported r fails is same = cc
-bad_arguments picks valid supervisor place output setting errors.TimedOut r fails is same = cc
-bad_arguments picks valid supervisor place output setting errors.NoSupervisor r fails is same = cc
-bad_arguments picks valid supervisor place output setting errors.NoPlace r fails is same = cc
+bad_arguments picks met supervisor place output setting errors.OutOfMemory r fails is same = cc
+bad_arguments picks met supervisor place output setting errors.WriteFailed r fails is same = cc
+bad_arguments picks met supervisor place output setting errors.Rejected r fails is same = cc
+bad_arguments picks met supervisor place output setting errors.Unsupported r fails is same = cc
+bad_arguments picks met supervisor place output setting errors.TimedOut r fails is same = cc
+bad_arguments picks met supervisor place output setting errors.NoSupervisor r fails is same = cc
+bad_arguments picks met supervisor place output setting errors.NoPlace r fails is same = cc
 
 unlike_bad : (r : Result (Unit {0}) LiveError) (done : Unit {0}) → r ≡ Ok done
     → r ≡ Err errors.BadArguments → ⊥
@@ -99,8 +100,8 @@ refused_arguments members picks valid supervisor place output (Some setting) clo
     )
 refused_arguments members picks valid supervisor place output (Some setting) clock clock' held held'
     (Err e) does = (
-      (λ same. absurd (bad_arguments picks valid supervisor place output setting e (Err e) does.1
-          refl same)),
+      (λ same. absurd (bad_arguments picks (meeting valid members clock clock')
+          supervisor place output setting e (Err e) does.1 refl same)),
       (λ none. absurd (some_setting setting none)),
     )
 

@@ -2,7 +2,7 @@
 use Rattle.std.proofs.Common.{◌≡◌, ◌≤◌, ℕ, Bool, true, false, List, Option}
 use Rattle.std.proofs.Common.{Result, Ok, Err, subst, sym}
 use Rattle.std.specs.Prelude.{IfErr}
-use Rattle.spf_api.specs.declared.endpoint_error.EndpointError.{EndpointError}
+use Rattle.spf_feeder.specs.Opened.{Meeting}
 use Rattle.spf_io.specs.Outside.{Rose}
 use Rattle.spf_x509.specs.Svid.{Svid}
 use Rattle.spf_feed.specs.declared.state.X509SourceError.{X509SourceError}
@@ -46,46 +46,46 @@ updated_fails before now output (source.ShutdownTimeout s e) why = absurd why
 updated_fails before now output source.NoSupervisor why = absurd why
 
 pub run_fails : {K : Type 0} (picks : K → List Svid → Option ℕ) (setting : LiveSetting)
-    (valid : Result (Unit {0}) EndpointError) (supervisor place place' output : Type 0)
+    (met : Meeting) (supervisor place place' output : Type 0)
     (e : LiveError) → (place → place') → FollowFails place output e
-    → FailsBy picks setting valid supervisor place' output e
-run_fails picks setting valid supervisor place place' output errors.OutOfMemory f why = tt
-run_fails picks setting valid supervisor place place' output errors.WriteFailed f why = why
-run_fails picks setting valid supervisor place place' output errors.NoPlace f why = f why
-run_fails picks setting valid supervisor place place' output errors.BadArguments f why = absurd why
-run_fails picks setting valid supervisor place place' output errors.Rejected f why = absurd why
-run_fails picks setting valid supervisor place place' output errors.Unsupported f why = absurd why
-run_fails picks setting valid supervisor place place' output errors.TimedOut f why = absurd why
-run_fails picks setting valid supervisor place place' output errors.NoSupervisor f why = absurd why
+    → FailsBy picks setting met supervisor place' output e
+run_fails picks setting met supervisor place place' output errors.OutOfMemory f why = tt
+run_fails picks setting met supervisor place place' output errors.WriteFailed f why = why
+run_fails picks setting met supervisor place place' output errors.NoPlace f why = f why
+run_fails picks setting met supervisor place place' output errors.BadArguments f why = absurd why
+run_fails picks setting met supervisor place place' output errors.Rejected f why = absurd why
+run_fails picks setting met supervisor place place' output errors.Unsupported f why = absurd why
+run_fails picks setting met supervisor place place' output errors.TimedOut f why = absurd why
+run_fails picks setting met supervisor place place' output errors.NoSupervisor f why = absurd why
 
 -- why a preparation fails, whatever a supervisor and a place come from
 pub prepare_fails : {K : Type 0} (picks : K → List Svid → Option ℕ) (setting : LiveSetting)
-    (set : Settings K) (valid : Result (Unit {0}) EndpointError) (before now : ℕ)
+    (set : Settings K) (met : Meeting) (before now : ℕ)
     (supervisor place output : Type 0) (e : X509SourceError) → IsSetTo picks setting set
-    → (Rose before now → place) → PrepareFails picks set valid before now e
-    → FailsBy picks setting valid supervisor place output (error_of e)
-prepare_fails picks setting set valid before now supervisor place output (source.Source e) is f
+    → (Rose before now → place) → PrepareFails picks set met before now e
+    → FailsBy picks setting met supervisor place output (error_of e)
+prepare_fails picks setting set met before now supervisor place output (source.Source e) is f
     why = (set, is, e, why)
-prepare_fails picks setting set valid before now supervisor place output (source.UnsupportedRpc
+prepare_fails picks setting set met before now supervisor place output (source.UnsupportedRpc
     e) is f why = (set, is, e, why)
-prepare_fails picks setting set valid before now supervisor place output
+prepare_fails picks setting set met before now supervisor place output
     source.InitialSyncTimeout is f why = (set, is, why)
-prepare_fails picks setting set valid before now supervisor place output source.NoPlace is f why =
-    f why
-prepare_fails picks setting set valid before now supervisor place output source.OutOfMemory is f
+prepare_fails picks setting set met before now supervisor place output source.NoPlace is f why =
+    f why.1
+prepare_fails picks setting set met before now supervisor place output source.OutOfMemory is f
     why = tt
-prepare_fails picks setting set valid before now supervisor place output source.NoSupervisor is
+prepare_fails picks setting set met before now supervisor place output source.NoSupervisor is
     f why = absurd why
-prepare_fails picks setting set valid before now supervisor place output source.NoSuitableSvid
+prepare_fails picks setting set met before now supervisor place output source.NoSuitableSvid
     is f why = tt
-prepare_fails picks setting set valid before now supervisor place output (source.Withdrawn d) is
+prepare_fails picks setting set met before now supervisor place output (source.Withdrawn d) is
     f why = tt
-prepare_fails picks setting set valid before now supervisor place output source.Closed is f why = tt
-prepare_fails picks setting set valid before now supervisor place output source.StreamEnded is f
+prepare_fails picks setting set met before now supervisor place output source.Closed is f why = tt
+prepare_fails picks setting set met before now supervisor place output source.StreamEnded is f
     why = tt
-prepare_fails picks setting set valid before now supervisor place output
+prepare_fails picks setting set met before now supervisor place output
     (source.ResourceLimitExceeded k l a) is f why = tt
-prepare_fails picks setting set valid before now supervisor place output (source.ShutdownTimeout
+prepare_fails picks setting set met before now supervisor place output (source.ShutdownTimeout
     s t) is f why = tt
 
 -- where the cause of a place is none
@@ -117,32 +117,32 @@ ends_fail place output r recorded end is why =
     (ends_so place output r recorded why)
 
 pub runs_fail : {K : Type 0} (picks : K → List Svid → Option ℕ) (setting : LiveSetting)
-    (valid : Result (Unit {0}) EndpointError) (supervisor place place' output : Type 0)
+    (met : Meeting) (supervisor place place' output : Type 0)
     (r : Result (Unit {0}) LiveError) → (place → place') → IfErr r (FollowFails place output)
-    → IfErr r (FailsBy picks setting valid supervisor place' output)
-runs_fail picks setting valid supervisor place place' output (Ok done) f why = tt
-runs_fail picks setting valid supervisor place place' output (Err e) f why =
-    run_fails picks setting valid supervisor place place' output e f why
+    → IfErr r (FailsBy picks setting met supervisor place' output)
+runs_fail picks setting met supervisor place place' output (Ok done) f why = tt
+runs_fail picks setting met supervisor place place' output (Err e) f why =
+    run_fails picks setting met supervisor place place' output e f why
 
 pub prepare_fails_by : {K : Type 0} (picks : K → List Svid → Option ℕ) (setting : LiveSetting)
-    (set : Settings K) (valid : Result (Unit {0}) EndpointError) (before now : ℕ)
+    (set : Settings K) (met : Meeting) (before now : ℕ)
     (output : Type 0) (e : X509SourceError) (found : LiveError) → found ≡ error_of e
-    → IsSetTo picks setting set → PrepareFails picks set valid before now e
-    → FailsBy picks setting valid (Unit {0}) (Unit {0}) output found
-prepare_fails_by picks setting set valid before now output e found is set_to why =
-    subst (λ (x : LiveError). FailsBy picks setting valid (Unit {0}) (Unit {0}) output x) (sym is)
-    (prepare_fails picks setting set valid before now (Unit {0}) (Unit {0}) output e set_to
+    → IsSetTo picks setting set → PrepareFails picks set met before now e
+    → FailsBy picks setting met (Unit {0}) (Unit {0}) output found
+prepare_fails_by picks setting set met before now output e found is set_to why =
+    subst (λ (x : LiveError). FailsBy picks setting met (Unit {0}) (Unit {0}) output x) (sym is)
+    (prepare_fails picks setting set met before now (Unit {0}) (Unit {0}) output e set_to
     (λ refused. tt) why)
 
 -- the same over the endpoint that was handed in
 pub prepare_fails_so : {K : Type 0} (picks : K → List Svid → Option ℕ) (setting : LiveSetting)
-    (set : Settings K) (valid own : Result (Unit {0}) EndpointError) (before now : ℕ)
-    (supervisor place output : Type 0) (e : X509SourceError) (found : LiveError) → own ≡ valid
+    (set : Settings K) (met own : Meeting) (before now : ℕ)
+    (supervisor place output : Type 0) (e : X509SourceError) (found : LiveError) → own ≡ met
     → found ≡ error_of e → IsSetTo picks setting set → (Rose before now → place)
     → PrepareFails picks set own before now e
-    → FailsBy picks setting valid supervisor place output found
-prepare_fails_so picks setting set valid own before now supervisor place output e found valid_is
+    → FailsBy picks setting met supervisor place output found
+prepare_fails_so picks setting set met own before now supervisor place output e found met_is
     found_is is f why =
-    subst (λ (x : Result (Unit {0}) EndpointError × LiveError).
-    FailsBy picks setting x.0 supervisor place output x.1) (λ i. (valid_is i, sym found_is i))
+    subst (λ (x : Meeting × LiveError).
+    FailsBy picks setting x.0 supervisor place output x.1) (λ i. (met_is i, sym found_is i))
     (prepare_fails picks setting set own before now supervisor place output e is f why)

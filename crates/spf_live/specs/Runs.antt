@@ -14,6 +14,7 @@ use Rattle.spf_feed.specs.declared.state.X509SourceError.TheVariants as source
 use Rattle.spf_feeder.specs.Coming.{AllYielded}
 use Rattle.spf_feeder.specs.Governed.{rules_by}
 use Rattle.spf_feeder.specs.Times.{GivesMoments}
+use Rattle.spf_feeder.specs.Opened.{Meeting, meeting}
 use Rattle.spiffe.specs.declared.builder.Settings.{Settings}
 use Rattle.spiffe.specs.Building.{SyncFails}
 use Rattle.spiffe.specs.Records.{Assigned, IsOf, IsRecord, Recorded}
@@ -76,24 +77,24 @@ pub record IsSetTo {K : Type 0} (picks : K → List Svid → Option ℕ) (settin
   pub timeout : option_map as_nanos set.timeout
       ≡ option_map (λ seconds. seconds * 1_000_000_000) setting.timeout
 
--- Why a run of a setting fails, by what the refusal of a supervisor, of a place and of the output
--- comes from.
+-- Why a run of a setting fails, by what its initial synchronisation met, and by what the refusal of
+-- a supervisor, of a place and of the output comes from.
 abbrev pub FailsBy : {K : Type 0} → (K → List Svid → Option ℕ) → LiveSetting
-    → Result (Unit {0}) EndpointError → Type 0 → Type 0 → Type 0 → LiveError → Type 0
-FailsBy picks setting valid supervisor place output errors.BadArguments = ⊥
-FailsBy picks setting valid supervisor place output errors.OutOfMemory = Unit {0}
-FailsBy picks setting valid supervisor place output errors.WriteFailed = output
-FailsBy {K} picks setting valid supervisor place output errors.Rejected =
+    → Meeting → Type 0 → Type 0 → Type 0 → LiveError → Type 0
+FailsBy picks setting met supervisor place output errors.BadArguments = ⊥
+FailsBy picks setting met supervisor place output errors.OutOfMemory = Unit {0}
+FailsBy picks setting met supervisor place output errors.WriteFailed = output
+FailsBy {K} picks setting met supervisor place output errors.Rejected =
     (set : Settings K) × IsSetTo picks setting set
-    × (e : WorkloadApiError) × SyncFails picks set valid (source.Source e)
-FailsBy {K} picks setting valid supervisor place output errors.Unsupported =
+    × (e : WorkloadApiError) × SyncFails picks set met (source.Source e)
+FailsBy {K} picks setting met supervisor place output errors.Unsupported =
     (set : Settings K) × IsSetTo picks setting set
-    × (e : WorkloadApiError) × SyncFails picks set valid (source.UnsupportedRpc e)
-FailsBy {K} picks setting valid supervisor place output errors.TimedOut =
+    × (e : WorkloadApiError) × SyncFails picks set met (source.UnsupportedRpc e)
+FailsBy {K} picks setting met supervisor place output errors.TimedOut =
     (set : Settings K) × IsSetTo picks setting set
-    × SyncFails picks set valid source.InitialSyncTimeout
-FailsBy picks setting valid supervisor place output errors.NoSupervisor = supervisor
-FailsBy picks setting valid supervisor place output errors.NoPlace = place
+    × SyncFails picks set met source.InitialSyncTimeout
+FailsBy picks setting met supervisor place output errors.NoSupervisor = supervisor
+FailsBy picks setting met supervisor place output errors.NoPlace = place
 
 -- why printing and joining fail, by what the refusal of a place and of the output comes from
 abbrev pub FollowFails : Type 0 → Type 0 → LiveError → Type 0
@@ -113,7 +114,7 @@ Does members picks valid supervisor place output None clock clock' held held' r 
     (r ≡ Err errors.BadArguments) × (held' ≡ held)
 Does members picks valid supervisor place output (Some setting) clock clock' held held' r =
     Runs members picks setting clock clock' held held' r
-    × IfErr r (FailsBy picks setting valid supervisor place output)
+    × IfErr r (FailsBy picks setting (meeting valid members clock clock') supervisor place output)
 
 -- A run did this, ended with this status, and reported it.
 pub record Ended {K : Type 0} (members : Option (List Member)) (picks : K → List Svid → Option ℕ)

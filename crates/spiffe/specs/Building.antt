@@ -1,5 +1,5 @@
 -- What a builder makes of a source, and why it fails.
-use Rattle.std.specs.Prelude.{◌≡◌, ◌⊎◌, ℕ, ℤ, List, Option, None, Some, Result, Ok, Err}
+use Rattle.std.specs.Prelude.{◌≡◌, ◌⊎◌, ℕ, ℤ, List, Option, None, Some, Ok, Err}
 use Rattle.std.specs.Prelude.{if◌then◌else◌}
 use Rattle.std.specs.Duration.{as_nanos}
 use Rattle.std.specs.Option.{option_map}
@@ -23,7 +23,7 @@ use Rattle.spf_feed.specs.Items.{rules_with}
 use Rattle.spf_feeder.specs.declared.x509_rules.X509Rules.{X509Rules}
 use Rattle.spf_feeder.specs.Governed.{kind_by}
 use Rattle.spf_feeder.specs.Kinds.{x509}
-use Rattle.spf_feeder.specs.Opened.{HasDeadline, StopsOpening}
+use Rattle.spf_feeder.specs.Opened.{HasDeadline, Meeting, StopsOpening, meeting}
 use Rattle.spiffe.specs.declared.builder.Settings.{Settings}
 use Rattle.spiffe.specs.Records.{Assigned}
 use Rattle.spf_board.specs.Sources.{Source}
@@ -58,41 +58,44 @@ pub record IsSetBy {K : Type 0} (set : Settings K) (rules : X509Rules K) : Type 
   pub picker : rules.picker ≡ set.picker
 
 -- the initial synchronisation may stop so
-abbrev pub StopsBy : {K : Type 0} → (K → List Svid → Option ℕ) → Settings K → Stop → Type 0
-StopsBy picks set stop =
+abbrev pub StopsBy : {K : Type 0} → (K → List Svid → Option ℕ) → Settings K → Meeting → Stop
+    → Type 0
+StopsBy picks set met stop =
     StopsOpening
     (λ deadline. x509 (rules_with set.limits deadline set.ready (option_map picks set.picker)))
-    set.timeout stop
+    set.timeout met.members met.clock met.clock_after stop
 
--- the same with a terminal event
-abbrev pub Stops : {K : Type 0} → (K → List Svid → Option ℕ) → Settings K → Terminal → Type 0
-Stops picks set end = StopsBy picks set (stops.Terminal end)
+-- the same with a terminal event, where the endpoint is valid
+abbrev pub Stops : {K : Type 0} → (K → List Svid → Option ℕ) → Settings K → Meeting → Terminal
+    → Type 0
+Stops picks set met end = (met.valid ≡ Ok tt) × StopsBy picks set met (stops.Terminal end)
 
 -- Why an initial synchronisation gives an error: the endpoint is invalid, a terminal event came by
 -- the connector or the clock before anything was accepted, or memory ran out.
-abbrev pub SyncFails : {K : Type 0} → (K → List Svid → Option ℕ) → Settings K
-    → Result (Unit {0}) EndpointError → X509SourceError → Type 0
-SyncFails picks set valid (errors.Source e) =
-    ((x : EndpointError) × (valid ≡ Err x) × (e ≡ api.Endpoint x))
-    ⊎ ((valid ≡ Ok tt) × Stops picks set (terminal.Source e))
-SyncFails picks set valid (errors.UnsupportedRpc e) =
-    (valid ≡ Ok tt) × Stops picks set (terminal.UnsupportedRpc e)
-SyncFails picks set valid errors.InitialSyncTimeout =
-    (valid ≡ Ok tt) × Stops picks set terminal.InitialSyncTimeout
-SyncFails picks set valid errors.OutOfMemory = Unit {0}
-SyncFails picks set valid _ = ⊥
+abbrev pub SyncFails : {K : Type 0} → (K → List Svid → Option ℕ) → Settings K → Meeting
+    → X509SourceError → Type 0
+SyncFails picks set met (errors.Source e) =
+    ((x : EndpointError) × (met.valid ≡ Err x) × (e ≡ api.Endpoint x))
+    ⊎ Stops picks set met (terminal.Source e)
+SyncFails picks set met (errors.UnsupportedRpc e) =
+    Stops picks set met (terminal.UnsupportedRpc e)
+SyncFails picks set met errors.InitialSyncTimeout =
+    Stops picks set met terminal.InitialSyncTimeout
+SyncFails picks set met errors.OutOfMemory = Unit {0}
+SyncFails picks set met _ = ⊥
 
 -- The same, which may also find no place for the pass.
-abbrev pub PrepareFails : {K : Type 0} → (K → List Svid → Option ℕ) → Settings K
-    → Result (Unit {0}) EndpointError → ℕ → ℕ → X509SourceError → Type 0
-PrepareFails picks set valid before now errors.NoPlace = Rose before now
-PrepareFails picks set valid before now e = SyncFails picks set valid e
+abbrev pub PrepareFails : {K : Type 0} → (K → List Svid → Option ℕ) → Settings K → Meeting → ℕ → ℕ
+    → X509SourceError → Type 0
+PrepareFails picks set met before now errors.NoPlace = (met.valid ≡ Ok tt) × Rose before now
+PrepareFails picks set met before now e = SyncFails picks set met e
 
 -- the same, which may find no supervisor after that
-abbrev pub BuildFails : {K : Type 0} → (K → List Svid → Option ℕ) → Settings K
-    → Result (Unit {0}) EndpointError → ℕ → ℕ → ℕ → ℕ → X509SourceError → Type 0
-BuildFails picks set valid before now started starts errors.NoSupervisor = Rose started starts
-BuildFails picks set valid before now started starts e = PrepareFails picks set valid before now e
+abbrev pub BuildFails : {K : Type 0} → (K → List Svid → Option ℕ) → Settings K → Meeting → ℕ → ℕ
+    → ℕ → ℕ → X509SourceError → Type 0
+BuildFails picks set met before now started starts errors.NoSupervisor =
+    (met.valid ≡ Ok tt) × Rose started starts
+BuildFails picks set met before now started starts e = PrepareFails picks set met before now e
 
 -- what an initial synchronisation leaves to a supervisor
 abbrev pub IsAssigned : {S K : Type 0} → (S → Option (List Member)) → (K → List Svid → Option ℕ)
@@ -114,7 +117,8 @@ IsAssignedByDefault {S} {K} is_connector picks clock clock' job =
     (set : Settings K) × (connector : S) × IsDefault set × is_connector connector
     × IsAssigned (λ _. None) picks set connector clock clock' job
 
-abbrev pub FailsByDefault : {K : Type 0} → (K → List Svid → Option ℕ) → ℕ → ℕ → ℕ → ℕ
-    → X509SourceError → Type 0
-FailsByDefault {K} picks before now started starts e =
-    (set : Settings K) × IsDefault set × BuildFails picks set (Ok tt) before now started starts e
+abbrev pub FailsByDefault : {K : Type 0} → (K → List Svid → Option ℕ) → Option (List (Option ℤ))
+    → Option (List (Option ℤ)) → ℕ → ℕ → ℕ → ℕ → X509SourceError → Type 0
+FailsByDefault {K} picks clock clock' before now started starts e =
+    (set : Settings K) × IsDefault set
+    × BuildFails picks set (meeting (Ok tt) None clock clock') before now started starts e

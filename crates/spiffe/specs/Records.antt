@@ -35,4 +35,4 @@ Left K = LeftOf (X509Rules K) ContextResponse Step PlainStep
 
 abbrev pub IsLeftBy : {S K : Type 0} → (S → Option (List Member)) → (K → List Svid → Option ℕ)
     → Assigned S K → Left K → Type 0
-IsLeftBy members picks job done = IsLeftByOf members (kind_by picks) job done
+IsLeftBy members picks job done = IsLeftByOf members (kind_by picks) plain plain job done

@@ -2,6 +2,7 @@
 
 ghost use Rattle.std.specs.Prelude.{◌≡◌, ◌≤◌, Err, IfErr, IfOk, None, Ok, Some};
 ghost use Rattle.std.specs.Option.{ForSome};
+ghost use Rattle.spf_feeder.specs.Opened.{meeting};
 ghost use Rattle.spiffe.specs.Building.{BuildFails, IsAssigned, IsBuilt, IsDefault, PrepareFails};
 
 use crate::handle::{PendingHandle, SupervisorHandle, X509Job};
@@ -241,7 +242,9 @@ where
         ensures endpoint { IfOk result (λ _. C.validates self.connector ≡ Ok tt) }
         ensures places { IfOk result (λ _. L.refusals places.old ≤ L.refusals places.new) }
         ensures failed { IfErr result (PrepareFails P.picks self.settings
-            (C.validates self.connector) (L.refusals places.old) (L.refusals places.new)) }
+            (meeting (C.validates self.connector) (C.members self.connector)
+            (T.moments clock.old) (T.moments clock.new)) (L.refusals places.old)
+            (L.refusals places.new)) }
     {
         let mut pause = pause;
         let mut random = random;
@@ -319,8 +322,9 @@ where
         ensures grace { IfOk result (λ r. r.2.grace ≡ self.settings.grace) }
         ensures endpoint { IfOk result (λ _. C.validates self.connector ≡ Ok tt) }
         ensures failed { IfErr result (BuildFails P.picks self.settings
-            (C.validates self.connector) (L.refusals places.old) (L.refusals places.new)
-            (S.refusals spawner.old) (S.refusals spawner.new)) }
+            (meeting (C.validates self.connector) (C.members self.connector)
+            (T.moments clock.old) (T.moments clock.new)) (L.refusals places.old)
+            (L.refusals places.new) (S.refusals spawner.old) (S.refusals spawner.new)) }
     {
         let (source, pass, job, pending) = self.prepare(rt, alloc, clock, pause, random, places)?;
         match spawner.start(job) {

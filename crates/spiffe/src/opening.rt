@@ -7,7 +7,7 @@ ghost use Rattle.spf_view.specs.Steps.{steps_of};
 ghost use Rattle.spf_board.specs.Lists.{steps_of as board_steps};
 ghost use Rattle.spf_feed.specs.Steps.{MayFollow, plain};
 ghost use Rattle.spf_feeder.specs.Governed.{kind_by};
-ghost use Rattle.spf_feeder.specs.Opened.{IsOpened};
+ghost use Rattle.spf_feeder.specs.Opened.{IsOpened, meeting};
 ghost use Rattle.spf_feeder.specs.Orderly.{IsFirstStep, IsOneStep, IsSyncedOf};
 ghost use Rattle.spf_feeder.specs.Pacing.{KeepsPaceOf};
 ghost use Rattle.spf_system.specs.declared.maker.Maker.TheVariants as makers;
@@ -90,9 +90,10 @@ where
     ensures members { IfOk result (λ r. C.members r.0.first ≡ C.members connector) }
     ensures going { IfOk result (λ r. r.0.core.stuck ≡ false) }
     ensures opened { IfOk result (λ r. IsOpened (kind_by P.picks r.0.core.rules)
-        (T.moments clock.old) (T.moments clock.new) r.0.core.run r.1) }
+        (C.members connector) (T.moments clock.old) (T.moments clock.new) r.0.core.run r.1) }
     ensures endpoint { IfOk result (λ _. C.validates connector ≡ Ok tt) }
-    ensures failed { IfErr result (SyncFails P.picks settings (C.validates connector)) }
+    ensures failed { IfErr result (SyncFails P.picks settings (meeting (C.validates connector)
+        (C.members connector) (T.moments clock.old) (T.moments clock.new))) }
 {
     let mut connector = connector;
     if let Err(e) = make_ready(&mut connector, pause, stop) {

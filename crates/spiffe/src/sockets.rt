@@ -95,8 +95,8 @@ impl X509Source {
             (T.moments clock.old) (T.moments clock.new) r.2.job) }
         ensures grace { IfOk result (λ r. option_map as_nanos r.2.grace ≡ Some 30_000_000_000) }
         ensures failed { IfErr result (FailsByDefault (⟦<NoPicker as SvidPicker>⟧.picks)
-            (L.refusals places.old) (L.refusals places.new) (S.refusals spawner.old)
-            (S.refusals spawner.new)) }
+            (T.moments clock.old) (T.moments clock.new) (L.refusals places.old)
+            (L.refusals places.new) (S.refusals spawner.old) (S.refusals spawner.new)) }
     {
         let connector = EnvConnector::new(net, alloc, environment);
         let (source, pass, job, pending) = X509Source::builder(connector).prepare(

@@ -7,7 +7,8 @@ use Rattle.spf_board.specs.Board.{IsBoundTo}
 use Rattle.spf_board.proofs.opening.seats.Goals as goal
 
 all_pushed : {X E : Type 0} (P : X → Type 0) (r : Result (Unit {0}) E) (old new : List X) (x : X)
-    → new ≡ (if is_ok r then old ++ x ∷ [] else old) → is_err r ≡ false → All P old → P x → All P new
+    → new ≡ (if is_ok r then old ++ x ∷ [] else old) → is_err r ≡ false → All P old → P x
+    → All P new
 all_pushed P (Ok t) old new x is ok all one =
     All-same P new (old ++ x ∷ []) is (All-push P old x all one)
 all_pushed P (Err e) old new x is ok all one = absurd (cc)

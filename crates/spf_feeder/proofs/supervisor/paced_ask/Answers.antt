@@ -17,8 +17,8 @@ returns-then-is_synced-clause-paces g c =
     paces_opened k.subject _ k.ask (g.S.Session.progress old).run _ turn.event _ _ _
     c.args.pace.now c.synchronised.new.self
     (ap (λ about. (g.S.Rules.Governs.kind about.rules).subject) c.ask_once.ensures.given)
-    turn.advanced.run_is turn.advanced.end_is c.in-None.is c.is_synced-was_synced.ensures
-    c.if-not-was_synced.true c.is_synced.ensures c.if-is_synced.true
+    turn.advanced.run_is turn.advanced.end_is c.in-None.is c.is_synced-was_synced.ensures.synced
+    c.if-not-was_synced.true c.is_synced.ensures.synced c.if-is_synced.true
     c.synchronised.ensures.paces
 
 pub returns-in_ok-delay-in-Some-clause-paces : goal.returns-in_ok-delay-in-Some-clause-paces
@@ -44,9 +44,9 @@ returns-else-not-was_synced-clause-paces g c =
     let shut : opens_by k.subject (reverse run) turn.event ≡ false =
     elim c.else-not-was_synced.branch [
       | else-not-was_synced-via-then-not-was_synced+else-is_synced w ↦ shut_after k.subject _ run _
-          turn.event _ same turn.advanced.run_is w.is_synced.ensures w.if-is_synced.false
+          turn.event _ same turn.advanced.run_is w.is_synced.ensures.synced w.if-is_synced.false
       | else-not-was_synced-via-else-not-was_synced w ↦ unopened k.subject run turn.event
-          (sym c.is_synced-was_synced.ensures ∙ w.if-not-was_synced.false)
+          (sym c.is_synced-was_synced.ensures.synced ∙ w.if-not-was_synced.false)
     ] in
     paces_passed k.subject k.ask run _ turn.event _ c.args.pace.now turn.advanced.run_is
     turn.advanced.end_is c.in-None.is shut

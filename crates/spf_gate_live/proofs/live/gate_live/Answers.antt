@@ -26,10 +26,11 @@ returns-in-Ok-start g c =
             c.is_ok-is_recorded.result c.end_of.result
             c.new-builder.ensures.connector default c.in-Ok.ensures.assigned
             (c.started.ensures.0 ∙ c.in-Ok-start.ensures.1) c.gate_serve-served.ensures.serves
-            c.into_record-record.ensures.seen c.close_and_join-done.ensures
-            c.into_record-record.ensures.record c.into_record-record.ensures.kept
-            c.into_record-record.ensures.settled c.is_ok-is_recorded.ensures.value c.end_of.ensures;
-        cause = served_fails _ _ _ _ _ _ _ _ c.gate_serve-served.result c.is_ok-is_recorded.result
+            c.gate_serve-served.ensures.cut c.into_record-record.ensures.seen
+            c.close_and_join-done.ensures c.into_record-record.ensures.record
+            c.into_record-record.ensures.kept c.into_record-record.ensures.settled
+            c.is_ok-is_recorded.ensures.value c.end_of.ensures;
+        cause = served_fails _ _ _ _ _ _ _ _ _ c.gate_serve-served.result c.is_ok-is_recorded.result
             c.end_of.result c.end_of.ensures c.gate_serve-served.ensures.cause;
         status_is = end.status;
         reported = end.line;
@@ -66,7 +67,8 @@ returns-in-Err g c =
             (picks.picks-value).it (g.I.Source.left c.args.input.now) _
             (g.K.Sink.held c.args.out.now) _ c.in-Err.error c.error_of.result c.error_of.ensures
             refl refl;
-        cause = prepare_fails _ set _ _ _ _ _ _ _ _ c.in-Err.error c.error_of.result
+        cause = prepare_fails _ _ set _ _ _ _ _ _ _ _ c.in-Err.error c.error_of.result
+            (ap g.C.Connector.members c.new-builder.ensures.connector)
             (ap g.C.Connector.validates c.new-builder.ensures.connector) c.error_of.ensures default
             (λ refused. refused) c.in-Err.ensures.failed;
         status_is = end.status;

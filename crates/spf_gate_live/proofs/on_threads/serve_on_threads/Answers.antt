@@ -24,11 +24,11 @@ returns-in-Ok-start_on_thread g c =
           c.is_ok-is_recorded.result c.end_of.result
           refl default c.in-Ok.ensures.assigned
           (c.started.ensures.0 ∙ c.in-Ok-start_on_thread.ensures)
-          c.gate_serve-served.ensures.serves
+          c.gate_serve-served.ensures.serves c.gate_serve-served.ensures.cut
           c.into_record-record.ensures.seen c.close_and_join-done.ensures
           c.into_record-record.ensures.record c.into_record-record.ensures.kept
           c.into_record-record.ensures.settled c.is_ok-is_recorded.ensures.value c.end_of.ensures);
-      cause = served_fails _ _ _ _ _ _ _ _ c.gate_serve-served.result c.is_ok-is_recorded.result
+      cause = served_fails _ _ _ _ _ _ _ _ _ c.gate_serve-served.result c.is_ok-is_recorded.result
           c.end_of.result c.end_of.ensures c.gate_serve-served.ensures.cause;
       arguments = no_refusal c.end_of.result (nine_of_end _ c.gate_serve-served.result
           c.is_ok-is_recorded.result c.end_of.result c.end_of.ensures refl);
@@ -51,8 +51,8 @@ returns-in-Err g c =
       runs = unbuilt {K = HintPicker} None (picks.picks-value).it
           (g.I.Source.left c.args.input.now) _ (g.K.Sink.held c.args.out.now) _ c.in-Err.error
           c.error_of.result c.error_of.ensures refl refl;
-      cause = prepare_fails _ set (Ok tt) (Ok tt) _ _ _ _ _ _ c.in-Err.error c.error_of.result refl
-          c.error_of.ensures default (λ refused. tt) c.in-Err.ensures.failed;
+      cause = prepare_fails None _ set (Ok tt) _ _ _ _ _ _ _ c.in-Err.error c.error_of.result refl
+          refl c.error_of.ensures default (λ refused. tt) c.in-Err.ensures.failed;
       arguments = no_refusal (Err c.error_of.result) (nine_of_error _ c.in-Err.error
           c.error_of.result c.error_of.ensures refl);
     }

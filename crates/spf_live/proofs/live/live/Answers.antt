@@ -1,4 +1,5 @@
 use Rattle.std.proofs.Common.{◌∙◌, ap, refl, sym}
+use Rattle.spf_feeder.specs.Opened.{meeting}
 use Rattle.spf_live.proofs.EndLemmas.{does_by, does_early}
 use Rattle.spf_io.proofs.Counts.{Rose-after}
 use Rattle.spf_live.proofs.Failing.{ends_fail, prepare_fails_so, runs_fail}
@@ -22,7 +23,10 @@ returns-in-Err-prepare g c = record {
   does = does_early _ _ _ _ _ _ _ c.in-Some.options _ _ _ _ c.error_of.result
       (sym c.in-Some.is ∙ c.live_options.ensures.setting) refl
       (prepare_fails_so _ c.in-Some.options c.in-Ok.builder.settings _ _ _ _ _ _ _
-      c.in-Err-prepare.e c.error_of.result (ap g.C.Connector.validates c.in-Ok.ensures.connector)
+      c.in-Err-prepare.e c.error_of.result (ap (λ made.
+      meeting (g.C.Connector.validates made) (g.C.Connector.members made)
+      (g.T.Clock.moments c.args.clock.now) (g.T.Clock.moments c.prepare.new.clock))
+      c.in-Ok.ensures.connector)
       c.error_of.ensures c.in-Ok.ensures.settings (λ refused. refused)
       c.in-Err-prepare.ensures.failed);
 }

@@ -2,7 +2,8 @@ use Rattle.std.proofs.Common.{◌∙◌, refl, inl}
 use Rattle.std.proofs.lemmas.Fn.{called_at}
 use Rattle.std.proofs.lemmas.Result.{err_from_is_err_and}
 use denote.Param.Always.{mut_next}
-use Rattle.spf_board.proofs.Passing.{marks_later, marks_now, on_any, reads_later, sees_on, sees_self}
+use Rattle.spf_board.proofs.Passing.{marks_later, marks_now, on_any, reads_later, sees_on}
+use Rattle.spf_board.proofs.Passing.{sees_self}
 use Rattle.spf_board.proofs.Seeing.{cause_of}
 use Rattle.spf_board.specs.Showing.{IsRevisionBy}
 use Rattle.spf_board.proofs.updates.SourceUpdates.wait_for.Goals as goal

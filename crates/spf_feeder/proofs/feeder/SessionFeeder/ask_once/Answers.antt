@@ -1,5 +1,6 @@
-use Rattle.std.proofs.Common.{sym, ap, ◌∙◌}
-use Rattle.spf_feeder.specs.Fed.{with_core}
+use Rattle.std.proofs.Common.{sym, ap, ◌∙◌, subst}
+use Rattle.std.specs.Prelude.{IfErr}
+use Rattle.spf_feeder.specs.Fed.{StopsFor, with_core}
 use Rattle.spf_feeder.proofs.FeedLemmas.{fed_more, stays_idle, stops_by, turned_of, unyielded_of}
 use Rattle.spf_feeder.proofs.TurnLemmas.{turn_goes}
 use Rattle.spf_feeder.proofs.feeder.SessionFeeder.ask_once.Goals as goal
@@ -43,6 +44,13 @@ invariant_of-self g c =
 
 pub returns-in-Ok-clause-ended : goal.returns-in-Ok-clause-ended
 returns-in-Ok-clause-ended g c =
-    stops_by g.S.Session.records _ _ _ _ _ c.advance.result
-    (ap (λ f. g.S.Rules.Governs.kind (g.S.Session.given f.core).rules) c.self.view_is)
-    c.advance.ensures.advances
+    let before = c.self.inside.session in
+    let going = sym c.is_stuck.ensures.stuck ∙ c.if-is_stuck.false in
+    subst (λ f.
+    IfErr c.advance.result (StopsFor (g.S.Rules.Governs.kind (g.S.Session.given f.core).rules)
+    (g.C.Connector.members f.first) (g.S.Session.progress f.core).run)) c.self.view_is
+    (stops_by g.C.Connector g.C.Link.Link g.S.Session.records
+    (g.S.Rules.Governs.kind (g.S.Session.given before).rules) _ _ _ _ _ _ _ _ _
+    c.phase-phase.ensures c.in-Ok.ensures c.advance.ensures.advances
+    (ap (λ about. g.S.Rules.Governs.kind about.rules) c.advance.ensures.given) going
+    c.advance.ensures.orderly c.self.invariant)

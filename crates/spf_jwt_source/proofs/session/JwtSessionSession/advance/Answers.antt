@@ -128,3 +128,12 @@ returns-clause-advances g c =
     _ _ _ _ _ _ c.self.view_is
     (c.in-Ok.ensures.takes before.events.items c.self.invariant.0
     (c.self.invariant.1 going)) items refl c.in_ok-record_all.ensures
+
+pub returns-in-Err-clause-orderly : goal.returns-in-Err-clause-orderly
+returns-in-Err-clause-orderly g c = (invariant_of-self-in-Err g c).2
+
+pub returns-in_err-record_all-clause-orderly : goal.returns-in_err-record_all-clause-orderly
+returns-in_err-record_all-clause-orderly g c = (invariant_of-self-in_err-record_all g c).2
+
+pub returns-clause-orderly : goal.returns-clause-orderly
+returns-clause-orderly g c = (invariant_of-self-2 g c).2

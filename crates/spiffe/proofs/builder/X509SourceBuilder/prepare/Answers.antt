@@ -1,7 +1,7 @@
 use Rattle.std.proofs.Common.{[], ap, refl, subst, sym, ◌∙◌}
 use Rattle.spf_feeder.specs.Governed.{kind_by}
 use Rattle.spf_feeder.specs.Times.{GivesMoments}
-use Rattle.spf_feeder.proofs.Joining.{synced_as}
+use Rattle.spf_feeder.proofs.Joining.{orderly_as, synced_as, yielded_as}
 use Rattle.spf_feeder.proofs.Unyielded.{built_as}
 use Rattle.spiffe.specs.Building.{IsSetBy}
 use Rattle.spiffe.proofs.builder.X509SourceBuilder.prepare.Goals as goal
@@ -20,5 +20,7 @@ returns-clause-assigned g c =
       bounds_are = h.2 ∙ sync.bounds;
       members_are = ap g.C.Connector.members h.3 ∙ sync.members;
       synced = synced_as (kind_by g.P.SvidPicker.picks) _ _ _ _ h.0 h.1 sync.opened.synced;
+      orderly = orderly_as (kind_by g.P.SvidPicker.picks) _ _ _ _ h.0 h.1 sync.opened.orderly;
+      yielded = yielded_as (kind_by g.P.SvidPicker.picks) _ _ _ _ _ h.0 h.1 sync.opened.yielded;
       clock_is = subst (GivesMoments _ _ []) (sym h.1) sync.opened.clock_is;
     }
