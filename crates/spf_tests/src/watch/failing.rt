@@ -135,7 +135,7 @@ fn failing_puts(rt: HostRuntime) -> Result<(), Fail> {
     Ok(())
 }
 
-/// The row failing-io: of the row first-session the first read gives one octet, and the second fails.
+/// The row failing-io: the first read of the row first-session gives one octet, the second fails.
 #[test]
 fn failing_second_read(rt: HostRuntime) -> Result<(), Fail> {
     let session = octets(rt.alloc(), ROWS[0].2)?;
