@@ -15,6 +15,7 @@ mod payload_view;
 mod payload_writer;
 mod response;
 mod response_rule;
+mod secret;
 mod sharing;
 mod status;
 mod views;
@@ -35,4 +36,5 @@ pub use response_rule::{
     bundle_set_from, context_from, context_from_view, context_from_view_sharing, svid_from,
     svids_from,
 };
+pub use secret::SecretLength;
 pub use status::{GrpcStatusCode, GrpcStatusError, TransportConnectError, TransportError};

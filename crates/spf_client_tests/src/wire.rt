@@ -206,7 +206,46 @@ fn wire_link(rt: HostRuntime) -> Result<(), Fail> {
     let is_played = is_played(rt.alloc(), &mut link);
     drop(link);
     assert!(rt; is_played?);
-    assert!(rt; is_answered(&rt, ("CN", "s", "unavailable "), 0, &[1])?);
+    Ok(())
+}
+
+/// Links whose place is lost: what they read, the calls, how many octets come one at a time, and
+/// which read fails.
+const LOST: &[(&str, &str, usize, u64)] = &[
+    (
+        "CN",
+        "unavailable unavailable unavailable unavailable ",
+        0,
+        1,
+    ),
+    (
+        "CN I1",
+        "unavailable unavailable unavailable unavailable ",
+        600,
+        3,
+    ),
+    (
+        "CN I1",
+        "started unavailable unavailable unavailable ",
+        600,
+        8,
+    ),
+    (
+        "CN I1 I1",
+        "started unavailable unavailable unavailable ",
+        600,
+        20,
+    ),
+];
+
+#[test]
+fn failed_read_loses_the_place(rt: HostRuntime) -> Result<(), Fail> {
+    for &(text, wanted, single, failing) in LOST {
+        assert!(rt;
+            is_answered(&rt, (text, "snsn", wanted), single, &[failing])?,
+            "{failing}"
+        );
+    }
     Ok(())
 }
 
@@ -248,12 +287,8 @@ fn requests(rt: HostRuntime) -> Result<(), Fail> {
     Ok(())
 }
 
-/// How long the header `long` is, where there is one, and what a start then returns.
-const STARTS: &[(Option<usize>, &str)] = &[
-    (None, "unavailable"),
-    (Some(1 << 24), "resource_exhausted"),
-    (Some(5), "started"),
-];
+/// How long the header `long` is, and what a start then returns.
+const STARTS: &[(usize, &str)] = &[(1 << 24, "resource_exhausted"), (5, "started")];
 
 /// Sets the header `long` to a value of that length.
 fn set_long(rt: &(impl Abort + AllocGlobal), headers: &mut Headers, length: usize) {
@@ -267,18 +302,16 @@ fn is_start(
     rt: &(impl Abort + AllocGlobal),
     link: &mut MemWire,
     headers: &mut Headers,
-    length: Option<usize>,
+    length: usize,
     wanted: &str,
 ) -> bool {
-    if let Some(length) = length {
-        set_long(rt, headers, length);
-    }
+    set_long(rt, headers, length);
     link.sink().bytes().is_empty() && started(link, headers, &Request::X509Svid) == wanted
 }
 
 #[test]
 fn refused_before_it_is_read(rt: HostRuntime) -> Result<(), Fail> {
-    let mut link = wire(&rt, "CN", 100, &[1])?;
+    let mut link = wire(&rt, "CN", 100, &[])?;
     let mut headers = Headers::new(rt.alloc());
     for &(length, wanted) in STARTS {
         assert!(rt;
@@ -287,6 +320,25 @@ fn refused_before_it_is_read(rt: HostRuntime) -> Result<(), Fail> {
         );
     }
     drop(headers);
+    drop(link);
+    Ok(())
+}
+
+/// Whether a start returns this over a link that has put nothing before and puts nothing.
+fn is_refused_unput(rt: &impl AllocGlobal, link: &mut MemWire, wanted: &str) -> bool {
+    let headers = Headers::new(rt.alloc());
+    let name = started(link, &headers, &Request::X509Svid);
+    drop(headers);
+    name == wanted && link.sink().bytes().is_empty()
+}
+
+#[test]
+fn failed_put_loses_the_place(rt: HostRuntime) -> Result<(), Fail> {
+    let mut link = wire(&rt, "CN I1", 100, &[1])?;
+    for _ in 0..2 {
+        assert!(rt; is_refused_unput(&rt, &mut link, "unavailable"));
+        assert!(rt; next(&mut link) == "unavailable");
+    }
     drop(link);
     Ok(())
 }

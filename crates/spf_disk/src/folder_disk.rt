@@ -3,6 +3,8 @@
 ghost use Rattle.std.specs.Prelude.{◌≡◌, ◌≤◌, ◌+◌, IfOk, OnOk, length, drop};
 ghost use Rattle.std.specs.Option.{option_map};
 ghost use Rattle.spf_io.specs.Outside.{HasCause};
+ghost use Rattle.spf_disk.specs.Calls.{IsTold};
+ghost use Rattle.spf_disk.specs.Calls.FileCall.{Write, Cut, Sync};
 ghost use Rattle.spf_disk.specs.Crash.{Only, Elapses, NoMore, IsSynced, TornByWrite, TornByCut};
 ghost use Rattle.spf_disk.specs.Image.{OnFile, Written, Kept, IsRead, bytes_of};
 
@@ -11,21 +13,26 @@ use crate::disk::{Disk, DiskFailed, HelperFile};
 use crate::folder_fault::FolderFault;
 use crate::folder_files::FolderFiles;
 use crate::mem_disk::MemDisk;
+use crate::writable_files::WritableFiles;
 use std::alloc::Global;
 use std::fs;
 
-/// The three files of a folder. What they held when they were opened, and what is written since, is
-/// kept in memory too: reads are served from there, and contracts speak of that. It is trusted that
-/// the operating system keeps the files like this. After a call that failed each later one fails.
+/// Three files. What they held when they were opened, and what is written since, is kept in memory
+/// too: reads are served from there, and contracts speak of that. Each write, cut and sync that
+/// succeeds is one call of the files, by clause; it is trusted that the operating system keeps them
+/// like this. After a call that failed each later one fails.
 #[derive(Drop)]
-pub struct FolderDisk {
+pub struct FilesDisk<F: WritableFiles + Drop> {
     memory: MemDisk,
-    files: Option<FolderFiles>,
+    files: Option<F>,
     fault: Option<FolderFault>,
     failed: u64,
 }
 
-impl FolderDisk {
+/// A disk over the three files of a folder.
+pub type FolderDisk = FilesDisk<FolderFiles>;
+
+impl FilesDisk<FolderFiles> {
     /// Opens the files of the folder for writing, and creates those that are missing. While they
     /// are open, no other disk can open them for writing. Where opening fails, each call of the
     /// disk fails.
@@ -51,7 +58,9 @@ impl FolderDisk {
             Err(fault) => closed(rt.alloc(), fault),
         }
     }
+}
 
+impl<F: WritableFiles + Drop> FilesDisk<F> {
     /// Returns why the first call that failed did so.
     pub fn fault(&self) -> Option<&FolderFault>
         ensures { option_map (λ f. f.now) result ≡ self.now.fault }
@@ -63,6 +72,7 @@ impl FolderDisk {
     fn counted<T>(&mut self, done: Result<T, FolderFault>) -> Result<T, DiskFailed>
         ensures memory { self.new.memory ≡ self.old.memory }
         ensures ok { IfOk result (λ x. done ≡ Ok x) }
+        ensures files { IfOk result (λ _. self.new.files ≡ self.old.files) }
         ensures cause { HasCause self.old.failed self.new.failed result }
     {
         match done {
@@ -122,23 +132,16 @@ fn opened_to_read(rt: &HostRuntime, folder: &str) -> Result<FolderDisk, FolderFa
     })
 }
 
-/// The files, where they are open for writing.
-fn writable(files: Option<&FolderFiles>) -> Result<&FolderFiles, FolderFault> {
-    match files {
-        Some(files) => Ok(files),
-        None => Err(FolderFault::ReadOnly),
-    }
-}
-
 /// What is in memory changes before the file does, so that a write that fails counts as begun.
-fn write(
+fn write<F: WritableFiles>(
     memory: &mut MemDisk,
-    files: Option<&FolderFiles>,
+    files: &mut Option<F>,
     file: HelperFile,
     at: u64,
     bytes: &[u8],
 ) -> Result<(), FolderFault>
     requires { at ≤ length (bytes_of (⟦<MemDisk as Disk>⟧.seen memory.old) file) }
+    ensures told { OnOk result (IsTold F.calls files.old files.new (Write file at bytes.now)) }
     ensures written { OnOk result (OnFile file (Written at bytes.now)
         (⟦<MemDisk as Disk>⟧.seen memory.old) (⟦<MemDisk as Disk>⟧.seen memory.new)) }
     ensures crash { TornByWrite file at (at + length bytes.now)
@@ -147,19 +150,22 @@ fn write(
         (⟦<MemDisk as Disk>⟧.moment memory.new) (⟦<MemDisk as Disk>⟧.left_since memory.old)
         (⟦<MemDisk as Disk>⟧.left_since memory.new) (⟦<MemDisk as Disk>⟧.may_leave memory.new) }
 {
-    let files = writable(files)?;
+    let Some(files) = files else {
+        return Err(FolderFault::ReadOnly);
+    };
     memory.write_at(file, at, bytes)?;
     files.write_at(file, at, bytes)?;
     Ok(())
 }
 
-fn cut(
+fn cut<F: WritableFiles>(
     memory: &mut MemDisk,
-    files: Option<&FolderFiles>,
+    files: &mut Option<F>,
     file: HelperFile,
     count: u64,
 ) -> Result<(), FolderFault>
     requires { count ≤ length (bytes_of (⟦<MemDisk as Disk>⟧.seen memory.old) file) }
+    ensures told { OnOk result (IsTold F.calls files.old files.new (Cut file count)) }
     ensures kept { OnOk result (OnFile file (Kept count)
         (⟦<MemDisk as Disk>⟧.seen memory.old) (⟦<MemDisk as Disk>⟧.seen memory.new)) }
     ensures crash { TornByCut file count (⟦<MemDisk as Disk>⟧.may_leave memory.old)
@@ -168,18 +174,21 @@ fn cut(
         (⟦<MemDisk as Disk>⟧.moment memory.new) (⟦<MemDisk as Disk>⟧.left_since memory.old)
         (⟦<MemDisk as Disk>⟧.left_since memory.new) (⟦<MemDisk as Disk>⟧.may_leave memory.new) }
 {
-    let files = writable(files)?;
+    let Some(files) = files else {
+        return Err(FolderFault::ReadOnly);
+    };
     memory.cut(file, count)?;
     files.cut(file, count)?;
     Ok(())
 }
 
 /// What is in memory is settled only after the file is.
-fn sync(
+fn sync<F: WritableFiles>(
     memory: &mut MemDisk,
-    files: Option<&FolderFiles>,
+    files: &mut Option<F>,
     file: HelperFile,
 ) -> Result<(), FolderFault>
+    ensures told { OnOk result (IsTold F.calls files.old files.new (Sync file)) }
     ensures durable { OnOk result (IsSynced file (⟦<MemDisk as Disk>⟧.seen memory.old)
         (⟦<MemDisk as Disk>⟧.may_leave memory.new)) }
     ensures seen { ⟦<MemDisk as Disk>⟧.seen memory.new
@@ -190,7 +199,10 @@ fn sync(
         (⟦<MemDisk as Disk>⟧.moment memory.new) (⟦<MemDisk as Disk>⟧.left_since memory.old)
         (⟦<MemDisk as Disk>⟧.left_since memory.new) (⟦<MemDisk as Disk>⟧.may_leave memory.new) }
 {
-    writable(files)?.sync(file)?;
+    let Some(files) = files else {
+        return Err(FolderFault::ReadOnly);
+    };
+    files.sync(file)?;
     memory.sync(file)?;
     Ok(())
 }
@@ -240,7 +252,7 @@ fn read(
     Ok(memory.read(file, at, buf)?)
 }
 
-impl Disk for FolderDisk {
+impl<F: WritableFiles + Drop> Disk for FilesDisk<F> {
     ghost use Rattle.spf_disk.specs.MemoryDisk.{moments, only_now, seen_left};
     ghost use mathlib.Core.Logic.{inl};
 
@@ -271,17 +283,17 @@ impl Disk for FolderDisk {
     }
 
     fn write_at(&mut self, file: HelperFile, at: u64, bytes: &[u8]) -> Result<(), DiskFailed> {
-        let done = write(&mut self.memory, self.files.as_ref(), file, at, bytes);
+        let done = write(&mut self.memory, &mut self.files, file, at, bytes);
         self.counted(done)
     }
 
     fn cut(&mut self, file: HelperFile, count: u64) -> Result<(), DiskFailed> {
-        let done = cut(&mut self.memory, self.files.as_ref(), file, count);
+        let done = cut(&mut self.memory, &mut self.files, file, count);
         self.counted(done)
     }
 
     fn sync(&mut self, file: HelperFile) -> Result<(), DiskFailed> {
-        let done = sync(&mut self.memory, self.files.as_ref(), file);
+        let done = sync(&mut self.memory, &mut self.files, file);
         self.counted(done)
     }
 }

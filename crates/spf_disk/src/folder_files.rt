@@ -3,6 +3,7 @@
 use crate::contents::{Contents, path_of, read_whole};
 use crate::disk::HelperFile;
 use crate::folder_fault::FolderFault;
+use crate::writable_files::WritableFiles;
 use std::alloc::Global;
 use std::fs::{self, File, OpenOptions, TryLockError};
 use std::io;
@@ -15,8 +16,9 @@ const OWNER_ONLY: u32 = 0o600;
 /// The highest descriptor of a standard stream.
 const STANDARD_ERROR: i32 = 2;
 
+/// The three files of a folder, the gates locked.
 #[derive(Drop)]
-pub(crate) struct FolderFiles {
+pub struct FolderFiles {
     gates: File,
     first: File,
     second: File,
@@ -57,16 +59,23 @@ impl FolderFiles {
             second: read_whole(alloc, &self.second)?,
         })
     }
+}
 
-    pub(crate) fn write_at(&self, file: HelperFile, at: u64, bytes: &[u8]) -> io::Result<()> {
+impl WritableFiles for FolderFiles {
+    ghost use Rattle.std.specs.Prelude.{None};
+
+    // What the system is asked for is told to nobody.
+    ghost calls = { λ _. None };
+
+    fn write_at(&mut self, file: HelperFile, at: u64, bytes: &[u8]) -> io::Result<()> {
         self.file(file).write_all_at(bytes, at)
     }
 
-    pub(crate) fn cut(&self, file: HelperFile, length: u64) -> io::Result<()> {
-        self.file(file).set_len(length)
+    fn cut(&mut self, file: HelperFile, count: u64) -> io::Result<()> {
+        self.file(file).set_len(count)
     }
 
-    pub(crate) fn sync(&self, file: HelperFile) -> io::Result<()> {
+    fn sync(&mut self, file: HelperFile) -> io::Result<()> {
         self.file(file).sync_all()
     }
 }

@@ -3,7 +3,6 @@
 use spf_disk::{FolderFault, OpenError};
 use spf_io::OutOfMemory;
 use spf_program::ArgumentsError;
-use spf_x509::X509SvidError;
 use std::alloc::{AllocError, AllocFailed};
 use std::io;
 use thiserror::Error;
@@ -47,6 +46,11 @@ impl From<ArgumentsError> for ExportError {
 }
 
 impl From<AllocError> for ExportError {
+    ghost use Rattle.std.specs.Prelude.{◌≡◌};
+    ghost use Rattle.spf_export.specs.declared.export_error.ExportError.TheVariants as errors;
+
+    ghost from_gives = { λ _ e. e ≡ errors.OutOfMemory };
+
     fn from(_error: AllocError) -> ExportError {
         ExportError::OutOfMemory
     }
@@ -67,15 +71,5 @@ impl From<OutOfMemory> for ExportError {
 impl From<io::Error> for ExportError {
     fn from(error: io::Error) -> ExportError {
         ExportError::NotWritten(error)
-    }
-}
-
-impl From<X509SvidError> for ExportError {
-    fn from(error: X509SvidError) -> ExportError {
-        match error {
-            X509SvidError::OutOfMemory => ExportError::OutOfMemory,
-            // What the folder holds was not an identity when it was written.
-            _ => ExportError::Damaged,
-        }
     }
 }

@@ -6,6 +6,8 @@ mod export_error;
 mod help;
 mod out_file;
 mod pem;
+mod pem_file;
+mod pem_texts;
 
 use export::{Exported, export};
 use export_error::ExportError;

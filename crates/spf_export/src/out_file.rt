@@ -1,6 +1,7 @@
 //! Files that are replaced as a whole.
 
 use crate::export_error::ExportError;
+use crate::pem_file::PemFile;
 use std::fs::{self, File, OpenOptions};
 use std::io::{self, Write};
 use std::os::unix::fs::OpenOptionsExt;
@@ -19,15 +20,14 @@ fn temporary_path(rt: &HostRuntime, folder: &str, name: &str) -> Result<String, 
 pub(crate) fn prepare(
     rt: &HostRuntime,
     folder: &str,
-    name: &str,
-    mode: u32,
-    contents: &[u8],
+    file: PemFile,
+    text: &[u8],
 ) -> Result<(), ExportError> {
-    let path = temporary_path(rt, folder, name)?;
+    let path = temporary_path(rt, folder, file.name())?;
     remove(rt, path.as_str())?;
-    let mut file = make(rt, path.as_str(), mode)?;
-    file.write_all(contents)?;
-    Ok(file.sync_all()?)
+    let mut made = make(rt, path.as_str(), file.mode())?;
+    made.write_all(text)?;
+    Ok(made.sync_all()?)
 }
 
 fn make(rt: &HostRuntime, path: &str, mode: u32) -> Result<File, ExportError> {

@@ -10,17 +10,28 @@ use crate::error::FrameError;
 use crate::fill::fill;
 use crate::kinds::Kinds;
 use crate::payload::Payload;
+use spf_api::SecretLength;
 use spf_io::{Bytes, Source};
 use std::alloc::Global;
+use std::fmt;
 
 /// The maximum length of a payload.
 const MAX_PAYLOAD: u32 = 1 << 24;
 
-/// A frame with its payload unread.
-#[derive(Debug, Drop)]
+/// A frame with its payload unread. Debug output shows only the payload's length.
+#[derive(Drop)]
 pub struct RawFrame {
     pub kind: u8,
     pub payload: Bytes,
+}
+
+impl fmt::Debug for RawFrame {
+    fn fmt<W: fmt::Write>(&self, f: &mut fmt::Formatter<W>) -> fmt::Result {
+        f.debug_struct("RawFrame")
+            .field("kind", &self.kind)
+            .field("payload", &SecretLength(self.payload.as_slice().len()))
+            .finish()
+    }
 }
 
 /// The number that four octets spell.

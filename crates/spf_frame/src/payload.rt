@@ -5,16 +5,19 @@ ghost use Rattle.spf_frame.specs.Parts.{PartPut, FailureHasCause};
 
 use crate::error::FrameError;
 use crate::fill::fill;
+use spf_api::SecretLength;
 use spf_io::Source;
 use std::alloc::Global;
+use std::fmt;
 use std::marker::Model;
 
 /// How many octets a buffer is made for before any of a payload has come.
 const CHUNK: usize = 1 << 16;
 
 /// The payload of a frame, which contracts see as its octets. What is cut off leaves its room, so
-/// that a buffer that is read into again is not filled up with zeroes first.
-#[derive(Debug, Drop)]
+/// that a buffer that is read into again is not filled up with zeroes first. Debug output shows only
+/// its length.
+#[derive(Drop)]
 pub struct Payload {
     octets: Vec<u8>,
     end: usize,
@@ -28,6 +31,14 @@ impl Model for Payload {
     ghost view = { λ p. take p.end p.octets.items };
 
     ghost invariant = { λ p. p.end ≤ vec_len p.octets };
+}
+
+impl fmt::Debug for Payload {
+    fn fmt<W: fmt::Write>(&self, f: &mut fmt::Formatter<W>) -> fmt::Result {
+        f.debug_struct("Payload")
+            .field("octets", &SecretLength(self.end))
+            .finish()
+    }
 }
 
 /// Reads octets in place of what a shorter buffer held. It grows with what came: at most to twice

@@ -8,8 +8,10 @@ use Rattle.std.specs.Prelude.{IfErr}
 use Rattle.std.specs.Io.KnownBytes.{Appends, prepend_known}
 use Rattle.std.proofs.KnownBytes.{Appends-trans, Appends-nil}
 use mathlib.Core.List.{IsPrefix}
-use Rattle.spf_board.proofs.Prefixes.{begins_trans}
-use Rattle.spiffe.specs.Passes.{Seen}
+use Rattle.spf_board.specs.Passes.{Renews}
+use Rattle.spiffe.specs.Passes.{PassView, read_of}
+use Rattle.spiffe.specs.Reads.{SeesNoLess}
+use Rattle.spiffe.specs.Steps.{Legal}
 use Rattle.spf_gate.specs.declared.rule.Rule.{Rule}
 use Rattle.spf_gate.specs.declared.gate_error.GateError.{GateError}
 use Rattle.spf_gate.specs.declared.gate_error.GateError.TheVariants as errors
@@ -18,26 +20,11 @@ use Rattle.spf_gate.specs.Lines.{lines_of}
 use Rattle.spf_gate.specs.Policies.{ReadsPolicy, asks_rule}
 use Rattle.spf_gate.specs.Reading.{TakesLine}
 use Rattle.spf_gate.specs.Serving.{AnswersPart, AreAnswers, AreFirst, AreRead, AreReadFirst}
-use Rattle.spf_gate.specs.Serving.{Serves, ServesFirst, ServesPart, cuts}
+use Rattle.spf_gate.specs.Serving.{ReadsOnce, Serves, ServesFirst, ServesPart, cuts}
 use Rattle.spf_gate.proofs.ServeLemmas.{Asking, Remains, answers_more, kept_more, remains_less}
+use Rattle.spf_gate.proofs.ServeLemmas.{sees_same}
 
 -- ---- asks
-
--- a pass has seen more since the last answer
-answers_later : (rules : List Rule) (seen mid read : Seen) (asks : List (List ℕ)) (text : List ℕ)
-    → AreAnswers rules seen asks text mid → IsPrefix mid read
-    → AreAnswers rules seen asks text read
-answers_later rules seen mid read [] text so grows =
-    (so.0, begins_trans seen mid read so.1 grows)
-answers_later rules seen mid read (x ∷ asks) text so grows = (
-  so.0,
-  so.1,
-  so.2,
-  so.3,
-  so.4,
-  so.5,
-  answers_later rules so.0 mid read asks so.4 so.6 grows,
-)
 
 written_all : (held held' : Option (List ℕ)) (text : List ℕ) → Appends held held' text
     → Appends held held' (take (length text) text)
@@ -61,13 +48,15 @@ first_asks max first (Some a) (Some b) asks so kept = ((lines_of b, sym so), kep
 
 -- between two asks
 pub cut_between : (max first : ℕ) (old mid : Option (List ℕ)) (rules : List Rule)
-    (seen seen1 seen2 : Seen) (held held' : Option (List ℕ)) (number : ℕ) (e : GateError)
-    → Asking max first old mid rules seen seen1 held held' number → IsPrefix seen1 seen2
-    → ServesFirst max first old rules seen seen2 held held' e
-cut_between max first old mid rules seen seen1 seen2 held held' number e so grows = record {
+    (pass pass1 pass2 : PassView) (held held' : Option (List ℕ)) (number : ℕ) (e : GateError)
+    → Asking max first old mid rules pass pass1 held held' number → SeesNoLess pass1 pass2
+    → ServesFirst max first old rules pass pass2 held held' e
+cut_between max first old mid rules pass pass1 pass2 held held' number e so later = record {
   asks = so.asks;
   text = so.text;
-  answers = answers_later rules seen seen1 seen2 so.asks so.text so.answers grows;
+  last = pass1;
+  answers = so.answers;
+  later = later;
   size = length so.text;
   written = written_all held held' so.text so.written;
   whole = λ is. refl;
@@ -76,19 +65,22 @@ cut_between max first old mid rules seen seen1 seen2 held held' number e so grow
 
 -- in the line that answers an ask
 cut_line : (max first : ℕ) (old mid new : Option (List ℕ)) (rules : List Rule)
-    (seen seen1 seen2 : Seen) (held held1 held2 : Option (List ℕ)) (number : ℕ) (ask : List ℕ)
-    → Asking max first old mid rules seen seen1 held held1 number
-    → TakesLine max (number + 1) mid new ask (Ok true) → IsPrefix seen1 seen2
-    → AnswersPart rules seen2 ask held1 held2 errors.WriteFault
-    → ServesFirst max first old rules seen seen2 held held2 errors.WriteFault
-cut_line max first old mid new rules seen seen1 seen2 held held1 held2 number ask so takes grows
+    (pass pass1 pass2 : PassView) (held held1 held2 : Option (List ℕ)) (number : ℕ) (ask : List ℕ)
+    → Asking max first old mid rules pass pass1 held held1 number
+    → TakesLine max (number + 1) mid new ask (Ok true)
+    → Renews Legal (read_of pass1) (read_of pass2)
+    → AnswersPart rules pass2.seen ask held1 held2 errors.WriteFault
+    → ServesFirst max first old rules pass pass2 held held2 errors.WriteFault
+cut_line max first old mid new rules pass pass1 pass2 held held1 held2 number ask so takes renews
     part =
     let line = answer_line rules part.0 ask in
     record {
       asks = so.asks ++ ask ∷ [];
       text = so.text ++ line;
-      answers = answers_more rules seen seen1 seen2 so.asks ask so.text part.0 so.answers grows
+      last = pass2;
+      answers = answers_more rules pass pass1 pass2 so.asks ask so.text part.0 so.answers renews
           part.1;
+      later = sees_same pass2;
       size = length so.text + part.2;
       written = written_part held held1 held2 so.text line part.2 so.written part.3;
       whole = λ is. absurd (cc (is));
@@ -99,36 +91,37 @@ cut_line max first old mid new rules seen seen1 seen2 held held1 held2 number as
 
 -- while an ask is answered
 pub cut_in_ask : (max first : ℕ) (old mid new : Option (List ℕ)) (rules : List Rule)
-    (seen seen1 seen2 : Seen) (held held1 held2 : Option (List ℕ)) (number : ℕ) (ask : List ℕ)
+    (pass pass1 pass2 : PassView) (held held1 held2 : Option (List ℕ)) (number : ℕ) (ask : List ℕ)
     (is_line : Bool) (e : GateError)
-    → Asking max first old mid rules seen seen1 held held1 number
+    → Asking max first old mid rules pass pass1 held held1 number
     → TakesLine max (number + 1) mid new ask (Ok is_line) → is_line ≡ true
-    → IsPrefix seen1 seen2 → AnswersPart rules seen2 ask held1 held2 e
-    → ServesFirst max first old rules seen seen2 held held2 e
-cut_in_ask max first old mid new rules seen seen1 seen2 held held1 held2 number ask false e so
-    takes is grows part = absurd (cc)
-cut_in_ask max first old mid new rules seen seen1 seen2 held held1 held2 number ask true
-    errors.OutOfMemory so takes is grows part =
+    → SeesNoLess pass1 pass2 → ReadsOnce {T = Unit {0}} pass1 pass2 (Err e)
+    → AnswersPart rules pass2.seen ask held1 held2 e
+    → ServesFirst max first old rules pass pass2 held held2 e
+cut_in_ask max first old mid new rules pass pass1 pass2 held held1 held2 number ask false e so
+    takes is later reads part = absurd (cc)
+cut_in_ask max first old mid new rules pass pass1 pass2 held held1 held2 number ask true
+    errors.OutOfMemory so takes is later reads part =
     subst (λ (h : Option (List ℕ)).
-    ServesFirst max first old rules seen seen2 held h errors.OutOfMemory) (sym part)
-    (cut_between max first old mid rules seen seen1 seen2 held held1 number errors.OutOfMemory so
-    grows)
-cut_in_ask max first old mid new rules seen seen1 seen2 held held1 held2 number ask true
-    errors.WriteFault so takes is grows part =
-    cut_line max first old mid new rules seen seen1 seen2 held held1 held2 number ask so takes
-    grows part
-cut_in_ask max first old mid new rules seen seen1 seen2 held held1 held2 number ask true
-    errors.ReadFault so takes is grows part = absurd part
-cut_in_ask max first old mid new rules seen seen1 seen2 held held1 held2 number ask true
-    (errors.BadRule line) so takes is grows part = absurd part
-cut_in_ask max first old mid new rules seen seen1 seen2 held held1 held2 number ask true
-    errors.NoPolicyEnd so takes is grows part = absurd part
-cut_in_ask max first old mid new rules seen seen1 seen2 held held1 held2 number ask true
-    (errors.LineTooLong line) so takes is grows part = absurd part
-cut_in_ask max first old mid new rules seen seen1 seen2 held held1 held2 number ask true
-    (errors.NotText line) so takes is grows part = absurd part
-cut_in_ask max first old mid new rules seen seen1 seen2 held held1 held2 number ask true
-    errors.TooManyLines so takes is grows part = absurd part
+    ServesFirst max first old rules pass pass2 held h errors.OutOfMemory) (sym part)
+    (cut_between max first old mid rules pass pass1 pass2 held held1 number errors.OutOfMemory so
+    later)
+cut_in_ask max first old mid new rules pass pass1 pass2 held held1 held2 number ask true
+    errors.WriteFault so takes is later reads part =
+    cut_line max first old mid new rules pass pass1 pass2 held held1 held2 number ask so takes
+    reads part
+cut_in_ask max first old mid new rules pass pass1 pass2 held held1 held2 number ask true
+    errors.ReadFault so takes is later reads part = absurd part
+cut_in_ask max first old mid new rules pass pass1 pass2 held held1 held2 number ask true
+    (errors.BadRule line) so takes is later reads part = absurd part
+cut_in_ask max first old mid new rules pass pass1 pass2 held held1 held2 number ask true
+    errors.NoPolicyEnd so takes is later reads part = absurd part
+cut_in_ask max first old mid new rules pass pass1 pass2 held held1 held2 number ask true
+    (errors.LineTooLong line) so takes is later reads part = absurd part
+cut_in_ask max first old mid new rules pass pass1 pass2 held held1 held2 number ask true
+    (errors.NotText line) so takes is later reads part = absurd part
+cut_in_ask max first old mid new rules pass pass1 pass2 held held1 held2 number ask true
+    errors.TooManyLines so takes is later reads part = absurd part
 
 -- ---- the whole input
 
@@ -138,13 +131,15 @@ none_read max None = tt
 none_read max (Some a) = inl refl
 
 -- no ask is answered, and nothing is written
-pub cut_at_first : (max : ℕ) (left : Option (List ℕ)) (seen seen' : Seen) (held : Option (List ℕ))
-    (e : GateError) → IsPrefix seen seen' → ServesPart max left seen seen' held held e
-cut_at_first max left seen seen' held e grows = record {
+pub cut_at_first : (max : ℕ) (left : Option (List ℕ)) (pass : PassView) (held : Option (List ℕ))
+    (e : GateError) → ServesPart max left pass pass held held e
+cut_at_first max left pass held e = record {
   rules = [];
   asks = [];
   text = [];
-  answers = (refl, grows);
+  last = pass;
+  answers = (refl, refl);
+  later = sees_same pass;
   size = 0;
   written = Appends-nil held;
   whole = λ is. refl;
@@ -160,12 +155,12 @@ first_read max after (Some a) None rules asks policy so = absurd policy
 first_read max after (Some a) (Some m) rules asks policy so = inr (_, policy, refl, so)
 
 cut_read : (max max' max'' number after : ℕ) (o : List ℕ) (left mid : Option (List ℕ))
-    (rules rules' : List Rule) (seen seen' : Seen) (held held' : Option (List ℕ)) (e : GateError)
+    (rules rules' : List Rule) (pass pass' : PassView) (held held' : Option (List ℕ)) (e : GateError)
     → o ≡ [] → number ≡ 0 → max' ≡ max → max'' ≡ max' → rules' ≡ rules
     → ReadsPolicy max' number after (prepend_known o left) mid (Ok rules)
-    → ServesFirst max'' (after + 1) mid rules' seen seen' held held' e
-    → ServesPart max left seen seen' held held' e
-cut_read max max' max'' number after o left mid rules rules' seen seen' held held' e o_is number_is
+    → ServesFirst max'' (after + 1) mid rules' pass pass' held held' e
+    → ServesPart max left pass pass' held held' e
+cut_read max max' max'' number after o left mid rules rules' pass pass' held held' e o_is number_is
     max_is again same reads so =
     let policy = subst (λ (x : List ℕ × ℕ × ℕ).
     ReadsPolicy x.2 x.1 after (prepend_known x.0 left) mid (Ok rules))
@@ -174,7 +169,9 @@ cut_read max max' max'' number after o left mid rules rules' seen seen' held hel
       rules = rules;
       asks = so.asks;
       text = so.text;
-      answers = subst (λ (l : List Rule). AreAnswers l seen so.asks so.text seen') same so.answers;
+      last = so.last;
+      answers = subst (λ (l : List Rule). AreAnswers l pass so.asks so.text so.last) same so.answers;
+      later = so.later;
       size = so.size;
       written = so.written;
       whole = so.whole;
@@ -186,17 +183,17 @@ cut_read max max' max'' number after o left mid rules rules' seen seen' held hel
 
 -- the policy was read, and answering was cut
 pub cut_after : (max max' max'' number after : ℕ) (o : List ℕ) (left mid : Option (List ℕ))
-    (rules rules' : List Rule) (seen seen' : Seen) (held held' : Option (List ℕ))
+    (rules rules' : List Rule) (pass pass' : PassView) (held held' : Option (List ℕ))
     (r : Result ℕ GateError) → o ≡ [] → number ≡ 0 → max' ≡ max → max'' ≡ max' → rules' ≡ rules
     → ReadsPolicy max' number after (prepend_known o left) mid (Ok rules)
     → IfErr r (λ e. cuts e ≡ true
-    → ServesFirst max'' (after + 1) mid rules' seen seen' held held' e)
-    → IfErr r (λ e. cuts e ≡ true → ServesPart max left seen seen' held held' e)
-cut_after max max' max'' number after o left mid rules rules' seen seen' held held' (Ok count) o_is
+    → ServesFirst max'' (after + 1) mid rules' pass pass' held held' e)
+    → IfErr r (λ e. cuts e ≡ true → ServesPart max left pass pass' held held' e)
+cut_after max max' max'' number after o left mid rules rules' pass pass' held held' (Ok count) o_is
     number_is max_is again same reads so = tt
-cut_after max max' max'' number after o left mid rules rules' seen seen' held held' (Err e) o_is
+cut_after max max' max'' number after o left mid rules rules' pass pass' held held' (Err e) o_is
     number_is max_is again same reads so = λ is.
-    cut_read max max' max'' number after o left mid rules rules' seen seen' held held' e o_is
+    cut_read max max' max'' number after o left mid rules rules' pass pass' held held' e o_is
     number_is max_is again same reads (so is)
 
 all_read : (max : ℕ) (left left' : Option (List ℕ)) (rules : List Rule) (asks : List (List ℕ))
@@ -207,15 +204,17 @@ all_read max (Some a) left' rules asks count so =
     inr (so.0, so.1, so.2, (([], append-nil asks ∙ sym so.3), so.4))
 
 -- all asks were answered before
-pub cut_at_last : (max : ℕ) (left left' : Option (List ℕ)) (seen seen' : Seen)
+pub cut_at_last : (max : ℕ) (left left' : Option (List ℕ)) (pass pass' : PassView)
     (held held' : Option (List ℕ)) (count : ℕ) (e : GateError)
-    → Serves max left left' seen seen' held held' (Ok count)
-    → ServesPart max left seen seen' held held' e
-cut_at_last max left left' seen seen' held held' count e so = record {
+    → Serves max left left' pass pass' held held' (Ok count)
+    → ServesPart max left pass pass' held held' e
+cut_at_last max left left' pass pass' held held' count e so = record {
   rules = so.rules;
   asks = so.asks;
   text = so.text;
+  last = pass';
   answers = so.answers;
+  later = sees_same pass';
   size = length so.text;
   written = written_all held held' so.text so.written;
   whole = λ is. refl;

@@ -12,8 +12,10 @@ use mathlib.Core.List.{IsPrefix}
 use Rattle.spf_board.proofs.Prefixes.{begins_self, begins_trans}
 use Rattle.spf_io.specs.Rule.{◌>>=◌}
 use Rattle.spf_feed.specs.Steps.{StateView}
-use Rattle.spiffe.specs.Passes.{PassView}
+use Rattle.spf_board.specs.Passes.{Renews}
+use Rattle.spiffe.specs.Passes.{PassView, read_of}
 use Rattle.spiffe.specs.States.{IsStateOf}
+use Rattle.spiffe.specs.Steps.{Legal}
 use Rattle.spiffe.specs.Reads.{SeesNoLess}
 use Rattle.spf_gate.specs.declared.rule.Rule.{Rule}
 use Rattle.spf_gate.specs.declared.gate_error.GateError.{GateError}
@@ -23,25 +25,24 @@ use Rattle.spf_gate.specs.Lines.{lines_of, line_rule}
 use Rattle.spf_gate.specs.Policies.{ReadsPolicy, asks_rule, asks_before}
 use Rattle.spf_gate.specs.Reading.{Breaks, HasNoFeed, TakesLine, number_after}
 use Rattle.spf_gate.specs.Serving.{AnswersAsk, AreAnswers, AreAsks, AreRead, Serves}
-use Rattle.spiffe.specs.Passes.{Seen}
 use Rattle.spf_gate.specs.Serving.{ServesAsks, is_cut}
 
 -- one more ask is answered
-pub answers_more : (rules : List Rule) (seen mid read : Seen) (asks : List (List ℕ)) (ask : List ℕ)
-    (text : List ℕ) (state : StateView) → AreAnswers rules seen asks text mid → IsPrefix mid read
-    → IsStateOf read state.closed state
-    → AreAnswers rules seen (asks ++ ask ∷ []) (text ++ answer_line rules state ask) read
-answers_more rules seen mid read [] ask text state so grows is = (
+pub answers_more : (rules : List Rule) (pass mid read : PassView) (asks : List (List ℕ))
+    (ask : List ℕ) (text : List ℕ) (state : StateView) → AreAnswers rules pass asks text mid
+    → Renews Legal (read_of mid) (read_of read) → IsStateOf read.seen state.closed state
+    → AreAnswers rules pass (asks ++ ask ∷ []) (text ++ answer_line rules state ask) read
+answers_more rules pass mid read [] ask text state so renews is = (
   read,
   state,
-  begins_trans seen mid read so.1 grows,
+  subst (λ (p : PassView). Renews Legal (read_of p) (read_of read)) so.1 renews,
   is,
   [],
   ap (λ (l : List ℕ). l ++ answer_line rules state ask) so.0
       ∙ sym (append-nil (answer_line rules state ask)),
-  (refl, begins_self read),
+  (refl, refl),
 )
-answers_more rules seen mid read (x ∷ asks) ask text state so grows is = (
+answers_more rules pass mid read (x ∷ asks) ask text state so renews is = (
   so.0,
   so.1,
   so.2,
@@ -49,7 +50,7 @@ answers_more rules seen mid read (x ∷ asks) ask text state so grows is = (
   so.4 ++ answer_line rules state ask,
   ap (λ (l : List ℕ). l ++ answer_line rules state ask) so.5
       ∙ append_assoc (answer_line rules so.1 x) so.4 (answer_line rules state ask),
-  answers_more rules so.0 mid read asks ask so.4 state so.6 grows is,
+  answers_more rules so.0 mid read asks ask so.4 state so.6 renews is,
 )
 
 both : {E : Type 0} (r k : Result (Unit {0}) E) → (r >>= λ _. k) ≡ Ok tt
@@ -88,12 +89,11 @@ Remains (Some old) (Some new) asks = lines_of old ≡ asks ++ lines_of new
 
 -- what is answered so far
 pub record Asking (max first : ℕ) (old new : Option (List ℕ)) (rules : List Rule)
-    (seen seen' : Seen)
-    (held held' : Option (List ℕ)) (number : ℕ) : Type 0 where
+    (pass pass' : PassView) (held held' : Option (List ℕ)) (number : ℕ) : Type 0 where
   pub asks : List (List ℕ)
   pub text : List ℕ
   pub written : Appends held held' text
-  pub answers : AreAnswers rules seen asks text seen'
+  pub answers : AreAnswers rules pass asks text pass'
   pub number_is : number + 1 ≡ first + length asks
   pub kept : asks_rule max first asks ≡ Ok tt
   pub remains : Remains old new asks
@@ -102,13 +102,13 @@ remains_all : (old : Option (List ℕ)) → Remains old old []
 remains_all None = tt
 remains_all (Some a) = refl
 
-pub asking_none : (max number : ℕ) (old : Option (List ℕ)) (rules : List Rule) (seen : Seen)
-    (held : Option (List ℕ)) → Asking max (number + 1) old old rules seen seen held held number
-asking_none max number old rules seen held = record {
+pub asking_none : (max number : ℕ) (old : Option (List ℕ)) (rules : List Rule) (pass : PassView)
+    (held : Option (List ℕ)) → Asking max (number + 1) old old rules pass pass held held number
+asking_none max number old rules pass held = record {
   asks = [];
   text = [];
   written = Appends-nil held;
-  answers = (refl, begins_self seen);
+  answers = (refl, refl);
   number_is = omega arith;
   kept = refl;
   remains = remains_all old;
@@ -137,24 +137,25 @@ kept_more max first number asks ask kept number_is rule =
     ∙ ap (λ (r : Result (Unit {0}) GateError). r >>= λ _. Ok tt) rule
 
 pub asking_more : (max first : ℕ) (old mid new : Option (List ℕ)) (rules : List Rule)
-    (seen seen1 seen2 : Seen) (held held1 held2 : Option (List ℕ)) (number number' : ℕ)
+    (pass pass1 pass2 : PassView) (held held1 held2 : Option (List ℕ)) (number number' : ℕ)
     (ask : List ℕ) (is_line : Bool)
-    → Asking max first old mid rules seen seen1 held held1 number
+    → Asking max first old mid rules pass pass1 held held1 number
     → TakesLine max (number + 1) mid new ask (Ok is_line) → is_line ≡ true
-    → number' ≡ number_after number (Ok is_line) → IsPrefix seen1 seen2
-    → AnswersAsk rules seen2 ask held1 held2
-    → Asking max first old new rules seen seen2 held held2 number'
-asking_more max first old mid new rules seen seen1 seen2 held held1 held2 number number' ask
-    false so takes is number_is grows answer = absurd (cc)
-asking_more max first old mid new rules seen seen1 seen2 held held1 held2 number number' ask
-    true so takes is number_is grows answer =
+    → number' ≡ number_after number (Ok is_line)
+    → Renews Legal (read_of pass1) (read_of pass2)
+    → AnswersAsk rules pass2.seen ask held1 held2
+    → Asking max first old new rules pass pass2 held held2 number'
+asking_more max first old mid new rules pass pass1 pass2 held held1 held2 number number' ask
+    false so takes is number_is renews answer = absurd (cc)
+asking_more max first old mid new rules pass pass1 pass2 held held1 held2 number number' ask
+    true so takes is number_is renews answer =
     let more = length_more so.asks ask in
     record {
       asks = so.asks ++ ask ∷ [];
       text = so.text ++ answer_line rules answer.0 ask;
       written = Appends-trans held held1 held2 so.text (answer_line rules answer.0 ask) so.written
           answer.2;
-      answers = answers_more rules seen seen1 seen2 so.asks ask so.text answer.0 so.answers grows
+      answers = answers_more rules pass pass1 pass2 so.asks ask so.text answer.0 so.answers renews
           answer.1;
       number_is = omega (arith, number_is, so.number_is, more);
       kept = kept_more max first number so.asks ask so.kept so.number_is takes.1;
@@ -176,15 +177,15 @@ all_asks max first number count (Some a) (Some b) (Some c) asks ask so kept coun
 )
 
 pub asked_all : (max first : ℕ) (old mid new : Option (List ℕ)) (rules : List Rule)
-    (seen seen' : Seen) (held held' : Option (List ℕ)) (number count : ℕ) (ask : List ℕ)
-    (is_line : Bool) → Asking max first old mid rules seen seen' held held' number
+    (pass pass' : PassView) (held held' : Option (List ℕ)) (number count : ℕ) (ask : List ℕ)
+    (is_line : Bool) → Asking max first old mid rules pass pass' held held' number
     → TakesLine max (number + 1) mid new ask (Ok is_line) → is_line ≡ false
     → count + first ≡ number + 1
-    → ServesAsks max first old new rules seen seen' held held' (Ok count)
-asked_all max first old mid new rules seen seen' held held' number count ask true so takes is
+    → ServesAsks max first old new rules pass pass' held held' (Ok count)
+asked_all max first old mid new rules pass pass' held held' number count ask true so takes is
     count_is =
     absurd (cc)
-asked_all max first old mid new rules seen seen' held held' number count ask false so takes is
+asked_all max first old mid new rules pass pass' held held' number count ask false so takes is
     count_is =
     record {
       asks = so.asks;
@@ -256,12 +257,12 @@ broken_asks max first number (Some a) (Some b) (Some c) asks ask errors.TooManyL
     (so ∙ ap (λ (l : List (List ℕ)). asks ++ l) takes.0) kept at takes.1
 
 pub asked_until : (max first : ℕ) (old mid new : Option (List ℕ)) (rules : List Rule)
-    (seen seen' : Seen) (held held' : Option (List ℕ)) (number : ℕ) (ask : List ℕ)
+    (pass pass' : PassView) (held held' : Option (List ℕ)) (number : ℕ) (ask : List ℕ)
     (e : GateError) → is_cut {T = ℕ} (Err e) ≡ false
-    → Asking max first old mid rules seen seen' held held' number
+    → Asking max first old mid rules pass pass' held held' number
     → TakesLine max (number + 1) mid new ask (Err e)
-    → ServesAsks max first old new rules seen seen' held held' (Err e)
-asked_until max first old mid new rules seen seen' held held' number ask e uncut so takes =
+    → ServesAsks max first old new rules pass pass' held held' (Err e)
+asked_until max first old mid new rules pass pass' held held' number ask e uncut so takes =
     record {
       asks = so.asks;
       text = so.text;
@@ -294,12 +295,12 @@ policy_error max after (Some a) (Some c) o errors.TooManyLines reads uncut begun
 
 -- the policy is not read to its end
 pub refused_policy : (max max' number after : ℕ) (o o' : List ℕ) (left left' : Option (List ℕ))
-    (seen : Seen) (held : Option (List ℕ)) (e : GateError) → o ≡ [] → number ≡ 0 → max' ≡ max
+    (pass : PassView) (held : Option (List ℕ)) (e : GateError) → o ≡ [] → number ≡ 0 → max' ≡ max
     → is_cut {T = ℕ} (Err e) ≡ false
     → ReadsPolicy max' number after (prepend_known o left) (prepend_known o' left') (Err e)
     → (e ≡ errors.ReadFault → HasNoFeed o')
-    → Serves max left left' seen seen held held (Err e)
-refused_policy max max' number after o o' left left' seen held e o_is number_is max_is uncut reads
+    → Serves max left left' pass pass held held (Err e)
+refused_policy max max' number after o o' left left' pass held e o_is number_is max_is uncut reads
     begun =
     let new = prepend_known o' left' in
     let first = subst (λ (x : List ℕ).
@@ -313,7 +314,7 @@ refused_policy max max' number after o o' left left' seen held e o_is number_is 
       asks = [];
       text = [];
       written = Appends-nil held;
-      answers = (refl, begins_self seen);
+      answers = (refl, refl);
       read = policy_error max after left left' o' e third uncut begun;
     }
 
@@ -355,14 +356,14 @@ asks_read max after (Some a) (Some m) (Some c) o rules asks (Err errors.TooManyL
 
 -- the policy is read, and asks are answered by it
 pub served : (max max' max'' number after : ℕ) (o o' : List ℕ) (left mid left' : Option (List ℕ))
-    (rules rules' : List Rule) (seen seen' : Seen) (held held' : Option (List ℕ))
+    (rules rules' : List Rule) (pass pass' : PassView) (held held' : Option (List ℕ))
     (r : Result ℕ GateError) → o ≡ [] → number ≡ 0 → max' ≡ max → max'' ≡ max' → rules' ≡ rules
     → is_cut r ≡ false
     → ReadsPolicy max' number after (prepend_known o left) mid (Ok rules)
-    → ServesAsks max'' (after + 1) mid (prepend_known o' left') rules' seen seen' held held' r
+    → ServesAsks max'' (after + 1) mid (prepend_known o' left') rules' pass pass' held held' r
     → (r ≡ Err errors.ReadFault → HasNoFeed o')
-    → Serves max left left' seen seen' held held' r
-served max max' max'' number after o o' left mid left' rules rules' seen seen' held held' r o_is
+    → Serves max left left' pass pass' held held' r
+served max max' max'' number after o o' left mid left' rules rules' pass pass' held held' r o_is
     number_is max_is again same uncut reads so begun =
     let first = subst (λ (x : List ℕ).
     ReadsPolicy max' number after (prepend_known x left) mid (Ok rules)) o_is reads in
@@ -375,7 +376,7 @@ served max max' max'' number after o o' left mid left' rules rules' seen seen' h
       asks = so.asks;
       text = so.text;
       written = so.written;
-      answers = subst (λ (l : List Rule). AreAnswers l seen so.asks so.text seen') same so.answers;
+      answers = subst (λ (l : List Rule). AreAnswers l pass so.asks so.text pass') same so.answers;
       read = asks_read max after left mid left' o' rules so.asks r third
           (subst (λ (m : ℕ). AreAsks m (after + 1) mid (prepend_known o' left') so.asks r)
           (again ∙ max_is) so.asks_are)

@@ -4,9 +4,12 @@ use Rattle.std.specs.Prelude.{length, take, Option, Some, None, IfSome, Result, 
 use Rattle.std.specs.Io.KnownBytes.{Appends}
 use mathlib.Core.List.{IsPrefix}
 use Rattle.spf_io.specs.Outside.{Rose}
+use Rattle.spf_board.specs.Passes.{Renews}
 use Rattle.spf_feed.specs.Steps.{StateView}
-use Rattle.spiffe.specs.Passes.{Seen}
+use Rattle.spiffe.specs.Passes.{PassView, Seen, read_of}
+use Rattle.spiffe.specs.Reads.{SeesNoLess}
 use Rattle.spiffe.specs.States.{IsStateOf}
+use Rattle.spiffe.specs.Steps.{Legal}
 use Rattle.spf_gate.specs.declared.rule.Rule.{Rule}
 use Rattle.spf_gate.specs.declared.gate_error.GateError.{GateError}
 use Rattle.spf_gate.specs.declared.gate_error.GateError.TheVariants as errors
@@ -15,15 +18,20 @@ use Rattle.spf_gate.specs.Lines.{lines_of}
 use Rattle.spf_gate.specs.Policies.{NotEnded, Policy, policy_of, asks_rule, asks_before}
 use Rattle.spf_gate.specs.Reading.{HasNoFeed}
 
--- The text is one line for each ask, in order. Each is written by a state that was read of a legal
--- list, which begins with the list before it; the first begins with `seen`, and the last is a
--- beginning of `seen'`.
-abbrev pub AreAnswers : List Rule → Seen → List (List ℕ) → List ℕ → Seen → Type 0
-AreAnswers rules seen [] text seen' = (text ≡ []) × IsPrefix seen seen'
-AreAnswers rules seen (ask ∷ asks) text seen' =
-    (read : Seen) × (state : StateView) × IsPrefix seen read × IsStateOf read state.closed state
+-- The text is one line for each ask, in order. For each the pass reads once more, and the line is
+-- written by a state of what it has seen then. After the last line it is as that read left it.
+abbrev pub AreAnswers : List Rule → PassView → List (List ℕ) → List ℕ → PassView → Type 0
+AreAnswers rules pass [] text pass' = (text ≡ []) × (pass' ≡ pass)
+AreAnswers rules pass (ask ∷ asks) text pass' =
+    (read : PassView) × (state : StateView) × Renews Legal (read_of pass) (read_of read)
+    × IsStateOf read.seen state.closed state
     × (rest : List ℕ) × (text ≡ answer_line rules state ask ++ rest)
-    × AreAnswers rules read asks rest seen'
+    × AreAnswers rules read asks rest pass'
+
+-- the pass has read once more, unless memory ran out
+abbrev pub ReadsOnce : {T : Type 0} → PassView → PassView → Result T GateError → Type 0
+ReadsOnce old new (Err errors.OutOfMemory) = Unit {0}
+ReadsOnce old new _ = Renews Legal (read_of old) (read_of new)
 
 -- the line that answers an ask is written, by a state that was read of what the pass has seen
 abbrev pub AnswersAsk : List Rule → Seen → List ℕ → Option (List ℕ) → Option (List ℕ) → Type 0
@@ -68,11 +76,12 @@ AreAsks max first (Some old) (Some new) asks (Err e) =
 
 -- asks are answered, one line for each
 pub record ServesAsks (max first : ℕ) (old new : Option (List ℕ)) (rules : List Rule)
-    (seen seen' : Seen) (held held' : Option (List ℕ)) (r : Result ℕ GateError) : Type 0 where
+    (pass pass' : PassView) (held held' : Option (List ℕ)) (r : Result ℕ GateError)
+    : Type 0 where
   pub asks : List (List ℕ)
   pub text : List ℕ
   pub written : Appends held held' text
-  pub answers : AreAnswers rules seen asks text seen'
+  pub answers : AreAnswers rules pass asks text pass'
   pub asks_are : AreAsks max first old new asks r
 
 -- asks are the first of these, and keep the rules of lines
@@ -80,12 +89,14 @@ abbrev pub AreFirst : ℕ → ℕ → List (List ℕ) → List (List ℕ) → Ty
 AreFirst max first asks all = IsPrefix asks all × (asks_rule max first asks ≡ Ok tt)
 
 -- Answering was cut: what is written is a beginning of the answers to the first asks. Memory that
--- ran out cuts no line.
+-- ran out cuts no line; the pass may then have read again, for the ask that has no answer.
 pub record ServesFirst (max first : ℕ) (old : Option (List ℕ)) (rules : List Rule)
-    (seen seen' : Seen) (held held' : Option (List ℕ)) (e : GateError) : Type 0 where
+    (pass pass' : PassView) (held held' : Option (List ℕ)) (e : GateError) : Type 0 where
   pub asks : List (List ℕ)
   pub text : List ℕ
-  pub answers : AreAnswers rules seen asks text seen'
+  pub last : PassView
+  pub answers : AreAnswers rules pass asks text last
+  pub later : SeesNoLess last pass'
   pub size : ℕ
   pub written : Appends held held' (take size text)
   pub whole : e ≡ errors.OutOfMemory → size ≡ length text
@@ -117,13 +128,13 @@ AreRead max bytes left rules asks (Err e) =
     × (asks_before max p.first p.asks ≡ asks) × (asks_rule max p.first p.asks ≡ Err e))
 
 -- The asks of an input are answered by the rules of its policy.
-pub record Serves (max : ℕ) (left left' : Option (List ℕ)) (seen seen' : Seen)
+pub record Serves (max : ℕ) (left left' : Option (List ℕ)) (pass pass' : PassView)
     (held held' : Option (List ℕ)) (r : Result ℕ GateError) : Type 0 where
   pub rules : List Rule
   pub asks : List (List ℕ)
   pub text : List ℕ
   pub written : Appends held held' text
-  pub answers : AreAnswers rules seen asks text seen'
+  pub answers : AreAnswers rules pass asks text pass'
   pub read : IfSome left (λ bytes. AreRead max bytes left' rules asks r)
 
 -- The asks are the first of an input, whose policy has these rules; or they are none.
@@ -135,12 +146,14 @@ AreReadFirst max bytes rules asks =
 
 -- A run was cut: what is written is a beginning of the answers to the first asks of the input.
 -- Memory that ran out cuts no line.
-pub record ServesPart (max : ℕ) (left : Option (List ℕ)) (seen seen' : Seen)
+pub record ServesPart (max : ℕ) (left : Option (List ℕ)) (pass pass' : PassView)
     (held held' : Option (List ℕ)) (e : GateError) : Type 0 where
   pub rules : List Rule
   pub asks : List (List ℕ)
   pub text : List ℕ
-  pub answers : AreAnswers rules seen asks text seen'
+  pub last : PassView
+  pub answers : AreAnswers rules pass asks text last
+  pub later : SeesNoLess last pass'
   pub size : ℕ
   pub written : Appends held held' (take size text)
   pub whole : e ≡ errors.OutOfMemory → size ≡ length text

@@ -4,8 +4,9 @@ ghost use Rattle.std.specs.Prelude.{◌≡◌, ◌+◌, false, true, OnOk, IfErr
 ghost use Rattle.std.specs.Io.KnownBytes.{prepend_known};
 ghost use Rattle.spf_gate.specs.declared.gate_error.GateError.TheVariants as errors;
 ghost use Rattle.spf_gate.specs.Reading.{HasNoFeed};
-ghost use Rattle.spf_gate.specs.Serving.{AnswersAsk, AnswersPart, HasCauses, PutHasCause, Serves};
-ghost use Rattle.spf_gate.specs.Serving.{ServesAsks, ServesFirst, ServesPart, cuts, is_cut};
+ghost use Rattle.spf_gate.specs.Serving.{AnswersAsk, AnswersPart, HasCauses, PutHasCause};
+ghost use Rattle.spf_gate.specs.Serving.{ReadsOnce, Serves, ServesAsks, ServesFirst, ServesPart};
+ghost use Rattle.spf_gate.specs.Serving.{cuts, is_cut};
 ghost use Rattle.spiffe.specs.Reads.{SeesNoLess};
 
 use crate::answer::write_answer;
@@ -34,6 +35,7 @@ fn answer_ask<K: Sink>(
     ensures part { IfErr result (AnswersPart rules.now pass.new.seen ask.now (K.held out.old)
         (K.held out.new)) }
     ensures pass { SeesNoLess pass.old pass.new }
+    ensures reads { ReadsOnce pass.old pass.new result }
     ensures cause { PutHasCause (K.failures out.old) (K.failures out.new) result }
 {
     let state = match source.state(pass) {
@@ -63,11 +65,11 @@ fn answer_asks<S: Source, K: Sink>(
     requires { pass.old.book ≡ source.now.board }
     ensures serves { is_cut result ≡ false → ServesAsks lines.old.max (lines.old.number + 1)
         (prepend_known lines.old.octets.items (S.left input.old))
-        (prepend_known lines.new.octets.items (S.left input.new)) rules.now pass.old.seen
-        pass.new.seen (K.held out.old) (K.held out.new) result }
+        (prepend_known lines.new.octets.items (S.left input.new)) rules.now pass.old
+        pass.new (K.held out.old) (K.held out.new) result }
     ensures cut { IfErr result (λ e. cuts e ≡ true → ServesFirst lines.old.max
         (lines.old.number + 1) (prepend_known lines.old.octets.items (S.left input.old)) rules.now
-        pass.old.seen pass.new.seen (K.held out.old) (K.held out.new) e) }
+        pass.old pass.new (K.held out.old) (K.held out.new) e) }
     ensures pass { SeesNoLess pass.old pass.new }
     ensures cause { HasCauses (S.failures input.old) (S.failures input.new) (K.failures out.old)
         (K.failures out.new) result }
@@ -105,9 +107,9 @@ pub fn gate_serve<S: Source, K: Sink>(
 ) -> Result<u64, GateError>
     requires { pass.old.book ≡ source.now.board }
     ensures serves { is_cut result ≡ false → Serves max_lines (S.left input.old) (S.left input.new)
-        pass.old.seen pass.new.seen (K.held out.old) (K.held out.new) result }
+        pass.old pass.new (K.held out.old) (K.held out.new) result }
     ensures cut { IfErr result (λ e. cuts e ≡ true → ServesPart max_lines (S.left input.old)
-        pass.old.seen pass.new.seen (K.held out.old) (K.held out.new) e) }
+        pass.old pass.new (K.held out.old) (K.held out.new) e) }
     ensures pass { SeesNoLess pass.old pass.new }
     ensures cause { HasCauses (S.failures input.old) (S.failures input.new) (K.failures out.old)
         (K.failures out.new) result }

@@ -18,7 +18,7 @@ use Rattle.spf_gate.specs.declared.gate_error.GateError.{GateError}
 use Rattle.spf_gate.specs.declared.gate_error.GateError.TheVariants as gate
 use Rattle.spf_gate.specs.Serving.{Serves, ServesPart, cuts, is_cut}
 use Rattle.spf_gate.proofs.CutLemmas.{cut_at_last}
-use Rattle.spiffe.specs.Passes.{Seen}
+use Rattle.spiffe.specs.Passes.{PassView, Seen}
 use Rattle.spf_gate_live.specs.Ends.{end_of}
 use Rattle.spf_gate_live.specs.Runs.{AnswersAll, IsRecordOf, Runs, max_lines}
 use Rattle.spf_gate_live.specs.declared.live_error.LiveGateError.{LiveGateError}
@@ -57,22 +57,22 @@ record_of {K = K} members picks set connector clock clock' job published found i
 answered_so : {S K : Type 0} (members : S → Option (List Member))
     (picks : K → List Svid → Option ℕ) (set : Settings K) (connector : S)
     (clock clock' : Option (List (Option ℤ))) (job : Assigned S K)
-    (left left' held held' : Option (List ℕ)) (seen last published : Seen)
+    (left left' held held' : Option (List ℕ)) (first last : PassView) (published : Seen)
     (served : Result ℕ GateError)
     (done : Left K) (joined : Result (Recorded K) OutOfMemory) → IsDefault set
     → IsAssigned members picks set connector clock clock' job
-    → (is_cut served ≡ false → Serves max_lines left left' seen last held held' served)
-    → IfErr served (λ e. cuts e ≡ true → ServesPart max_lines left seen last held held' e)
-    → IsPrefix last published → IsLeftBy members picks job done
+    → (is_cut served ≡ false → Serves max_lines left left' first last held held' served)
+    → IfErr served (λ e. cuts e ≡ true → ServesPart max_lines left first last held held' e)
+    → IsPrefix last.seen published → IsLeftBy members picks job done
     → IfOk joined (λ r. done.recorded ≡ Some r) → IfOk joined (IsRecord picks)
     → IfOk joined (λ r. (map plain r.steps ≡ steps_of published) × (is_ended published ≡ true))
     → Runs (members connector) picks left left' held held' (end_of served (is_ok joined))
-answered_so members picks set connector clock clock' job left left' held held' seen last published
+answered_so members picks set connector clock clock' job left left' held held' first last published
     (Ok count) done (Ok found) is assigned serves part begins leaves recorded kept settled =
     let of = subst (λ (o : Option (Recorded _)). IfSome o (IsOf members picks job)) recorded
     leaves.record_is in
     record {
-      first = seen;
+      first = first;
       last = last;
       count = count;
       serves = serves refl;
@@ -82,43 +82,43 @@ answered_so members picks set connector clock clock' job left left' held held' s
       is_record = record_of members picks set connector clock clock' job published found is
           assigned kept of settled.0 settled.1;
     }
-answered_so members picks set connector clock clock' job left left' held held' seen last published
+answered_so members picks set connector clock clock' job left left' held held' first last published
     (Ok count) done (Err e) is assigned serves part begins leaves recorded kept settled = (
-      seen,
+      first,
       last,
       (λ uncut. absurd (cc)),
       λ is.
-          cut_at_last max_lines left left' seen last held held' count gate.OutOfMemory
+          cut_at_last max_lines left left' first last held held' count gate.OutOfMemory
           (serves refl),
     )
-answered_so members picks set connector clock clock' job left left' held held' seen last published
+answered_so members picks set connector clock clock' job left left' held held' first last published
     (Err e) done joined is assigned serves part begins leaves recorded kept settled =
-    (seen, last, serves, part)
+    (first, last, serves, part)
 
 -- the same for the handle's job, over the connector that was handed in
 pub answered : {S K : Type 0} (members : S → Option (List Member))
     (picks : K → List Svid → Option ℕ) (set : Settings K) (connector own : S)
     (clock clock' : Option (List (Option ℤ))) (job started : Assigned S K)
-    (left left' held held' : Option (List ℕ)) (seen last published : Seen)
+    (left left' held held' : Option (List ℕ)) (first last : PassView) (published : Seen)
     (served : Result ℕ GateError)
     (done : Left K) (joined : Result (Recorded K) OutOfMemory) (recorded : Bool)
     (end : Result (Unit {0}) LiveGateError) → own ≡ connector → IsDefault set
     → IsAssigned members picks set own clock clock' job → started ≡ job
-    → (is_cut served ≡ false → Serves max_lines left left' seen last held held' served)
-    → IfErr served (λ e. cuts e ≡ true → ServesPart max_lines left seen last held held' e)
-    → IsPrefix last published → IsLeftBy members picks started done
+    → (is_cut served ≡ false → Serves max_lines left left' first last held held' served)
+    → IfErr served (λ e. cuts e ≡ true → ServesPart max_lines left first last held held' e)
+    → IsPrefix last.seen published → IsLeftBy members picks started done
     → IfOk joined (λ r. done.recorded ≡ Some r) → IfOk joined (IsRecord picks)
     → IfOk joined (λ r. (map plain r.steps ≡ steps_of published) × (is_ended published ≡ true))
     → recorded ≡ is_ok joined → end ≡ end_of served recorded
     → Runs (members connector) picks left left' held held' end
 answered {S} {K} members picks set connector own clock clock' job started left left' held held'
-    seen last published served done joined recorded end by is assigned same serves part begins
+    first last published served done joined recorded end by is assigned same serves part begins
     leaves found kept settled recorded_is end_is =
     let of_job = subst (λ (j : Assigned S K). IsLeftBy members picks j done) same leaves in
     subst (λ (x : S × Result (Unit {0}) LiveGateError).
     Runs (members x.0) picks left left' held held' x.1)
     (λ i. (by i, sym (end_is ∙ ap (end_of served) recorded_is) i))
-    (answered_so members picks set own clock clock' job left left' held held' seen last
+    (answered_so members picks set own clock clock' job left left' held held' first last
     published served done joined is assigned serves part begins of_job found kept settled)
 
 unyielded_all : {K : Type 0} (members : Option (List Member)) (picks : K → List Svid → Option ℕ)

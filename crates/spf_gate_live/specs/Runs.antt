@@ -24,7 +24,7 @@ use Rattle.spf_gate.specs.declared.gate_error.GateError.{GateError}
 use Rattle.spf_gate.specs.declared.gate_error.GateError.TheVariants as gate
 use Rattle.spf_gate.specs.Serving.{Serves, ServesPart, cuts}
 use Rattle.spf_live.specs.Printing.{Moments}
-use Rattle.spiffe.specs.Passes.{Seen}
+use Rattle.spiffe.specs.Passes.{PassView, Seen}
 use Rattle.spf_gate_live.specs.Ends.{end_status, error_line}
 use Rattle.spf_gate_live.specs.declared.live_error.LiveGateError.{LiveGateError}
 use Rattle.spf_gate_live.specs.declared.live_error.LiveGateError.TheVariants as errors
@@ -51,12 +51,12 @@ pub record IsRecordOf {K : Type 0} (members : Option (List Member))
 -- All asks were answered, each from what was read of a beginning of what was published.
 pub record AnswersAll {K : Type 0} (members : Option (List Member))
     (picks : K → List Svid → Option ℕ) (left left' held held' : Option (List ℕ)) : Type 0 where
-  pub first : Seen
-  pub last : Seen
+  pub first : PassView
+  pub last : PassView
   pub count : ℕ
   pub serves : Serves max_lines left left' first last held held' (Ok count)
   pub published : Seen
-  pub begins : IsPrefix last published
+  pub begins : IsPrefix last.seen published
   pub found : Recorded K
   pub is_record : IsRecordOf members picks published found
 
@@ -65,7 +65,7 @@ pub record AnswersAll {K : Type 0} (members : Option (List Member))
 abbrev pub AnswersUntil : Option (List ℕ) → Option (List ℕ) → Option (List ℕ) → Option (List ℕ)
     → GateError → Type 0
 AnswersUntil left left' held held' e =
-    (first : Seen) × (last : Seen)
+    (first : PassView) × (last : PassView)
     × (cuts e ≡ false → Serves max_lines left left' first last held held' (Err e))
     × (cuts e ≡ true → ServesPart max_lines left first last held held' e)
 

@@ -53,6 +53,8 @@ where
     R: Wait + Copy + Drop,
     // Status 9 comes exactly where there are arguments.
     ensures arguments { (result ≡ 9) ↔ (length arguments.now ≢ 0) }
+    ensures untouched { length arguments.now ≢ 0 → (input.new ≡ input.old) × (out.new ≡ out.old)
+        × (clock.new ≡ clock.old) × (spawner.new ≡ spawner.old) × (places.new ≡ places.old) }
     // Where all asks were answered, each line is that of what was read of a beginning of the steps
     // in the supervisor's record, whose events are what the connector yielded. Where they were not,
     // the status and the line on `errors` say why.

@@ -36,6 +36,7 @@ where
     E: Sink,
     // Status 9 comes exactly where there are arguments.
     ensures arguments { (result ≡ 9) ↔ (length arguments.now ≢ 0) }
+    ensures untouched { length arguments.now ≢ 0 → (input.new ≡ input.old) × (out.new ≡ out.old) }
     // As `gate_live` over the endpoint, the clock and the threads of the process: no clause says
     // when a thread or a place is not available.
     ensures ended { Ended None (⟦<HintPicker as SvidPicker>⟧.picks) (Ok tt) (Unit {0}) (Unit {0})

@@ -59,8 +59,8 @@ impl<'a, D: Disk> Model for HelperPublisher<'a, D> {
 }
 
 impl<'a, D: Disk> HelperPublisher<'a, D> {
-    /// A publisher over files that are opened.
-    pub(crate) fn over(alloc: Global, disk: &'a mut D, opened: Opened) -> HelperPublisher<'a, D>
+    /// A publisher over files that `open_files` has opened.
+    pub fn over(alloc: Global, disk: &'a mut D, opened: Opened) -> HelperPublisher<'a, D>
         requires opened { IsOpened (D.seen disk.old) opened }
         requires durable { Only (D.seen disk.old) (D.may_leave disk.old) }
         ensures same_reference { result.disk.ghost_name ≡ disk.entry.ghost_name }
@@ -161,6 +161,9 @@ impl<'a, D: Disk> Publisher for HelperPublisher<'a, D> {
             ((self.new.disk.now ≡ self.old.disk.now)
             × (self.new.acknowledged ≡ self.old.acknowledged)
             × (self.new.fault ≡ self.old.fault) × (self.new.full ≡ self.old.full)) }
+        // A step that is not written does not count.
+        ensures unwritten { OnTrue (self.new.fault || self.new.full)
+            (self.new.acknowledged ≡ self.old.acknowledged) }
         // Otherwise all steps are written, and each crash leaves what the last one says.
         ensures standing { OnFalse (self.new.fault || self.new.full)
             (IsStanding D.seen D.may_leave self.new) }

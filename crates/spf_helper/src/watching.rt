@@ -35,6 +35,8 @@ pub fn helper_watch<S: Source, D: Disk, K: Sink, E: Sink>(
     ensures refused { length arguments.now ≢ 1
         → IsReported (side (E.held errors.old) (E.failures errors.old))
         (side (E.held errors.new) (E.failures errors.new)) (codes "spf_helper: bad words\n") }
+    ensures untouched { length arguments.now ≢ 1
+        → (source.new ≡ source.old) × (disk.new ≡ disk.old) × (out.new ≡ out.old) }
     ensures watches { length arguments.now ≡ 1
         → Watches D.seen D.may_leave D.moment D.left_since D.failures disk.old disk.new (record {
           left = S.left source.old;

@@ -10,14 +10,16 @@ ghost use Rattle.spf_jwt.specs.Token.{claims_rule, header_key_rule, part_rule, t
 use crate::claims::{audience, expiry, header_key_id, subject};
 use crate::token::{self, PartFault};
 use serde_json::Value;
-use spf_api::JwtSvidError;
+use spf_api::{JwtSvidError, SecretLength};
 use spf_id::SpiffeId;
 use spf_io::{List, OutOfMemory, Text};
 use std::alloc::Global;
+use std::fmt;
 use std::marker::Model;
 
-/// A JWT SVID (SPIFFE JWT-SVID sections 2 and 3). Its signature is not checked.
-#[derive(Debug, PartialEq, Eq, Drop)]
+/// A JWT SVID (SPIFFE JWT-SVID sections 2 and 3). Its signature is not checked. Debug output shows
+/// only the length of its token.
+#[derive(PartialEq, Eq, Drop)]
 pub struct JwtSvid {
     spiffe_id: SpiffeId,
     audience: List<Text>,
@@ -49,6 +51,19 @@ impl Model for JwtSvid {
       key_id = v.key_id;
       hint = v.hint;
     } };
+}
+
+impl fmt::Debug for JwtSvid {
+    fn fmt<W: fmt::Write>(&self, f: &mut fmt::Formatter<W>) -> fmt::Result {
+        f.debug_struct("JwtSvid")
+            .field("spiffe_id", &self.spiffe_id)
+            .field("audience", &self.audience)
+            .field("expiry", &self.expiry)
+            .field("token", &SecretLength(self.token.as_str().len()))
+            .field("key_id", &self.key_id)
+            .field("hint", &self.hint)
+            .finish()
+    }
 }
 
 fn header_object(alloc: Global, part: &str) -> Result<Value, JwtSvidError>

@@ -1,5 +1,6 @@
 -- What a connector gives, and what its count of refusals says.
 use Rattle.std.specs.Prelude.{◌≡◌, ℕ, ◌≤◌, ◌⊎◌, List, [], ◌∷◌, Option, None, Some, Result, Ok, Err}
+use Rattle.spf_io.specs.Memory.{next_number}
 use Rattle.spf_io.specs.Outside.{Rose}
 use Rattle.spf_api.specs.declared.link.ClientFault.{ClientFault}
 use Rattle.spf_api.specs.declared.link.ClientFault.TheVariants as fault
@@ -17,6 +18,12 @@ pub record HasClientCause {T : Type 0} (before now : ℕ) (result : Result T Cli
     Type 0 where
   pub later : before ≤ now
   pub refused : IsClientRefusal result → Rose before now
+
+-- the count of refusals after a `connect`, which stands still at 2^64 - 1
+abbrev pub refused_after : {T : Type 0} → Result T ClientFault → ℕ → ℕ
+refused_after (Ok _) n = n
+refused_after (Err fault.OutOfMemory) n = n
+refused_after (Err f) n = next_number n
 
 -- what a `connect` gives: the answers of a link, or a fault
 abbrev pub Member : Type 0

@@ -3,7 +3,12 @@ use Rattle.std.specs.Prelude.{◌≡◌, ℕ, List, codes, Option, None, Some, R
 use Rattle.spf_api.specs.declared.endpoint_error.EndpointError.{EndpointError}
 use Rattle.spf_api.specs.declared.link.ClientFault.{ClientFault}
 use Rattle.spf_api.specs.declared.link.ClientFault.TheVariants as fault
+use Rattle.std.specs.Net.Addr.{IsIpv4OfBits, IsIpv6OfBits}
+use Rattle.std.specs.declared.net.ip_addr.IpAddr.{IpAddr}
+use Rattle.std.specs.declared.net.ip_addr.IpAddr.TheVariants as ip
 use Rattle.spf_link.specs.declared.endpoint.Endpoint.{Endpoint}
+use Rattle.spf_link.specs.declared.endpoint.EndpointHost.{EndpointHost}
+use Rattle.spf_link.specs.declared.endpoint.EndpointHost.TheVariants as hosts
 use Rattle.spf_link.specs.Endpoint.{endpoint_rule}
 use Rattle.spf_link.specs.Environment.{value_rule}
 use Rattle.spf_system.specs.declared.environment.EnvValue.{EnvValue}
@@ -15,10 +20,14 @@ abbrev pub kept : {A E : Type 0} → Result A E → Result (Unit {0}) E
 kept (Ok x) = Ok tt
 kept (Err e) = Err e
 
--- the first broken rule of a text; an endpoint breaks none
+-- what a target names, or the first broken rule of its text
+abbrev pub named : Target → Result Endpoint EndpointError
+named (target.Text text) = endpoint_rule text
+named (target.Endpoint endpoint) = Ok endpoint
+
+-- the first broken rule of a target; an endpoint breaks none
 abbrev pub target_rule : Target → Result (Unit {0}) EndpointError
-target_rule (target.Text text) = kept (endpoint_rule text)
-target_rule (target.Endpoint endpoint) = Ok tt
+target_rule t = kept (named t)
 
 abbrev pub IsParsed : Target → Type 0
 IsParsed (target.Text text) = ⊥
@@ -29,14 +38,11 @@ abbrev pub IsNoStatus : ClientFault → Type 0
 IsNoStatus (fault.Status s) = ⊥
 IsNoStatus _ = Unit {0}
 
-abbrev pub IsOwnFault : {E : Type 0} → Result (Unit {0}) E → ClientFault → Type 0
-IsOwnFault (Ok _) f = Unit {0}
-IsOwnFault (Err e) f = IsNoStatus f
-
--- nobody is reached by a text that breaks a rule, and no status is then returned
+-- Nobody is reached by a text that breaks a rule. Where nobody is reached, the reason is no status:
+-- also where the endpoint is valid and nobody listens.
 abbrev pub IsUnreached : {E L : Type 0} → Result (Unit {0}) E → Result L ClientFault → Type 0
 IsUnreached rule (Ok link) = rule ≡ Ok tt
-IsUnreached rule (Err f) = IsOwnFault rule f
+IsUnreached rule (Err f) = IsNoStatus f
 
 -- the variable that names the endpoint of the Workload API
 abbrev pub endpoint_variable : List ℕ
@@ -44,5 +50,12 @@ endpoint_variable = codes "SPIFFE_ENDPOINT_SOCKET"
 
 -- nobody is reached where the value of the variable, where it is known, names no endpoint
 abbrev pub ReachesNamed : {L : Type 0} → Option EnvValue → Result L ClientFault → Type 0
-ReachesNamed None result = Unit {0}
+ReachesNamed None (Ok link) = Unit {0}
+ReachesNamed None (Err f) = IsNoStatus f
 ReachesNamed (Some value) result = IsUnreached (kept (value_rule value)) result
+
+-- the IP address of the system has the bits of this host
+abbrev pub IsAddressOf : EndpointHost → IpAddr → Type 0
+IsAddressOf (hosts.V4 bits) (ip.V4 a) = IsIpv4OfBits a bits
+IsAddressOf (hosts.V6 bits) (ip.V6 a) = IsIpv6OfBits a bits
+IsAddressOf _ _ = ⊥

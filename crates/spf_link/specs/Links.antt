@@ -1,6 +1,7 @@
 -- What a link answers, and what its count of refusals says.
 use Rattle.std.specs.Prelude.{◌≡◌, ℕ, ◌≤◌, ◌⊎◌, Bool, true, false, List, [], ◌∷◌, ◌++◌, Option}
 use Rattle.std.specs.Prelude.{None, Some, Result, Ok, Err, if◌then◌else◌}
+use Rattle.spf_io.specs.Memory.{next_number}
 use Rattle.spf_io.specs.Outside.{Rose}
 use Rattle.spf_api.specs.Payload.{kind_of}
 use Rattle.spf_api.specs.Refused.{Refused}
@@ -32,6 +33,12 @@ IsRefusal (Err f) = Unit {0}
 pub record HasLinkCause {T : Type 0} (before now : ℕ) (result : Result T LinkFault) : Type 0 where
   pub later : before ≤ now
   pub refused : IsRefusal result → Rose before now
+
+-- the count of refusals after a call, which stands still at 2^64 - 1
+abbrev pub refusals_after : {T : Type 0} → Result T LinkFault → ℕ → ℕ
+refusals_after (Ok _) n = n
+refusals_after (Err fault.OutOfMemory) n = n
+refusals_after (Err f) n = next_number n
 
 -- what a `start` was given is appended, unless memory ran out
 abbrev pub StartAppends : {T : Type 0} → Option (List Start) → Option (List Start)

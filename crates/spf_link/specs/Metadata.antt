@@ -16,9 +16,10 @@ abbrev pub IsRefusedAs : Option Refused → List Header → List Header → Work
 IsRefusedAs None left headers e = ⊥
 IsRefusedAs (Some s) left headers e = (e ≡ status_reading s) × (left ≡ headers)
 
--- the status of the interceptor, or its headers with that of the Workload API; unless memory ran
--- out
-abbrev pub IsAdded : {T : Type 0} → Intercepted → List Header → Result T WorkloadApiError → Type 0
-IsAdded i left (Ok done) = (i.refusal ≡ None) × (left ≡ with_metadata i.headers)
-IsAdded i left (Err api.OutOfMemory) = Unit {0}
-IsAdded i left (Err e) = IsRefusedAs i.refusal left i.headers e
+-- the status of the interceptor, or its headers with that of the Workload API; where memory ran out
+-- the headers are as they were
+abbrev pub IsAdded : {T : Type 0} → List Header → Intercepted → List Header
+    → Result T WorkloadApiError → Type 0
+IsAdded before i left (Ok done) = (i.refusal ≡ None) × (left ≡ with_metadata i.headers)
+IsAdded before i left (Err api.OutOfMemory) = left ≡ before
+IsAdded before i left (Err e) = IsRefusedAs i.refusal left i.headers e

@@ -1,9 +1,8 @@
 -- How a link over the wire answers, over what its source gives and its sink holds.
-use Rattle.std.specs.Prelude.{◌≡◌, ℕ, ◌^◌, ◌<◌, Bool, List, [], length, take, Option, None}
-use Rattle.std.specs.Prelude.{Result, Ok, Err}
+use Rattle.std.specs.Prelude.{◌≡◌, ℕ, ◌^◌, ◌<◌, Bool, true, false, List, [], length, take}
+use Rattle.std.specs.Prelude.{Option, None, Some, Result, Ok, Err}
 use Rattle.std.specs.Io.KnownBytes.{Consumes, Appends}
 use Rattle.spf_io.specs.Outside.{Rose}
-use Rattle.spf_io.specs.Rule.{broken_as}
 use Rattle.spf_view.specs.Frames.{FitsFrame}
 use Rattle.spf_frame.specs.declared.error.FrameError.{FrameError}
 use Rattle.spf_frame.specs.declared.error.FrameError.TheVariants as errors
@@ -15,6 +14,8 @@ use Rattle.spf_api.specs.declared.response.ResponseKind.{ResponseKind}
 use Rattle.spf_api.specs.declared.status.GrpcStatusCode.{GrpcStatusCode}
 use Rattle.spf_api.specs.declared.status.GrpcStatusCode.TheVariants as code
 use Rattle.spf_link.specs.Headers.{Header}
+use Rattle.spf_link.specs.Links.{refusals_after}
+use Rattle.spf_link.specs.Request.{answered_by}
 use Rattle.spf_link.specs.declared.request.Request.{Request}
 use Rattle.spf_link.specs.declared.wire_fault.WireFault.{WireFault}
 use Rattle.spf_link.specs.declared.wire_fault.WireFault.TheVariants as wire
@@ -29,6 +30,14 @@ pub record Ports : Type 0 where
   pub reads_failed : ℕ
   pub puts_failed : ℕ
 
+-- A link: its ports; the kind of the responses to the request that was put last; how often it
+-- refused; and whether it has lost its place, so that what comes next may be the middle of a frame.
+pub record WireState : Type 0 where
+  pub ports : Ports
+  pub asked : Option ResponseKind
+  pub refused : ℕ
+  pub lost : Bool
+
 -- ---- the refusals
 
 -- a status with an empty message
@@ -36,8 +45,8 @@ abbrev pub refusal : GrpcStatusCode → LinkFault
 refusal c = fault.Status (record { code = c; message = []; source = None })
 
 -- The refusal by what stood in the way: RESOURCE_EXHAUSTED for a request that is too long,
--- UNAVAILABLE for a put or a read that failed, INTERNAL where no whole answer came that is allowed
--- there.
+-- UNAVAILABLE for a put or a read that failed, now or before, INTERNAL where no whole answer came
+-- that is allowed there.
 abbrev pub fault_of : WireFault → LinkFault
 fault_of wire.RequestTooLong = refusal code.ResourceExhausted
 fault_of wire.PutFault = refusal code.Unavailable
@@ -46,12 +55,28 @@ fault_of (wire.Unread errors.BadFrame) = refusal code.Internal
 fault_of (wire.Unread errors.TooLong) = refusal code.Internal
 fault_of (wire.Unread errors.OutOfMemory) = fault.OutOfMemory
 fault_of wire.OutOfMemory = fault.OutOfMemory
+fault_of wire.LostPlace = refusal code.Unavailable
 
 -- what the other side said, or the refusal by what stood in the way
 abbrev pub result_of : {A : Type 0} → Result (Result A Refused) WireFault → Result A LinkFault
 result_of (Ok (Ok x)) = Ok x
 result_of (Ok (Err s)) = Err (fault.Status s)
 result_of (Err f) = Err (fault_of f)
+
+-- ---- the place of a link
+
+-- Whether a link loses its place: a put or a read failed, or memory ran out while it read, and a
+-- part of a frame may have been put or read.
+abbrev pub loses_place : {A : Type 0} → Result A WireFault → Bool
+loses_place (Ok _) = false
+loses_place (Err wire.RequestTooLong) = false
+loses_place (Err wire.OutOfMemory) = false
+loses_place (Err (wire.Unread errors.BadFrame)) = false
+loses_place (Err (wire.Unread errors.TooLong)) = false
+loses_place (Err (wire.Unread errors.ReadFault)) = true
+loses_place (Err (wire.Unread errors.OutOfMemory)) = true
+loses_place (Err wire.PutFault) = true
+loses_place (Err wire.LostPlace) = true
 
 -- ---- a start
 
@@ -90,13 +115,31 @@ StartAsked again headers request old new (Err wire.PutFault) = IsUnput headers r
 StartAsked again headers request old new (Err (wire.Unread e)) =
     IsAsked again headers request old new (Err e)
 StartAsked again headers request old new (Err wire.OutOfMemory) = IsUntouched old new
+StartAsked again headers request old new (Err wire.LostPlace) = ⊥
+
+-- a link that has lost its place puts and reads nothing
+abbrev pub Placed : {A : Type 0} → Bool → Ports → Ports → Result A WireFault → Type 0 → Type 0
+Placed true old new answer Asked = (answer ≡ Err wire.LostPlace) × IsUntouched old new
+Placed false old new answer Asked = Asked
+
+-- the kind that was asked for last: that of this request, once anything of it may have been put
+abbrev pub asked_after : {A : Type 0} → Result A WireFault → Option ResponseKind → ResponseKind
+    → Option ResponseKind
+asked_after (Err wire.RequestTooLong) before now = before
+asked_after (Err wire.OutOfMemory) before now = before
+asked_after (Err wire.LostPlace) before now = before
+asked_after _ before now = Some now
 
 -- a `start`, which is the first of its link unless `again`
-pub record IsStarted (again : Bool) (headers : List Header) (request : Request) (old new : Ports)
-    (result : Result (Unit {0}) LinkFault) : Type 0 where
+pub record IsStarted (again : Bool) (headers : List Header) (request : Request)
+    (old new : WireState) (result : Result (Unit {0}) LinkFault) : Type 0 where
   pub answer : Result (Result (Unit {0}) Refused) WireFault
-  pub asked : StartAsked again headers request old new answer
+  pub asked : Placed old.lost old.ports new.ports answer
+      (StartAsked again headers request old.ports new.ports answer)
   pub is : result ≡ result_of answer
+  pub kind : new.asked ≡ asked_after answer old.asked (answered_by request)
+  pub refused : new.refused ≡ refusals_after result old.refused
+  pub lost : new.lost ≡ loses_place answer
 
 -- ---- a next
 
@@ -107,9 +150,19 @@ pub record IsStreamRead (asked : Option ResponseKind) (old new : Ports)
   pub cause : HasReadCause old new r
   pub unput : Appends old.held new.held []
 
--- a `next`, where responses of the kind were asked for
-pub record IsNextResponse (asked : Option ResponseKind) (old new : Ports)
-    (result : Result (Option Response) LinkFault) : Type 0 where
-  pub answer : Result (Result (Option Response) Refused) FrameError
-  pub read : IsStreamRead asked old new answer
-  pub is : result ≡ result_of (broken_as wire.Unread answer)
+abbrev pub NextRead : Option ResponseKind → Ports → Ports
+    → Result (Result (Option Response) Refused) WireFault → Type 0
+NextRead asked old new (Ok answer) = IsStreamRead asked old new (Ok answer)
+NextRead asked old new (Err (wire.Unread e)) = IsStreamRead asked old new (Err e)
+NextRead asked old new (Err _) = ⊥
+
+-- a `next`, of the stream of the request that was asked for last
+pub record IsNextResponse (old new : WireState) (result : Result (Option Response) LinkFault) :
+    Type 0 where
+  pub answer : Result (Result (Option Response) Refused) WireFault
+  pub read : Placed old.lost old.ports new.ports answer
+      (NextRead old.asked old.ports new.ports answer)
+  pub is : result ≡ result_of answer
+  pub kind : new.asked ≡ old.asked
+  pub refused : new.refused ≡ refusals_after result old.refused
+  pub lost : new.lost ≡ loses_place answer

@@ -3,8 +3,9 @@
 ghost use Rattle.std.specs.Prelude.{◌≡◌, Ok, IfOk};
 ghost use Rattle.spf_io.specs.Rule.{Gives};
 ghost use Rattle.spf_link.specs.Endpoint.{endpoint_rule, is_memory};
-ghost use Rattle.spf_link.specs.Connecting.{HasClientCause};
-ghost use Rattle.spf_link.specs.Endpoints.{kept, target_rule, IsNoStatus, IsParsed, IsUnreached};
+ghost use Rattle.spf_link.specs.Connecting.{HasClientCause, refused_after};
+ghost use Rattle.spf_link.specs.Endpoints.{kept, named, target_rule, IsNoStatus, IsParsed};
+ghost use Rattle.spf_link.specs.Endpoints.{IsUnreached};
 
 use crate::connector::Connector;
 use crate::endpoint::Endpoint;
@@ -35,7 +36,8 @@ pub struct EndpointConnector<R> {
 
 /// The count of refusals after a `connect`.
 pub(crate) fn refusals_after<T>(refused: u64, outcome: &Result<T, ClientFault>) -> u64
-    ensures { HasClientCause refused result outcome.now }
+    ensures cause { HasClientCause refused result outcome.now }
+    ensures counts { result ≡ refused_after outcome.now refused }
 {
     match outcome {
         Ok(_) | Err(ClientFault::OutOfMemory) => refused,
@@ -60,9 +62,10 @@ impl<R: Net<Stream = TcpStream> + Drop> EndpointConnector<R> {
     /// Returns a connector to what the text names, such as `unix:///run/agent.sock` or
     /// `tcp://127.0.0.1:8081`.
     pub fn new(net: R, alloc: Global, endpoint: &str) -> Result<EndpointConnector<R>, OutOfMemory>
-        ensures { IfOk result
+        ensures validates { IfOk result
             (λ c. ⟦<EndpointConnector<R> as Connector>⟧.validates c
             ≡ kept (endpoint_rule endpoint.now)) }
+        ensures named { IfOk result (λ c. named c.target ≡ endpoint_rule endpoint.now) }
     {
         Ok(EndpointConnector {
             net,
@@ -75,7 +78,8 @@ impl<R: Net<Stream = TcpStream> + Drop> EndpointConnector<R> {
 
     /// Returns a connector to the endpoint.
     pub fn to(net: R, alloc: Global, endpoint: Endpoint) -> EndpointConnector<R>
-        ensures { ⟦<EndpointConnector<R> as Connector>⟧.validates result ≡ Ok tt }
+        ensures validates { ⟦<EndpointConnector<R> as Connector>⟧.validates result ≡ Ok tt }
+        ensures named { named result.target ≡ Ok endpoint }
     {
         EndpointConnector {
             net,
@@ -88,7 +92,7 @@ impl<R: Net<Stream = TcpStream> + Drop> EndpointConnector<R> {
 
     fn parse(&mut self) -> Result<(), EndpointError>
         ensures result { Gives is_memory (λ u. u) result (target_rule self.old.target) }
-        ensures rule { target_rule self.new.target ≡ target_rule self.old.target }
+        ensures named { named self.new.target ≡ named self.old.target }
         ensures parsed { IfOk result (λ _. IsParsed self.new.target) }
         ensures refused { self.new.refused ≡ self.old.refused }
     {
@@ -107,7 +111,7 @@ impl<R: Net<Stream = TcpStream> + Drop> EndpointConnector<R> {
 
     fn reach(&mut self) -> Result<SocketLink, ClientFault>
         ensures unreached { IsUnreached (target_rule self.old.target) result }
-        ensures rule { target_rule self.new.target ≡ target_rule self.old.target }
+        ensures named { named self.new.target ≡ named self.old.target }
         ensures refused { self.new.refused ≡ self.old.refused }
     {
         match self.parse() {
@@ -125,7 +129,10 @@ impl<R: Net<Stream = TcpStream> + Drop> EndpointConnector<R> {
 
 impl<R: Net<Stream = TcpStream> + Drop> Connector for EndpointConnector<R> {
     ghost use Rattle.std.specs.Prelude.{None};
+    ghost use Rattle.std.specs.Prelude.{◌≡◌};
     ghost use Rattle.spf_link.specs.Endpoints.{target_rule as rule, IsUnreached as Unreached};
+    ghost use Rattle.spf_link.specs.Endpoints.{named as names};
+    ghost use Rattle.spf_link.specs.Connecting.{refused_after as counted};
 
     type Link = SocketLink;
 
@@ -135,7 +142,9 @@ impl<R: Net<Stream = TcpStream> + Drop> Connector for EndpointConnector<R> {
 
     ghost members = { λ _. None };
 
-    ghost connect_gives = { λ old result new. Unreached (rule old.target) result };
+    ghost connect_gives = { λ old result new.
+        Unreached (rule old.target) result × (names new.target ≡ names old.target)
+        × (new.refused ≡ counted result old.refused) };
 
     fn validate(&mut self) -> Result<(), EndpointError> {
         self.parse()

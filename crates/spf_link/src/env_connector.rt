@@ -64,7 +64,8 @@ impl<R: Net<Stream = TcpStream> + Drop, E: Environment + Drop> EnvConnector<R, E
 }
 
 impl<R: Net<Stream = TcpStream> + Drop, E: Environment + Drop> Connector for EnvConnector<R, E> {
-    ghost use Rattle.std.specs.Prelude.{None, Ok};
+    ghost use Rattle.std.specs.Prelude.{◌≡◌, None, Ok};
+    ghost use Rattle.spf_link.specs.Connecting.{refused_after};
     ghost use Rattle.spf_link.specs.Endpoints.{ReachesNamed, endpoint_variable};
 
     type Link = SocketLink;
@@ -76,7 +77,8 @@ impl<R: Net<Stream = TcpStream> + Drop, E: Environment + Drop> Connector for Env
     ghost members = { λ _. None };
 
     ghost connect_gives = { λ old result new.
-        ReachesNamed (E.value old.environment endpoint_variable) result };
+        ReachesNamed (E.value old.environment endpoint_variable) result
+        × (new.environment ≡ old.environment) × (new.refused ≡ refused_after result old.refused) };
 
     fn validate(&mut self) -> Result<(), EndpointError> {
         Ok(())

@@ -101,6 +101,13 @@ impl Headers {
         Ok(())
     }
 
+    /// Returns a copy of the headers over their own allocator.
+    pub(crate) fn try_copy(&self) -> Result<Headers, OutOfMemory>
+        ensures { IfOk result (λ h. h ≡ self.now) }
+    {
+        self.try_clone(self.alloc)
+    }
+
     /// Returns a copy of the headers.
     pub fn try_clone(&self, alloc: Global) -> Result<Headers, OutOfMemory>
         ensures { IfOk result (λ h. h ≡ self.now) }

@@ -24,19 +24,22 @@ impl<I: Interceptor> MetadataAdder<I> {
     }
 
     /// Calls the interceptor, and then sets the header to `true`. After a refusal the headers are
-    /// as the interceptor left them.
+    /// as the interceptor left them, and as they were where memory ran out.
     pub fn call(&self, headers: &mut Headers) -> Result<(), WorkloadApiError>
         requires { I.can_intercept self.now.extra }
-        ensures { IsAdded (I.intercepts self.now.extra headers.old) headers.new result }
+        ensures { IsAdded headers.old (I.intercepts self.now.extra headers.old) headers.new result }
     {
-        match self.extra.call(headers) {
+        let mut changed = headers.try_copy()?;
+        match self.extra.call(&mut changed) {
             Ok(()) => {}
             Err(InterceptorFault::Status(status)) => {
+                *headers = changed;
                 return Err(WorkloadApiError::from_status(status));
             }
             Err(InterceptorFault::OutOfMemory) => return Err(WorkloadApiError::OutOfMemory),
         }
-        headers.set(WORKLOAD_HEADER, "true")?;
+        changed.set(WORKLOAD_HEADER, "true")?;
+        *headers = changed;
         Ok(())
     }
 }

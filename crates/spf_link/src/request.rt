@@ -4,12 +4,14 @@ ghost use Rattle.std.specs.Prelude.{◌≡◌, IfOk};
 ghost use Rattle.spf_link.specs.Request.{answered_by};
 
 use crate::headers::Headers;
-use spf_api::ResponseKind;
+use spf_api::{ResponseKind, SecretLength};
 use spf_io::{List, OutOfMemory, Text};
 use std::alloc::Global;
+use std::fmt;
 
 /// A request of the Workload API (SPIFFE Workload API sections 5 and 6).
-#[derive(Debug, PartialEq, Eq, Drop)]
+/// Debug output shows only the length of a token.
+#[derive(PartialEq, Eq, Drop)]
 pub enum Request {
     /// The X.509-SVIDs of the workload, with their bundles.
     X509Svid,
@@ -27,6 +29,29 @@ pub enum Request {
         audience: Text,
         svid: Text,
     },
+}
+
+impl fmt::Debug for Request {
+    fn fmt<W: fmt::Write>(&self, f: &mut fmt::Formatter<W>) -> fmt::Result {
+        match self {
+            Request::X509Svid => write!(f, "X509Svid"),
+            Request::X509Bundles => write!(f, "X509Bundles"),
+            Request::JwtBundles => write!(f, "JwtBundles"),
+            Request::JwtSvid {
+                spiffe_id,
+                audience,
+            } => f
+                .debug_struct("JwtSvid")
+                .field("spiffe_id", spiffe_id)
+                .field("audience", audience)
+                .finish(),
+            Request::ValidateJwt { audience, svid } => f
+                .debug_struct("ValidateJwt")
+                .field("audience", audience)
+                .field("svid", &SecretLength(svid.as_str().len()))
+                .finish(),
+        }
+    }
 }
 
 /// Copies of the texts.

@@ -1,5 +1,9 @@
 //! Links over sockets, and how an endpoint is reached.
 
+ghost use Rattle.std.specs.Prelude.{◌≡◌, IfErr};
+ghost use Rattle.std.specs.Net.Socket.{socket_ip, socket_port};
+ghost use Rattle.spf_link.specs.Endpoints.{IsAddressOf, IsNoStatus};
+
 use crate::endpoint::{Endpoint, EndpointHost};
 use crate::socket::{Socket, SocketEnd, is_over};
 use crate::wire_link::WireLink;
@@ -18,7 +22,10 @@ const TRY_MILLIS: u64 = 200;
 /// A link over the wire of a Unix or TCP socket.
 pub type SocketLink = WireLink<StdSource<SocketEnd>, StdSink<SocketEnd>>;
 
-fn address_of(host: EndpointHost, port: u16) -> SocketAddr {
+fn address_of(host: EndpointHost, port: u16) -> SocketAddr
+    ensures ip { IsAddressOf host (socket_ip result) }
+    ensures port { socket_port result ≡ port }
+{
     let ip = match host {
         EndpointHost::V4(bits) => IpAddr::V4(Ipv4Addr::from_bits(bits)),
         EndpointHost::V6(bits) => IpAddr::V6(Ipv6Addr::from_bits(bits)),
@@ -109,7 +116,9 @@ pub(crate) fn connect_endpoint<R: Net<Stream = TcpStream>>(
     alloc: Global,
     endpoint: &Endpoint,
     stop: &Option<StopFlag>,
-) -> Result<SocketLink, ClientFault> {
+) -> Result<SocketLink, ClientFault>
+    ensures { IfErr result (λ f. IsNoStatus f) }
+{
     let (socket, other) = match open(net, endpoint, stop) {
         Ok(sockets) => sockets,
         Err(e) => {

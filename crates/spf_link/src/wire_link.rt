@@ -1,17 +1,19 @@
 //! A link over the wire.
 
-ghost use Rattle.std.specs.Prelude.{◌≡◌, None, Some, IfOk, IfSome, is_some};
+ghost use Rattle.std.specs.Prelude.{◌≡◌, None, Some, IfOk, IfSome, false, is_some};
 ghost use Rattle.spf_api.specs.Payload.{kind_of};
 ghost use Rattle.spf_link.specs.Links.{HasLinkCause};
+ghost use Rattle.spf_link.specs.Links as links;
 ghost use Rattle.spf_link.specs.Request.{answered_by};
-ghost use Rattle.spf_link.specs.Wire.{Ports, StartAsked, IsStreamRead};
+ghost use Rattle.spf_link.specs.Wire.{Ports, StartAsked, IsStreamRead, NextRead, Placed};
+ghost use Rattle.spf_link.specs.Wire.{asked_after};
 ghost use Rattle.spf_link.specs.Wire as spec;
 
 use crate::answers::{Started, Streamed, read_in_stream, read_start};
 use crate::headers::Headers;
 use crate::link::Link;
 use crate::request::Request;
-use crate::wire_fault::WireFault;
+use crate::wire_fault::{WireFault, loses_place};
 use crate::wire_request::request_frame;
 use spf_api::{GrpcStatusCode, GrpcStatusError, LinkFault, Response, ResponseKind};
 use spf_frame::{FrameError, Payload};
@@ -29,6 +31,8 @@ pub struct WireLink<S, K> {
     /// The kind of the responses to the last request that was put, at least in part.
     asked: Option<ResponseKind>,
     refused: u64,
+    /// What comes next may be the middle of a frame, so nothing is put or read any more.
+    has_lost_place: bool,
 }
 
 /// A refusal with an empty message.
@@ -44,7 +48,9 @@ fn fault_of(alloc: Global, fault: WireFault) -> LinkFault
 {
     match fault {
         WireFault::RequestTooLong => refusal(alloc, GrpcStatusCode::ResourceExhausted),
-        WireFault::PutFault => refusal(alloc, GrpcStatusCode::Unavailable),
+        WireFault::PutFault | WireFault::LostPlace => {
+            refusal(alloc, GrpcStatusCode::Unavailable)
+        }
         WireFault::Unread(FrameError::ReadFault) => refusal(alloc, GrpcStatusCode::Unavailable),
         WireFault::Unread(FrameError::BadFrame | FrameError::TooLong) => {
             refusal(alloc, GrpcStatusCode::Internal)
@@ -70,7 +76,8 @@ fn result_of<T: Drop>(
 
 /// The count of refusals after a call.
 fn refusals_after<T>(refused: u64, outcome: &Result<T, LinkFault>) -> u64
-    ensures { HasLinkCause refused result outcome.now }
+    ensures cause { HasLinkCause refused result outcome.now }
+    ensures counts { result ≡ links.refusals_after outcome.now refused }
 {
     match outcome {
         Ok(_) | Err(LinkFault::OutOfMemory) => refused,
@@ -85,6 +92,7 @@ impl<S: Source, K: Sink> WireLink<S, K> {
         ensures sink { result.sink ≡ sink }
         ensures asked { result.asked ≡ None }
         ensures refused { result.refused ≡ 0 }
+        ensures place { result.has_lost_place ≡ false }
     {
         WireLink {
             alloc,
@@ -93,6 +101,7 @@ impl<S: Source, K: Sink> WireLink<S, K> {
             payload: Payload::new(alloc),
             asked: None,
             refused: 0,
+            has_lost_place: false,
         }
     }
 
@@ -102,7 +111,7 @@ impl<S: Source, K: Sink> WireLink<S, K> {
         &self.sink
     }
 
-    /// Puts a request and reads its answer.
+    /// Puts a request and reads its answer, where the link knows its place.
     fn ask(&mut self, headers: &Headers, request: &Request) -> Result<Started, WireFault>
         ensures asked { StartAsked (is_some self.old.asked) headers.now request.now
             (record {
@@ -116,7 +125,8 @@ impl<S: Source, K: Sink> WireLink<S, K> {
               reads_failed = S.failures self.new.source;
               puts_failed = K.failures self.new.sink;
             }) result }
-        ensures kind { IfOk result (λ _. self.new.asked ≡ Some (answered_by request.now)) }
+        ensures kind { self.new.asked
+            ≡ asked_after result self.old.asked (answered_by request.now) }
         ensures refused { self.new.refused ≡ self.old.refused }
     {
         let Some(frame) = request_frame(self.alloc, headers.entries(), request)? else {
@@ -132,6 +142,45 @@ impl<S: Source, K: Sink> WireLink<S, K> {
             Ok(answer) => Ok(answer),
             Err(e) => Err(WireFault::Unread(e)),
         }
+    }
+
+    /// Asks, unless the link has lost its place.
+    fn ask_in_place(&mut self, headers: &Headers, request: &Request) -> Result<Started, WireFault>
+        ensures asked { Placed self.old.has_lost_place
+            (record {
+              left = S.left self.old.source;
+              held = K.held self.old.sink;
+              reads_failed = S.failures self.old.source;
+              puts_failed = K.failures self.old.sink;
+            }) (record {
+              left = S.left self.new.source;
+              held = K.held self.new.sink;
+              reads_failed = S.failures self.new.source;
+              puts_failed = K.failures self.new.sink;
+            }) result
+            (StartAsked (is_some self.old.asked) headers.now request.now
+            (record {
+              left = S.left self.old.source;
+              held = K.held self.old.sink;
+              reads_failed = S.failures self.old.source;
+              puts_failed = K.failures self.old.sink;
+            }) (record {
+              left = S.left self.new.source;
+              held = K.held self.new.sink;
+              reads_failed = S.failures self.new.source;
+              puts_failed = K.failures self.new.sink;
+            }) result) }
+        ensures kind { self.new.asked
+            ≡ asked_after result self.old.asked (answered_by request.now) }
+        ensures refused { self.new.refused ≡ self.old.refused }
+        ensures place { self.new.has_lost_place ≡ spec.loses_place result }
+    {
+        if self.has_lost_place {
+            return Err(WireFault::LostPlace);
+        }
+        let answer = self.ask(headers, request);
+        self.has_lost_place = loses_place(&answer);
+        answer
     }
 
     /// Reads the next answer in the stream. Before the first start none is allowed.
@@ -160,6 +209,49 @@ impl<S: Source, K: Sink> WireLink<S, K> {
             }
         }
     }
+
+    /// Reads the next answer, unless the link has lost its place.
+    fn read_in_place(&mut self) -> Result<Streamed, WireFault>
+        ensures read { Placed self.old.has_lost_place
+            (record {
+              left = S.left self.old.source;
+              held = K.held self.old.sink;
+              reads_failed = S.failures self.old.source;
+              puts_failed = K.failures self.old.sink;
+            }) (record {
+              left = S.left self.new.source;
+              held = K.held self.new.sink;
+              reads_failed = S.failures self.new.source;
+              puts_failed = K.failures self.new.sink;
+            }) result
+            (NextRead self.old.asked
+            (record {
+              left = S.left self.old.source;
+              held = K.held self.old.sink;
+              reads_failed = S.failures self.old.source;
+              puts_failed = K.failures self.old.sink;
+            }) (record {
+              left = S.left self.new.source;
+              held = K.held self.new.sink;
+              reads_failed = S.failures self.new.source;
+              puts_failed = K.failures self.new.sink;
+            }) result) }
+        ensures kind { IfOk result
+            (λ a. IfOk a (λ o. IfSome o (λ r. self.old.asked ≡ Some (kind_of r)))) }
+        ensures asked { self.new.asked ≡ self.old.asked }
+        ensures refused { self.new.refused ≡ self.old.refused }
+        ensures place { self.new.has_lost_place ≡ spec.loses_place result }
+    {
+        if self.has_lost_place {
+            return Err(WireFault::LostPlace);
+        }
+        let answer = match self.read_next() {
+            Ok(answer) => Ok(answer),
+            Err(e) => Err(WireFault::Unread(e)),
+        };
+        self.has_lost_place = loses_place(&answer);
+        answer
+    }
 }
 
 impl<S: Source, K: Sink> Link for WireLink<S, K> {
@@ -177,43 +269,60 @@ impl<S: Source, K: Sink> Link for WireLink<S, K> {
     ghost start_gives = { λ old start result new.
         IsStarted (is_some old.asked) start.headers start.request
         (record {
-          left = S.left old.source;
-          held = K.held old.sink;
-          reads_failed = S.failures old.source;
-          puts_failed = K.failures old.sink;
+          ports = record {
+            left = S.left old.source;
+            held = K.held old.sink;
+            reads_failed = S.failures old.source;
+            puts_failed = K.failures old.sink;
+          };
+          asked = old.asked;
+          refused = old.refused;
+          lost = old.has_lost_place;
         }) (record {
-          left = S.left new.source;
-          held = K.held new.sink;
-          reads_failed = S.failures new.source;
-          puts_failed = K.failures new.sink;
+          ports = record {
+            left = S.left new.source;
+            held = K.held new.sink;
+            reads_failed = S.failures new.source;
+            puts_failed = K.failures new.sink;
+          };
+          asked = new.asked;
+          refused = new.refused;
+          lost = new.has_lost_place;
         }) result };
 
     ghost next_gives = { λ old result new.
-        IsNextResponse old.asked
+        IsNextResponse
         (record {
-          left = S.left old.source;
-          held = K.held old.sink;
-          reads_failed = S.failures old.source;
-          puts_failed = K.failures old.sink;
+          ports = record {
+            left = S.left old.source;
+            held = K.held old.sink;
+            reads_failed = S.failures old.source;
+            puts_failed = K.failures old.sink;
+          };
+          asked = old.asked;
+          refused = old.refused;
+          lost = old.has_lost_place;
         }) (record {
-          left = S.left new.source;
-          held = K.held new.sink;
-          reads_failed = S.failures new.source;
-          puts_failed = K.failures new.sink;
+          ports = record {
+            left = S.left new.source;
+            held = K.held new.sink;
+            reads_failed = S.failures new.source;
+            puts_failed = K.failures new.sink;
+          };
+          asked = new.asked;
+          refused = new.refused;
+          lost = new.has_lost_place;
         }) result };
 
     fn start(&mut self, headers: &Headers, request: &Request) -> Result<(), LinkFault> {
-        let asked = self.ask(headers, request);
+        let asked = self.ask_in_place(headers, request);
         let outcome = result_of(self.alloc, asked);
         self.refused = refusals_after(self.refused, &outcome);
         outcome
     }
 
     fn next(&mut self) -> Result<Option<Response>, LinkFault> {
-        let answer = match self.read_next() {
-            Ok(answer) => Ok(answer),
-            Err(e) => Err(WireFault::Unread(e)),
-        };
+        let answer = self.read_in_place();
         let outcome = result_of(self.alloc, answer);
         self.refused = refusals_after(self.refused, &outcome);
         outcome

@@ -3,6 +3,7 @@
 ghost use Rattle.std.specs.Prelude.{◌≡◌};
 ghost use Rattle.spf_program.specs.Reports as spec;
 
+use spf_io::OutOfMemory;
 use std::alloc::{AllocError, AllocFailed};
 use std::rt::Env;
 use std::{env, io};
@@ -24,6 +25,17 @@ impl From<AllocError> for ArgumentsError {
     ghost from_gives = { λ _ e. e ≡ errors.OutOfMemory };
 
     fn from(_e: AllocError) -> ArgumentsError {
+        ArgumentsError::OutOfMemory
+    }
+}
+
+impl From<OutOfMemory> for ArgumentsError {
+    ghost use Rattle.std.specs.Prelude.{◌≡◌};
+    ghost use Rattle.spf_program.specs.declared.arguments.ArgumentsError.TheVariants as errors;
+
+    ghost from_gives = { λ _ e. e ≡ errors.OutOfMemory };
+
+    fn from(_e: OutOfMemory) -> ArgumentsError {
         ArgumentsError::OutOfMemory
     }
 }

@@ -10,6 +10,7 @@ mod follow_failure;
 mod live;
 mod number;
 mod pairs;
+mod streams;
 mod value;
 
 pub use about::put_about;
@@ -19,6 +20,7 @@ pub use follow_failure::{follow_message, follow_number, follow_status};
 pub use live::{LiveOptions, live_options};
 pub use number::{MAX_NUMBER, moment, number_up_to};
 pub use pairs::{are_pairs, value_of};
+pub use streams::{FlushingReader, SharedOutput, SharedWriter};
 pub use value::{
     count_option, limit_option, moment_option, number_option, ready_option, seconds_option,
     text_option,

@@ -59,6 +59,8 @@ pub fn proto_watch<S: Source, K: Sink, E: Sink>(
 ) -> u8
     // Status 1 comes exactly where the arguments are not those of the program.
     ensures arguments { (result ≡ 1) ↔ (start_in (map string_bytes arguments.now) ≡ None) }
+    ensures untouched { start_in (map string_bytes arguments.now) ≡ None
+        → (source.new ≡ source.old) × (out.new ≡ out.old) }
     // The body is followed, and the status and the line on `errors` say how it ended.
     ensures runs { let before : Streams =
         record {

@@ -5,15 +5,13 @@
 mod help;
 
 use help::{HELP, VERSION};
-use spf_io::{Sink, StdSink, StdSource};
-use spf_program::{ArgumentsError, program_arguments, put_about, report};
+use spf_io::{MemSink, OutOfMemory, Sink, StdSink};
+use spf_program::{ArgumentsError, SharedOutput, program_arguments, put_about, report};
 use spf_proto::proto_watch;
-use std::alloc::Global;
-use std::io::BufReader;
 use std::process::ExitCode;
 
-/// How many bytes of standard input are read at once.
-const INPUT_BUFFER: usize = 1 << 16;
+/// The maximum length of a line of `proto_watch` on standard error.
+const ERROR_LINE: usize = 1 << 8;
 
 /// The status where standard output fails.
 const WRITE_FAILED: u8 = 4;
@@ -36,27 +34,44 @@ fn main(rt: HostRuntime) -> ExitCode {
 /// streams. It returns the exit status.
 fn run<E: Sink>(rt: &HostRuntime, errors: &mut E) -> Result<u8, ArgumentsError> {
     let arguments = program_arguments(rt)?;
-    let mut out = StdSink::new(rt.stdout());
-    if let [argument] = arguments.as_slice() {
-        match argument.as_str() {
-            "--help" => return Ok(put_text(&mut out, errors, HELP)),
-            "--version" => return Ok(put_text(&mut out, errors, VERSION)),
-            _ => {}
-        }
+    match arguments.as_slice() {
+        [argument] if argument.as_str() == "--help" => Ok(put_text(rt, errors, HELP)),
+        [argument] if argument.as_str() == "--version" => Ok(put_text(rt, errors, VERSION)),
+        _ => Ok(follow(rt, arguments.as_slice(), errors)?),
     }
-    let Ok(input) = BufReader::with_capacity(rt.alloc(), INPUT_BUFFER, rt.stdin()) else {
-        return Err(ArgumentsError::OutOfMemory);
-    };
-    let mut source = StdSource::new(input);
-    Ok(proto_watch(
-        rt.alloc(),
-        arguments.as_slice(),
-        &mut source,
-        &mut out,
-        errors,
-    ))
 }
 
-fn put_text<K: Sink, E: Sink>(out: &mut K, errors: &mut E, text: &str) -> u8 {
-    put_about(out, errors, text, WRITE_FAILED, NOT_WRITTEN)
+/// Calls `proto_watch`. Its line on standard error comes after its whole output, or is the one of a
+/// failed write.
+fn follow<E: Sink>(
+    rt: &HostRuntime,
+    arguments: &[String],
+    errors: &mut E,
+) -> Result<u8, OutOfMemory> {
+    let output = SharedOutput::new(rt.alloc(), rt.stdout())?;
+    let mut source = output.source(rt.alloc(), rt.stdin())?;
+    let mut line = MemSink::new(rt.alloc(), ERROR_LINE, Vec::new(rt.alloc()))?;
+    let status = proto_watch(
+        rt.alloc(),
+        arguments,
+        &mut source,
+        &mut output.sink(),
+        &mut line,
+    );
+    if !output.flush() {
+        let _ = errors.put(NOT_WRITTEN.as_bytes());
+        return Ok(WRITE_FAILED);
+    }
+    let _ = errors.put(line.bytes());
+    Ok(status)
+}
+
+fn put_text<E: Sink>(rt: &HostRuntime, errors: &mut E, text: &str) -> u8 {
+    put_about(
+        &mut StdSink::new(rt.stdout()),
+        errors,
+        text,
+        WRITE_FAILED,
+        NOT_WRITTEN,
+    )
 }

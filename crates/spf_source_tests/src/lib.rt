@@ -6,8 +6,6 @@ mod build;
 #[cfg(test)]
 mod building;
 #[cfg(test)]
-mod gate;
-#[cfg(test)]
 mod gate_late;
 #[cfg(test)]
 mod gate_serve;

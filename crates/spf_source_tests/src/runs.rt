@@ -1,7 +1,6 @@
-//! Live runs, of the gate's too, over doubles and over an agent on a socket, and their options.
+//! Live runs, of the gate's too, that get no supervisor or no place. All other runs are rows of
+//! tests/rows.
 
 mod doubles;
 mod gate_live;
 mod live;
-mod options;
-mod two_lines;

@@ -3,7 +3,7 @@
 use spf_disk::{Disk, Generation, HelperFile, MemDisk, OpenError, read_generation};
 use spf_feed::{NoPicker, NoRecorder, Ready, ResourceLimits, follow_x509};
 use spf_fixtures::octets;
-use spf_helper::{HelperPublisher, helper_follow, helper_watch};
+use spf_helper::{HelperPublisher, helper_follow};
 use spf_io::{MemSink, MemSource};
 use std::alloc::Global;
 use std::test::Fail;
@@ -83,30 +83,11 @@ fn damaged(alloc: Global) -> MemDisk {
     disk
 }
 
-/// The status and the error output of the program over a damaged disk.
-fn damage_is_reported(alloc: Global) -> Result<bool, Fail> {
-    let mut source = source_of(alloc, "")?;
-    let mut out = MemSink::new(alloc, 16, Vec::new(alloc))?;
-    let mut errors = MemSink::new(alloc, 64, Vec::new(alloc))?;
-    let arguments = [String::from_str(alloc, ".")?];
-    let mut disk = damaged(alloc);
-    let status = helper_watch(
-        alloc,
-        arguments.as_slice(),
-        &mut source,
-        &mut disk,
-        &mut out,
-        &mut errors,
-    );
-    Ok(status == 22 && errors.bytes() == b"spf_helper: damaged\n".as_slice())
-}
-
 #[test]
 fn an_open_gate_before_no_entry_is_a_damage(rt: HostRuntime) -> Result<(), Fail> {
     let alloc = rt.alloc();
     let found = read_generation(alloc, &mut damaged(alloc));
     assert!(rt; matches!(found, Err(OpenError::Damaged)));
-    assert!(rt; damage_is_reported(alloc)?);
     Ok(())
 }
 

@@ -13,6 +13,8 @@ mod jwt;
 #[cfg(test)]
 mod proto;
 #[cfg(test)]
+mod secrets;
+#[cfg(test)]
 mod uses;
 #[cfg(test)]
 mod watch;

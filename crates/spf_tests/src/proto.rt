@@ -1,7 +1,6 @@
 //! Messages of the Workload API in Protocol Buffers, and bodies of gRPC responses.
 
 mod bodies;
-mod watching;
 
 use spf_api::{ContextView, read_context_view};
 use spf_fixtures::octets;

@@ -1,6 +1,4 @@
-//! Runs of `watch`: whole ones, failing reads and writes, generated sessions.
+//! Runs of `watch` whose reads and writes fail.
 
 mod failing;
-mod made_session;
-mod rows;
 mod running;

@@ -5,15 +5,13 @@
 mod help;
 
 use help::{HELP, VERSION};
-use spf_io::{Sink, StdSink, StdSource};
-use spf_program::program_arguments;
+use spf_io::{MemSink, Sink, StdSink};
+use spf_program::{SharedOutput, program_arguments};
 use spf_watch::{ExitReason, put, report, watch};
-use std::alloc::Global;
-use std::io::BufReader;
 use std::process::ExitCode;
 
-/// How many bytes of standard input are read at once.
-const INPUT_BUFFER: usize = 1 << 14;
+/// The maximum length of a line of `watch` on standard error.
+const ERROR_LINE: usize = 1 << 8;
 
 fn main(rt: HostRuntime) -> ExitCode {
     let mut errors = StdSink::new(rt.stderr());
@@ -27,26 +25,38 @@ fn main(rt: HostRuntime) -> ExitCode {
 /// status. `--help` and `--version`, alone, are answered here.
 fn run<E: Sink>(rt: &HostRuntime, errors: &mut E) -> Result<u8, ExitReason> {
     let arguments = program_arguments(rt)?;
-    let mut out = StdSink::new(rt.stdout());
-    if let [argument] = arguments.as_slice() {
-        match argument.as_str() {
-            "--help" => return put_text(&mut out, HELP),
-            "--version" => return put_text(&mut out, VERSION),
-            _ => {}
-        }
+    match arguments.as_slice() {
+        [argument] if argument.as_str() == "--help" => put_text(rt, HELP),
+        [argument] if argument.as_str() == "--version" => put_text(rt, VERSION),
+        _ => follow(rt, arguments.as_slice(), errors),
     }
-    let input = BufReader::with_capacity(rt.alloc(), INPUT_BUFFER, rt.stdin());
-    let mut source = StdSource::new(input.map_err(|_| ExitReason::OutOfMemory)?);
-    Ok(watch(
-        rt.alloc(),
-        arguments.as_slice(),
-        &mut source,
-        &mut out,
-        errors,
-    ))
 }
 
-fn put_text<K: Sink>(out: &mut K, text: &str) -> Result<u8, ExitReason> {
-    put(out, text.as_bytes())?;
+/// Calls `watch`. Its line on standard error comes after its whole output, or is the one of a
+/// failed write.
+fn follow<E: Sink>(
+    rt: &HostRuntime,
+    arguments: &[String],
+    errors: &mut E,
+) -> Result<u8, ExitReason> {
+    let output = SharedOutput::new(rt.alloc(), rt.stdout())?;
+    let mut source = output.source(rt.alloc(), rt.stdin())?;
+    let mut line = MemSink::new(rt.alloc(), ERROR_LINE, Vec::new(rt.alloc()))?;
+    let status = watch(
+        rt.alloc(),
+        arguments,
+        &mut source,
+        &mut output.sink(),
+        &mut line,
+    );
+    if !output.flush() {
+        return Err(ExitReason::WriteFailed);
+    }
+    let _ = errors.put(line.bytes());
+    Ok(status)
+}
+
+fn put_text(rt: &HostRuntime, text: &str) -> Result<u8, ExitReason> {
+    put(&mut StdSink::new(rt.stdout()), text.as_bytes())?;
     Ok(0)
 }

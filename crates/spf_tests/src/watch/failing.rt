@@ -1,6 +1,5 @@
 //! Reads and puts that fail.
 
-use crate::watch::rows::ROWS;
 use crate::watch::running::{run, slow_source, source_of};
 use spf_fixtures::{octets, written_out};
 use spf_io::MemSource;
@@ -8,6 +7,13 @@ use std::alloc::Global;
 use std::mem::drop;
 use std::process::Abort;
 use std::test::Fail;
+
+/// The frames of the row first-session.
+const FRAMES: &str = "M999 CM CN I1F CL";
+
+/// Its lines.
+const LINES: &str = "1 waiting\n2 waiting\n3 waiting\n4 0 permitted P1 other.org=ROOT2\n\
+                     5 0 permitted P1 other.org=ROOT2\n";
 
 /// What follows the frame at the start of `octets`, where that is whole.
 fn after_frame(octets: &[u8]) -> Option<&[u8]> {
@@ -68,12 +74,11 @@ fn ends_at_read(
     taken: usize,
     end: End,
 ) -> Result<bool, Fail> {
-    let (_, arguments, frames, _, _, _) = ROWS[0];
-    let session = octets(rt.alloc(), frames)?;
+    let session = octets(rt.alloc(), FRAMES)?;
     let count = whole_frames(front(session.as_slice(), taken));
     let ran = run(
         rt,
-        arguments,
+        "x509",
         slow_source(rt, session, &[(taken as u64).saturating_add(1)]),
         &[],
     );
@@ -84,7 +89,7 @@ fn ends_at_read(
 
 /// How many octets the row first-session has.
 fn first_length(alloc: Global) -> Result<usize, Fail> {
-    let session = octets(alloc, ROWS[0].2)?;
+    let session = octets(alloc, FRAMES)?;
     Ok(session.len())
 }
 
@@ -92,7 +97,7 @@ fn first_length(alloc: Global) -> Result<usize, Fail> {
 /// frames that were whole are there. A read after the last one is not reached.
 #[test]
 fn failing_reads(rt: HostRuntime) -> Result<(), Fail> {
-    let lines = written_out(rt.alloc(), ROWS[0].3)?;
+    let lines = written_out(rt.alloc(), LINES)?;
     let length = first_length(rt.alloc())?;
     for taken in 0..length {
         assert!(rt;
@@ -112,9 +117,8 @@ fn ends_at_put(
     put: usize,
     end: End,
 ) -> Result<bool, Fail> {
-    let (_, arguments, frames, _, _, _) = ROWS[0];
-    let source = source_of(rt.alloc(), octets(rt.alloc(), frames)?);
-    let ran = run(rt, arguments, source, &[(put as u64).saturating_add(1)]);
+    let source = source_of(rt.alloc(), octets(rt.alloc(), FRAMES)?);
+    let ran = run(rt, "x509", source, &[(put as u64).saturating_add(1)]);
     let ends = ran.is(first_lines(lines, put), end.0, end.1);
     drop(ran);
     Ok(ends)
@@ -124,7 +128,7 @@ fn ends_at_put(
 /// failing-io. The lines before it are there. A put after the last one is not reached.
 #[test]
 fn failing_puts(rt: HostRuntime) -> Result<(), Fail> {
-    let lines = written_out(rt.alloc(), ROWS[0].3)?;
+    let lines = written_out(rt.alloc(), LINES)?;
     for put in 0..5 {
         assert!(rt;
             ends_at_put(&rt, lines.as_str(), put, WRITE_FAILED)?,
@@ -138,10 +142,10 @@ fn failing_puts(rt: HostRuntime) -> Result<(), Fail> {
 /// The row failing-io: the first read of the row first-session gives one octet, the second fails.
 #[test]
 fn failing_second_read(rt: HostRuntime) -> Result<(), Fail> {
-    let session = octets(rt.alloc(), ROWS[0].2)?;
+    let session = octets(rt.alloc(), FRAMES)?;
     let failing = Vec::from_slice(rt.alloc(), &[2]).expect(&rt, "memory");
     let source = MemSource::new(session, Vec::new(rt.alloc()), failing);
-    let ran = run(&rt, ROWS[0].1, source, &[]);
+    let ran = run(&rt, "x509", source, &[]);
     assert!(rt; ran.is("", READ_FAILED.0, READ_FAILED.1));
     drop(ran);
     Ok(())

@@ -3,7 +3,6 @@ use Rattle.std.specs.Prelude.{string_bytes}
 use Rattle.std.specs.Io.KnownBytes.{prepend_known}
 use Rattle.spf_gate.specs.Serving.{AnswersAsk, AnswersPart}
 use Rattle.spf_gate.proofs.PolicyLemmas.{nearer}
-use Rattle.spf_board.proofs.Prefixes.{begins_self}
 use Rattle.spf_gate.proofs.CutLemmas.{cut_between, cut_in_ask}
 use Rattle.spf_gate.proofs.ServeLemmas.{asked_until, asking_more, asking_none, retake}
 use Rattle.spf_gate.proofs.ServeLemmas.{sees_more, sees_same}
@@ -19,7 +18,7 @@ returns-in-Err-clause-serves g c = λ uncut.
     (c.loop-is_line.lines.number + 1) mid new (string_bytes c.take_line.new.text) (Err c.in-Err.e)
     c.loop-is_line.invariant.1 c.in-Err.ensures.takes in
     asked_until c.args.lines.now.max (c.args.lines.now.number + 1) _ mid new c.args.rules.now _
-    c.loop-is_line.pass.seen _ (g.K.Sink.held c.loop-is_line.out) c.loop-is_line.lines.number
+    c.loop-is_line.pass _ (g.K.Sink.held c.loop-is_line.out) c.loop-is_line.lines.number
     (string_bytes c.take_line.new.text) c.in-Err.e uncut c.loop-is_line.invariant.0 takes
 
 pub returns-in-Err-clause-cut : goal.returns-in-Err-clause-cut
@@ -27,9 +26,9 @@ returns-in-Err-clause-cut g c = λ is.
     let mid = prepend_known c.loop-is_line.lines.octets.items (g.S.Source.left c.loop-is_line.input)
     in
     cut_between c.args.lines.now.max (c.args.lines.now.number + 1) _ mid c.args.rules.now _
-    c.loop-is_line.pass.seen c.loop-is_line.pass.seen _ (g.K.Sink.held c.loop-is_line.out)
+    c.loop-is_line.pass c.loop-is_line.pass _ (g.K.Sink.held c.loop-is_line.out)
     c.loop-is_line.lines.number c.in-Err.e c.loop-is_line.invariant.0
-    (begins_self c.loop-is_line.pass.seen)
+    (sees_same c.loop-is_line.pass)
 
 pub returns-in-Err-answer_ask-clause-cut : goal.returns-in-Err-answer_ask-clause-cut
 returns-in-Err-answer_ask-clause-cut g c = λ is.
@@ -46,9 +45,10 @@ returns-in-Err-answer_ask-clause-cut g c = λ is.
     (g.K.Sink.held c.loop-is_line.out) (g.K.Sink.held c.answer_ask.new.out) c.in-Err-answer_ask.e)
     c.as_str.ensures.value c.in-Err-answer_ask.ensures.part in
     cut_in_ask c.args.lines.now.max (c.args.lines.now.number + 1) _ mid new c.args.rules.now _
-    c.loop-is_line.pass.seen c.answer_ask.new.pass.seen _ (g.K.Sink.held c.loop-is_line.out)
+    c.loop-is_line.pass c.answer_ask.new.pass _ (g.K.Sink.held c.loop-is_line.out)
     (g.K.Sink.held c.answer_ask.new.out) c.loop-is_line.lines.number text c.in-Ok.is_line
-    c.in-Err-answer_ask.e so.0 takes (search rules) c.in-Err-answer_ask.ensures.pass.seen part
+    c.in-Err-answer_ask.e so.0 takes (search rules) c.in-Err-answer_ask.ensures.pass
+    c.in-Err-answer_ask.ensures.reads part
 
 pub loop-is_line-init : goal.loop-is_line-init
 loop-is_line-init g c = (
@@ -80,10 +80,10 @@ loop-is_line-preserved g c =
     (g.K.Sink.held c.loop-is_line.out) (g.K.Sink.held c.answer_ask.new.out))
     c.as_str.ensures.value c.in-Ok-answer_ask.ensures.answers in (
       asking_more c.args.lines.now.max (c.args.lines.now.number + 1) _ mid new c.args.rules.now _
-          c.loop-is_line.pass.seen c.answer_ask.new.pass.seen _ (g.K.Sink.held c.loop-is_line.out)
+          c.loop-is_line.pass c.answer_ask.new.pass _ (g.K.Sink.held c.loop-is_line.out)
           (g.K.Sink.held c.answer_ask.new.out) c.loop-is_line.lines.number
           c.take_line.new.self.number text c.in-Ok.is_line so.0 takes (search rules)
-          c.in-Ok.ensures.number c.in-Ok-answer_ask.ensures.pass.seen answers,
+          c.in-Ok.ensures.number c.in-Ok-answer_ask.ensures.reads answers,
       c.in-Ok.ensures.max ∙ so.1,
       sees_more _ c.loop-is_line.pass _ so.2 c.in-Ok-answer_ask.ensures.pass,
       omega (arith, so.3, c.in-Ok.ensures.cause.later),

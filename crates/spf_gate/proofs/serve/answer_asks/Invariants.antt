@@ -8,8 +8,8 @@ abbrev pub invariant-loop-is_line : goal.invariant-loop-is_line
 invariant-loop-is_line g l =
     Asking l.initial.lines.max (l.initial.lines.number + 1)
     (prepend_known l.initial.lines.octets.items (g.S.Source.left l.initial.input))
-    (prepend_known l.lines.octets.items (g.S.Source.left l.input)) l.rules l.initial.pass.seen
-    l.pass.seen (g.K.Sink.held l.initial.out) (g.K.Sink.held l.out) l.lines.number
+    (prepend_known l.lines.octets.items (g.S.Source.left l.input)) l.rules l.initial.pass
+    l.pass (g.K.Sink.held l.initial.out) (g.K.Sink.held l.out) l.lines.number
     × (l.lines.max ≡ l.initial.lines.max)
     × SeesNoLess l.initial.pass l.pass
     × (g.S.Source.failures l.initial.input ≤ g.S.Source.failures l.input)

@@ -1,7 +1,6 @@
 use Rattle.std.proofs.Common.{ap, arith, Err}
 use Rattle.std.specs.Io.KnownBytes.{prepend_known}
 use Rattle.spf_gate.specs.declared.gate_error.GateError.{GateError}
-use Rattle.spf_board.proofs.Prefixes.{begins_self}
 use Rattle.spf_gate.proofs.CutLemmas.{cut_after, cut_at_first}
 use Rattle.spf_gate.proofs.ServeLemmas.{refused_policy, retyped, served}
 use Rattle.spf_gate.proofs.serve.gate_serve.Goals as goal
@@ -15,7 +14,7 @@ returns-in-Err-clause-serves g c = λ uncut.
 
 pub returns-in-Err-clause-cut : goal.returns-in-Err-clause-cut
 returns-in-Err-clause-cut g c = λ is.
-    cut_at_first _ _ _ _ _ c.in-Err.e (begins_self c.args.pass.now.seen)
+    cut_at_first _ _ _ _ c.in-Err.e
 
 pub returns-in-Err-clause-cause : goal.returns-in-Err-clause-cause
 returns-in-Err-clause-cause g c = record {

@@ -17,10 +17,11 @@ returns-in-Ok-start g c =
     record {
       arguments = not_nine _ _ (nine_of_end _ c.gate_serve-served.result c.is_ok-is_recorded.result
           c.end_of.result c.end_of.ensures end.status) none;
+      untouched = λ some. absurd (some none);
       ended = record {
         end = c.end_of.result;
         runs = answered _ _ set c.args.connector c.new-builder.result.connector _ _ c.in-Ok.job
-            c.started.result.job _ _ _ _ c.in-Ok.pass.seen c.gate_serve-served.new.pass.seen
+            c.started.result.job _ _ _ _ c.in-Ok.pass c.gate_serve-served.new.pass
             c.into_record-record.new.pass.seen c.gate_serve-served.result
             c.close_and_join-done.result c.into_record-record.result
             c.is_ok-is_recorded.result c.end_of.result
@@ -43,6 +44,7 @@ returns-in-Err-start g c =
     let end = c.report-in-Err-start.ensures in
     record {
       arguments = not_nine _ _ (nine_of_refusal _ end.status) none;
+      untouched = λ some. absurd (some none);
       ended = record {
         end = Err errors.NoSupervisor;
         runs = (refl, refl);
@@ -61,6 +63,7 @@ returns-in-Err g c =
     record {
       arguments = not_nine _ _ (nine_of_error _ c.in-Err.error c.error_of.result c.error_of.ensures
           end.status) none;
+      untouched = λ some. absurd (some none);
       ended = record {
         end = Err c.error_of.result;
         runs = unbuilt {K = NoPicker} (g.C.Connector.members c.args.connector)

@@ -10,6 +10,7 @@ returns g c =
     record {
       arguments = not_nine _ _ (nine_of_other _ c.serve_on_threads-end.result served.arguments
           end.status) none;
+      untouched = λ some. absurd (some none);
       ended = record {
         end = c.serve_on_threads-end.result;
         runs = served.runs;

@@ -18,7 +18,7 @@ returns-in-Ok-start_on_thread g c =
       runs = unyielded _ _ _ _ _ _ c.end_of.result
           (answered _ _ set c.optional_picker-builder.result.connector
           c.optional_picker-builder.result.connector _ _ c.in-Ok.job
-          c.started.result.job _ _ _ _ c.in-Ok.pass.seen c.gate_serve-served.new.pass.seen
+          c.started.result.job _ _ _ _ c.in-Ok.pass c.gate_serve-served.new.pass
           c.into_record-record.new.pass.seen c.gate_serve-served.result
           c.close_and_join-done.result c.into_record-record.result
           c.is_ok-is_recorded.result c.end_of.result

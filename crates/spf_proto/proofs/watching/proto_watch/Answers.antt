@@ -35,3 +35,7 @@ returns-in-Some-clause-complete g c =
     completes_of _ _ c.in-Some.start _ _ _ _ c.follow-end.result c.report.result
     (sym c.in-Some.is ∙ c.start_of.ensures.value) same c.follow-end.ensures.follows
     c.report.ensures.status
+
+pub returns-in-Some-clause-untouched : goal.returns-in-Some-clause-untouched
+returns-in-Some-clause-untouched g c = λ none.
+    let both = sym c.in-Some.is ∙ c.start_of.ensures.value ∙ none in absurd (cc)

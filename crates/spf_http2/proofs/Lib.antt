@@ -1,0 +1,5 @@
+pub mod HeaderLemmas
+pub mod Parts
+pub mod SettingLemmas
+pub mod KnownLemmas
+pub mod CutLemmas

@@ -1,0 +1,5 @@
+pub mod Frames
+pub mod Reading
+pub mod Contents
+pub mod Settings
+pub mod Windows
