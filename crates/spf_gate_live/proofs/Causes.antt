@@ -1,6 +1,6 @@
 -- Why runs fail, from the causes of their parts.
 use Rattle.std.proofs.Common.{◌≡◌, refl, sym, subst, ℕ, Bool, true, false, List, [], Option}
-use Rattle.std.proofs.Common.{Result, Ok, Err}
+use Rattle.std.proofs.Common.{None, Result, Ok, Err}
 use Rattle.std.specs.Prelude.{IfErr}
 use Rattle.spf_api.specs.declared.endpoint_error.EndpointError.{EndpointError}
 use Rattle.spf_io.specs.Outside.{Rose}
@@ -11,11 +11,11 @@ use Rattle.spf_feed.specs.declared.state.X509SourceError.TheVariants as source
 use Rattle.spf_feeder.specs.Opened.{Meeting}
 use Rattle.spiffe.specs.declared.builder.Settings.{Settings}
 use Rattle.spiffe.specs.Building.{IsDefault, PrepareFails}
+use Rattle.spiffe.specs.Passes.{PassView}
 use Rattle.spf_gate.specs.declared.gate_error.GateError.{GateError}
 use Rattle.spf_gate.specs.declared.gate_error.GateError.TheVariants as gate
 use Rattle.spf_gate.specs.Serving.{HasCauses}
 use Rattle.spf_gate.proofs.CutLemmas.{cut_at_first}
-use Rattle.spf_board.proofs.Prefixes.{begins_self}
 use Rattle.spf_gate_live.specs.Ends.{end_of, error_of}
 use Rattle.spf_gate_live.specs.Runs.{AnswersUntil, FailsBy, Runs, max_lines}
 use Rattle.spf_gate_live.specs.declared.live_error.LiveGateError.{LiveGateError}
@@ -101,13 +101,25 @@ prepare_fails members picks set valid met before now supervisor place input outp
     (λ i. (members_are i, valid_is i, sym error_is i))
     (prepared_by picks set met before now supervisor place input output e is f why)
 
+-- a pass that has read nothing
+nothing_read : PassView
+nothing_read = record {
+  book = record { number = 0; log_name = 0; cells_name = 0 };
+  seen = [];
+  entered = [];
+  missed = 0;
+  enters = 0;
+  entries = 0;
+  closed = None;
+}
+
 -- memory runs out before a source is built
 unanswered : (left held : Option (List ℕ)) → AnswersUntil left left held held gate.OutOfMemory
 unanswered left held = (
-  [],
-  [],
+  nothing_read,
+  nothing_read,
   (λ uncut. absurd (cc)),
-  λ is. cut_at_first max_lines left [] [] held gate.OutOfMemory (begins_self []),
+  λ is. cut_at_first max_lines left nothing_read held gate.OutOfMemory,
 )
 
 unbuilt_so : {K : Type 0} (members : Option (List Member)) (picks : K → List Svid → Option ℕ)
