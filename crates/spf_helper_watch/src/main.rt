@@ -7,13 +7,14 @@ mod help;
 use help::{HELP, VERSION};
 use spf_disk::{FolderDisk, FolderFault};
 use spf_helper::helper_watch;
-use spf_io::{MemSink, OutOfMemory, Sink, StdSink};
-use spf_program::{ArgumentsError, SharedOutput, program_arguments, put_about, report};
+use spf_io::{Sink, StdSink, StdSource};
+use spf_program::{ArgumentsError, program_arguments, put_about, report};
 use std::alloc::Global;
+use std::io::BufReader;
 use std::process::ExitCode;
 
-/// The maximum length of a line of `helper_watch` on standard error.
-const ERROR_LINE: usize = 1 << 8;
+/// How many bytes of standard input are read at once.
+const INPUT_BUFFER: usize = 1 << 16;
 
 /// The status where standard output fails.
 const WRITE_FAILED: u8 = 4;
@@ -42,9 +43,9 @@ fn run<E: Sink>(rt: &HostRuntime, errors: &mut E) -> Result<u8, ArgumentsError> 
     match arguments.as_slice() {
         [argument] if argument.as_str() == "--help" => Ok(put_text(rt, errors, HELP)),
         [argument] if argument.as_str() == "--version" => Ok(put_text(rt, errors, VERSION)),
-        [folder] => Ok(follow(rt, folder.as_str(), arguments.as_slice(), errors)?),
+        [folder] => follow(rt, folder.as_str(), arguments.as_slice(), errors),
         // Without a folder no file is opened, and the arguments are refused.
-        _ => Ok(follow(rt, "", arguments.as_slice(), errors)?),
+        _ => follow(rt, "", arguments.as_slice(), errors),
     }
 }
 
@@ -58,31 +59,28 @@ fn put_text<E: Sink>(rt: &HostRuntime, errors: &mut E, text: &str) -> u8 {
     )
 }
 
-/// Follows the session on standard input. The line of `helper_watch` on standard error comes after
-/// its whole output, or is the one of a failed write. Where the disk fails, a second line says why.
+/// Follows the session on standard input. A line acknowledges what the folder holds, so it is
+/// written at once. Where the disk fails, a second line says why.
 fn follow<E: Sink>(
     rt: &HostRuntime,
     folder: &str,
     arguments: &[String],
     errors: &mut E,
-) -> Result<u8, OutOfMemory> {
-    let output = SharedOutput::new(rt.alloc(), rt.stdout())?;
-    let mut source = output.source(rt.alloc(), rt.stdin())?;
-    let mut line = MemSink::new(rt.alloc(), ERROR_LINE, Vec::new(rt.alloc()))?;
+) -> Result<u8, ArgumentsError> {
+    let mut out = StdSink::new(rt.stdout());
+    let Ok(input) = BufReader::with_capacity(rt.alloc(), INPUT_BUFFER, rt.stdin()) else {
+        return Err(ArgumentsError::OutOfMemory);
+    };
+    let mut source = StdSource::new(input);
     let mut disk = FolderDisk::open(rt, folder);
     let status = helper_watch(
         rt.alloc(),
         arguments,
         &mut source,
         &mut disk,
-        &mut output.sink(),
-        &mut line,
+        &mut out,
+        errors,
     );
-    if !output.flush() {
-        let _ = errors.put(NOT_WRITTEN.as_bytes());
-        return Ok(WRITE_FAILED);
-    }
-    let _ = errors.put(line.bytes());
     if status == DISK_FAILED {
         explain(rt.alloc(), errors, disk.fault());
     }
