@@ -1,0 +1,11 @@
+pub mod Contexts
+pub mod Entries
+pub mod Fields
+pub mod Keyed
+pub mod LastOfEach
+pub mod Lists
+pub mod NumberLemmas
+pub mod Owned
+pub mod VarintLemmas
+pub mod VarintWritten
+pub mod Written
