@@ -5,7 +5,6 @@ pub mod Keyed
 pub mod LastOfEach
 pub mod Lists
 pub mod NumberLemmas
-pub mod Owned
 pub mod VarintLemmas
 pub mod VarintWritten
 pub mod Written

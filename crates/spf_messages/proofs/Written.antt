@@ -7,11 +7,10 @@ use Rattle.std.proofs.lemmas.Bool.Decides.{nat_tests}
 use Rattle.std.proofs.lemmas.List.{append-nil}
 use Rattle.std.proofs.lemmas.List.Concat.{flat_map-cons}
 use Rattle.std.proofs.lemmas.Str.{is_utf8-from_IsUtf8}
-use Rattle.std.specs.Prelude.{nat_lt, nat_le, ◌==◌, ◌&&◌, ◌||◌, not}
+use Rattle.std.specs.Prelude.{nat_lt, ◌==◌}
 use Rattle.std.specs.List.{AllByRecursion, flat_map, list_all}
-use Rattle.std.specs.Str.{is_utf8}
 use Rattle.spf_io.specs.Option.{◌>>=◌}
-use Rattle.spf_messages.specs.Wire.{WireField, WireValue, Octets, delimited_at, field_at, field_text}
+use Rattle.spf_messages.specs.Wire.{WireField, Octets, delimited_at, field_at, field_text}
 use Rattle.spf_messages.specs.Wire.{is_tag, value_at, varint_at, varint_text}
 use Rattle.spf_messages.specs.Message.{fields_of, fields_within, values_of, last_of}
 use Rattle.spf_messages.specs.Requests.{IsRequestText, is_request_field, jwt_svid_request}

@@ -1,6 +1,6 @@
 -- ValidateJWTSVIDResponse, whose claims are a Struct of the well-known types of Protocol Buffers
 -- (google/protobuf/struct.proto).
-use Rattle.std.specs.Prelude.{ℕ, zero, suc, List, [], ◌∷◌, ◌++◌, not, ◌==◌, Option, Some, None}
+use Rattle.std.specs.Prelude.{ℕ, zero, suc, List, [], ◌∷◌, not, ◌==◌, Option, Some, None}
 use Rattle.std.specs.Prelude.{if◌then◌else◌}
 use Rattle.std.specs.List.{flat_map, list_all}
 use Rattle.std.specs.Option.{option_map}
@@ -11,7 +11,7 @@ use Rattle.spf_api.specs.declared.response.ClaimValue.{ClaimValue, Unset, Null}
 use Rattle.spf_api.specs.declared.response.ClaimValue.{Bool as Truth, Words, Items, Fields}
 use Rattle.spf_api.specs.declared.response.ValidationResponse.{ValidationResponse}
 use Rattle.spf_messages.specs.Wire.{WireField, WireValue, Varint, Eight, Octets}
-use Rattle.spf_messages.specs.Message.{fields_of, has_number, values_of, last_of, last_or}
+use Rattle.spf_messages.specs.Message.{fields_of, values_of, last_of, last_or}
 use Rattle.spf_messages.specs.Message.{is_entry_field, each, entries_in, last_of_each}
 use Rattle.spf_messages.specs.Numbers.{number_value}
 

@@ -1,6 +1,5 @@
 use Rattle.std.proofs.Common.{◌≡◌, ◌++◌, length, map, reverse}
 use Rattle.spf_messages.specs.Members.{claim_of}
-use Rattle.spf_messages.proofs.Owned.{owned_first}
 use Rattle.spf_messages.proofs.claims.owned.Given as goal
 
 abbrev pub invariant-loop-name : goal.invariant-loop-name
